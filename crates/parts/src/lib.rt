@@ -1,0 +1,75 @@
+// Parts of a lent slice, and what stands in one.
+ghost use mathlib.Core.Path.{_≡_};
+ghost use mathlib.Core.List.{[], _∷_};
+ghost use lib.ListN.{drop};
+ghost use Rattle.parts.specs.Bytes.{part as partOf, same as isSame, begins, find};
+
+// What stands from a place on.
+pub fn from(s: &[u8], at: usize) -> &[u8]
+    ensures { λ r. ⌜ now r ≡ drop at (now (s .entry)) ⌝ }
+{
+    let n = s.len();
+    if at < n { &s[at..] } else { &s[n..] }
+}
+
+// The part that starts at a place and is so long, as far as the slice reaches.
+pub fn part(s: &[u8], start: usize, len: usize) -> &[u8]
+    ensures { λ r. ⌜ now r ≡ partOf (now (s .entry)) start len ⌝ }
+{
+    let r = from(s, start);
+    if len < r.len() { &r[..len] } else { r }
+}
+
+pub fn begins_with(s: &[u8], word: &[u8]) -> bool
+    ensures { λ r. ⌜ r ≡ begins (now (word .entry)) (now (s .entry)) ⌝ }
+{
+    if s.len() < word.len() {
+        return false;
+    }
+    let mut i = 0;
+    while i < word.len() {
+        if word[i] != s[i] {
+            return false;
+        }
+        i += 1;
+    }
+    true
+}
+
+// Whether two slices hold the same bytes.
+pub fn same(a: &[u8], z: &[u8]) -> bool
+    ensures { λ r. ⌜ r ≡ isSame (now (a .entry)) (now (z .entry)) ⌝ }
+{
+    if a.len() != z.len() {
+        return false;
+    }
+    begins_with(a, z)
+}
+
+// Where a byte first stands, or the length where it does not.
+pub fn find_byte(s: &[u8], x: u8) -> usize
+    ensures { λ r. ⌜ r ≡ find (x ∷ []) (now (s .entry)) ⌝ }
+{
+    let mut i = 0;
+    while i < s.len() {
+        if s[i] == x {
+            return i;
+        }
+        i += 1;
+    }
+    i
+}
+
+// Where a byte first stands twice in a row, as in `//`, or the length where it does not.
+pub fn find_pair(s: &[u8], x: u8) -> usize
+    ensures { λ r. ⌜ r ≡ find (x ∷ x ∷ []) (now (s .entry)) ⌝ }
+{
+    let mut i = 0;
+    while i < s.len() {
+        if begins_with(from(s, i), &[x, x]) {
+            return i;
+        }
+        i += 1;
+    }
+    i
+}

@@ -1,0 +1,35 @@
+//! The oracle's commands; see the README.
+
+use std::io::{self, BufWriter, Read, Write};
+use std::process::ExitCode;
+
+use oracle::answer;
+
+const USAGE: &str = "usage: oracle print   one tape on standard input, printed as the printing program prints it
+       oracle stream  a stream of tapes to a stream of answers";
+
+fn main() -> ExitCode {
+    let mode = std::env::args().nth(1).unwrap_or_default();
+    let done = match mode.as_str() {
+        "print" => print(),
+        "stream" => answer::stream(io::stdin().lock(), BufWriter::new(io::stdout().lock())),
+        _ => {
+            eprintln!("{USAGE}");
+            return ExitCode::from(2);
+        }
+    };
+    match done {
+        Ok(()) => ExitCode::SUCCESS,
+        Err(error) => {
+            eprintln!("oracle: {error}");
+            ExitCode::FAILURE
+        }
+    }
+}
+
+/// One byte beyond the limit is enough to know that a tape is too long.
+fn print() -> io::Result<()> {
+    let mut tape = Vec::new();
+    io::stdin().lock().take(answer::PRINT_BYTES as u64 + 1).read_to_end(&mut tape)?;
+    io::stdout().lock().write_all(&answer::print(&tape))
+}
