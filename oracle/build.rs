@@ -31,6 +31,7 @@ fn apply(text: &str, diff: &str) -> String {
     let old: Vec<&str> = text.split_inclusive('\n').collect();
     let mut new = String::new();
     let mut at = 0;
+    assert!(diff.contains("\n@@ -"), "the patch has no hunk");
     for line in diff.split_inclusive('\n').skip_while(|line| !line.starts_with("@@ ")) {
         match line.as_bytes()[0] {
             b'@' => {

@@ -2,7 +2,7 @@
 
 use crate::cst::Cursor;
 use crate::marker::TapeTable;
-use crate::tape::{NodeKind, Tape};
+use crate::tape::{Node, NodeKind, Tape};
 
 /// marker.rs names its tables by version; a tape brings its own table.
 #[allow(dead_code)]
@@ -33,5 +33,14 @@ impl<'src> Document<'src> {
     /// A cursor at Root.
     pub(crate) fn cursor(&self) -> Cursor<'_> {
         Cursor::new(&self.tape, self.source, self.table.table(), 0)
+    }
+
+    pub(crate) fn nodes(&self) -> &[Node] {
+        &self.tape.nodes
+    }
+
+    /// A cursor at each node, in order.
+    pub(crate) fn cursors(&self) -> impl Iterator<Item = Cursor<'_>> {
+        (0..self.tape.nodes.len() as u32).map(|i| Cursor::new(&self.tape, self.source, self.table.table(), i))
     }
 }

@@ -24,6 +24,7 @@ pub use bytes::{memchr_iter, memrchr};
 
 pub mod answer;
 mod document;
+pub mod dump;
 pub mod generate;
 pub mod loader;
 pub mod notation;

@@ -117,7 +117,7 @@ impl<'a> Reader<'a> {
 }
 
 /// `\u{22}` becomes the character of that number; every other backslash is itself.
-fn unescaped(s: &str) -> String {
+pub fn unescaped(s: &str) -> String {
     let mut parts = s.split("\\u{");
     let mut out = parts.next().unwrap_or("").to_string();
     for part in parts {

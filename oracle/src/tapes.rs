@@ -99,10 +99,26 @@ pub type EntryOf<'a> = (&'a str, u8, u8);
 /// One node without children, or a container with its children and its close.
 #[derive(Clone, Debug)]
 pub enum Item {
-    Single { kind: u8, flags: u8, marker: u16, link: u32, text: String },
+    Single {
+        kind: u8,
+        flags: u8,
+        marker: u16,
+        link: u32,
+        text: String,
+    },
     /// A MarkerOpen that links to itself.
-    Leaf { flags: u8, marker: u16, text: String },
-    Container { flags: u8, marker: u16, text: String, children: Vec<Item>, close: Shut },
+    Leaf {
+        flags: u8,
+        marker: u16,
+        text: String,
+    },
+    Container {
+        flags: u8,
+        marker: u16,
+        text: String,
+        children: Vec<Item>,
+        close: Shut,
+    },
 }
 
 /// The close of a container.

@@ -107,9 +107,7 @@ fn example_11_raw_eid() {
 fn example_12_alignment() {
     let tape = r#"tr{tc"\tcr2"[T"a"] tc"\thc1"[T"b"] tc"\tc1"[T"c"]}"#;
     let cells = [("tcr2", "end", "a"), ("thc1", "center", "b"), ("tc1", "start", "c")];
-    let cell = |(style, align, inner)| {
-        format!("\n      <cell style=\"{style}\" align=\"{align}\">{inner}</cell>")
-    };
+    let cell = |(style, align, inner)| format!("\n      <cell style=\"{style}\" align=\"{align}\">{inner}</cell>");
     let cells: String = cells.map(cell).concat();
     let table = format!("\n  <table>\n    <row style=\"tr\">{cells}\n    </row>\n  </table>");
     assert_eq!(text(tape), doc(&table));
@@ -133,10 +131,12 @@ fn listing() -> Parts {
     let items = [
         tapes::container(0, "\\id", tapes::BLOCK_END, vec![tapes::text(" GEN x")]),
         tapes::single(tapes::CHAPTER, 1, 2, ""),
-        tapes::container(2, "\\p", tapes::BLOCK_END, vec![
-            tapes::single(tapes::VERSE, 3, 0, "\\v 1"),
-            tapes::text(" Sing"),
-        ]),
+        tapes::container(
+            2,
+            "\\p",
+            tapes::BLOCK_END,
+            vec![tapes::single(tapes::VERSE, 3, 0, "\\v 1"), tapes::text(" Sing")],
+        ),
     ];
     tapes::tape(&items, &entries, false)
 }
@@ -156,24 +156,16 @@ fn printing_of_refusals() {
     assert_eq!(print(&vec![0; 65_537]), b"refused 2 0\n");
 }
 
-/// A tape whose text has 33 + 26 bytes and one for each byte of `source`.
-fn long_text(source: usize) -> Vec<u8> {
-    let p = tapes::container(0, "", tapes::BLOCK_END, vec![tapes::text(&"a".repeat(source))]);
-    tapes::tape(&[p], &[("p", 3, 0)], false).file()
+/// What is printed for a paragraph of `amps` ampersands, each five bytes of text, and `letters` letters.
+fn printed(amps: usize, letters: usize) -> Vec<u8> {
+    let inner = "&".repeat(amps) + &"a".repeat(letters);
+    let p = tapes::container(0, "", tapes::BLOCK_END, vec![tapes::text(&inner)]);
+    print(&tapes::tape(&[p], &[("p", 3, 0)], false).file())
 }
 
 #[test]
-fn printing_at_the_buffer_s_end() {
-    let empty = print(&long_text(0)).len();
-    let full = print(&long_text(65_000 - empty));
-    assert_eq!(full.len(), 65_000);
-    // Four quotes... each `&` takes five bytes of text, so the text outgrows the buffer before the tape does.
-    let amps = |n: usize, a: usize| {
-        let inner = "&".repeat(n) + &"a".repeat(a);
-        let p = tapes::container(0, "", tapes::BLOCK_END, vec![tapes::text(&inner)]);
-        print(&tapes::tape(&[p], &[("p", 3, 0)], false).file())
-    };
-    let room = 65_536 - empty;
-    assert_eq!(amps(room / 5, room % 5).len(), 65_536);
-    assert_eq!(amps(room / 5, room % 5 + 1), b"refused 8 65537\n");
+fn printing_at_the_end_of_the_buffer() {
+    let room = 65_536 - printed(0, 0).len();
+    assert_eq!(printed(room / 5, room % 5).len(), 65_536);
+    assert_eq!(printed(room / 5, room % 5 + 1), b"refused 8 65537\n");
 }

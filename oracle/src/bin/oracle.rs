@@ -3,16 +3,21 @@
 use std::io::{self, BufWriter, Read, Write};
 use std::process::ExitCode;
 
-use oracle::answer;
+use oracle::{answer, dump, notation};
 
 const USAGE: &str = "usage: oracle print   one tape on standard input, printed as the printing program prints it
-       oracle stream  a stream of tapes to a stream of answers";
+       oracle stream  a stream of tapes to a stream of answers
+       oracle cursor  a stream of tapes to what the cursor says of every node
+       oracle tape NOTATION  the tape of docs/DIFFERENCES.md's notation, on standard output";
 
 fn main() -> ExitCode {
-    let mode = std::env::args().nth(1).unwrap_or_default();
-    let done = match mode.as_str() {
-        "print" => print(),
-        "stream" => answer::stream(io::stdin().lock(), BufWriter::new(io::stdout().lock())),
+    let args: Vec<String> = std::env::args().skip(1).collect();
+    let args: Vec<&str> = args.iter().map(String::as_str).collect();
+    let done = match args[..] {
+        ["print"] => print(),
+        ["tape", line] => io::stdout().lock().write_all(&notation::file(line)),
+        ["cursor"] => dump::stream(io::stdin().lock(), BufWriter::new(io::stdout().lock())),
+        ["stream"] => answer::stream(io::stdin().lock(), BufWriter::new(io::stdout().lock())),
         _ => {
             eprintln!("{USAGE}");
             return ExitCode::from(2);

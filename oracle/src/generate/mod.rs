@@ -1,1 +1,17 @@
-//! Generators of tape files. Each is determined by its mode, its seed and the tape's number.
+//! Generators of tape files. Each tape is determined by its mode, the seed and the tape's number.
+
+mod damaged;
+mod limits;
+mod links;
+mod pool;
+mod random;
+mod rng;
+mod small;
+mod structured;
+
+pub use damaged::{Damaged, damaged};
+pub use limits::limits;
+pub use links::links;
+pub use random::random;
+pub use small::small;
+pub use structured::structured;

@@ -1,0 +1,69 @@
+//! What the Rust's cursor says of every node of a tape, a line a node.
+
+use std::io::{self, BufReader, Read, Write};
+
+use crate::answer::read_tape;
+use crate::cst::Cursor;
+use crate::loader;
+use crate::tape::{Node, NodeKind};
+
+/// Dumps a stream of tapes; the form of a line stands in the README. A refused tape gives its number alone.
+pub fn stream(input: impl Read, mut output: impl Write) -> io::Result<()> {
+    let mut input = BufReader::with_capacity(1 << 16, input);
+    let mut tape = Vec::new();
+    while read_tape(&mut input, &mut tape)? {
+        match loader::load(&tape) {
+            Ok(document) => {
+                for cursor in document.cursors() {
+                    write_line(&mut output, document.nodes(), cursor)?;
+                }
+                output.write_all(b"\n")?;
+            }
+            Err(refusal) => writeln!(output, "refused {}\n", refusal.0)?,
+        }
+    }
+    output.flush()
+}
+
+fn write_line(out: &mut impl Write, nodes: &[Node], c: Cursor<'_>) -> io::Result<()> {
+    let place = |other: Option<Cursor<'_>>| other.map_or("-".to_string(), |o| index(nodes, o).to_string());
+    write!(out, "{} {} ", index(nodes, c), kind_code(c.kind()))?;
+    write!(out, "{}{} ", c.is_synthetic() as u8, c.is_nested() as u8)?;
+    write!(out, "{} ", c.number().unwrap_or(0))?;
+    match c.marker_info() {
+        Some(info) => write!(out, "{} {} ", info.category as u8, element_code(info.usx_element))?,
+        None => write!(out, "- - ")?,
+    }
+    write!(out, "{} {} {} ", place(c.first_child()), place(c.next_sibling()), place(c.matching_close()))?;
+    let entry = c.marker_info().map_or("", |info| info.name);
+    writeln!(out, "{entry}|{}|{}", c.marker_name(), c.text())
+}
+
+/// A cursor does not tell its index, but its node is an element of the tape.
+fn index(nodes: &[Node], c: Cursor<'_>) -> usize {
+    (std::ptr::from_ref(c.node()).addr() - nodes.as_ptr().addr()) / size_of::<Node>()
+}
+
+/// The kind's number in the tape file.
+fn kind_code(kind: NodeKind) -> u8 {
+    match kind {
+        NodeKind::Root => 0,
+        NodeKind::Text => 1,
+        NodeKind::Attribute => 2,
+        NodeKind::MarkerOpen => 3,
+        NodeKind::MarkerClose => 4,
+        NodeKind::BlockEnd => 5,
+        NodeKind::Chapter => 6,
+        NodeKind::Verse => 7,
+        NodeKind::Error => 8,
+    }
+}
+
+fn element_code(element: &str) -> u8 {
+    match element {
+        "sidebar" => 1,
+        "periph" => 2,
+        "row" => 3,
+        _ => 0,
+    }
+}

@@ -1,0 +1,93 @@
+//! Every generator makes what it is meant to make.
+
+use oracle::answer::{Answer, answer, answer_or_panic};
+use oracle::generate::{damaged, limits, links, random, small, structured};
+
+const SEED: u64 = 1;
+
+fn written(tape: &[u8]) -> String {
+    match answer(tape) {
+        Answer::Written(text) => text,
+        other => panic!("{other:?}"),
+    }
+}
+
+#[test]
+fn structured_tapes_are_admitted() {
+    for number in 0..2_000 {
+        let text = written(&structured(SEED, number));
+        assert!(text.ends_with("\n</usx>"));
+    }
+}
+
+#[test]
+fn random_tapes_are_admitted() {
+    for number in 0..2_000 {
+        let text = written(&random(SEED, number));
+        assert!(text.ends_with("\n</usx>"));
+    }
+}
+
+#[test]
+fn tapes_are_determined_by_seed_and_number() {
+    for number in 0..50 {
+        assert_eq!(structured(SEED, number), structured(SEED, number));
+        assert_eq!(random(SEED, number), random(SEED, number));
+        assert_ne!(structured(SEED, number), structured(SEED + 1, number));
+    }
+}
+
+#[test]
+fn damaged_tapes_get_the_number_meant() {
+    let mut seen = [0; 8];
+    for number in 0..20_000 {
+        let tape = damaged(SEED, number);
+        let got = answer_or_panic(&tape.file).number();
+        assert!(got <= 7, "tape {number}: {got}");
+        if let Some(meant) = tape.number {
+            assert_eq!(got, meant, "tape {number}");
+        }
+        seen[usize::from(got)] += 1;
+    }
+    assert!(seen.iter().all(|&count| count > 200), "{seen:?}");
+}
+
+#[test]
+fn small_tapes_are_admitted_and_differ() {
+    let all: Vec<_> = small(2).collect();
+    assert_eq!(all.len(), 1 + 30 + 30 * 30 + 18 * 30);
+    all.iter().for_each(|tape| drop(written(tape)));
+    let mut sorted = all.clone();
+    sorted.sort();
+    sorted.dedup();
+    assert_eq!(sorted.len(), all.len());
+}
+
+/// Lists of n nodes besides Root are right for each forest of leaves and containers, with or without Root's BlockEnd.
+#[test]
+fn links_are_right_or_wrong_as_counted() {
+    let right = |n: usize| {
+        let of_size = links(n).filter(|t| t[4] as usize == n + 1);
+        of_size.filter(|t| answer(t).number() == 0).count()
+    };
+    // One text or leaf: 2 letters; one container: two nodes, 2 kinds of close.
+    let forests = |n: usize| -> usize {
+        let mut counts = vec![1];
+        for n in 1..=n {
+            let singles = 2 * counts[n - 1];
+            let containers: usize = (0..n - 1).map(|k| 2 * counts[k] * counts[n - 2 - k]).sum();
+            counts.push(singles + containers);
+        }
+        counts[n] + if n > 0 { counts[n - 1] } else { 0 }
+    };
+    for n in 0..=4 {
+        assert_eq!(right(n), forests(n), "{n}");
+    }
+}
+
+#[test]
+fn limits_are_met() {
+    let numbers: Vec<_> = limits().map(|(tape, meant)| (answer(&tape).number(), meant)).collect();
+    assert_eq!(numbers.len(), 9);
+    assert!(numbers.iter().all(|(got, meant)| got == meant), "{numbers:?}");
+}
