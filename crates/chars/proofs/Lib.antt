@@ -1,0 +1,7 @@
+pub mod Lists
+pub mod Rows
+pub mod Characters
+pub mod Laws
+pub mod White
+pub mod Escapes
+pub mod Digits

@@ -1,0 +1,20 @@
+-- The XML escapes of the text, `escape_xml` and `escape_xml_attr`.
+use Prim.Native.Nat.{ℕ}
+use mathlib.Core.List.{List, [], _∷_, _++_}
+use mathlib.Core.Bool.{Bool, cond, not, _&&_, _||_}
+use lib.Dec.{eqb}
+use Rattle.parts.specs.Bytes.{Bytes, b}
+
+-- what a byte is written as: < > & by name, and in an attribute's value the double quote too
+unfoldable pub escaped : Bool → ℕ → Bytes
+escaped attr x =
+    cond (eqb x 60) (b "&lt;")
+    (cond (eqb x 62) (b "&gt;") (cond (eqb x 38) (b "&amp;") (cond (attr && eqb x 34) (b "&quot;") (x ∷ []))))
+
+unfoldable pub escape : Bool → Bytes → Bytes
+escape attr [] = []
+escape attr (x ∷ s) = escaped attr x ++ escape attr s
+
+-- whether a byte is written as itself
+unfoldable pub plain : Bool → ℕ → Bool
+plain attr x = not (eqb x 60 || (eqb x 62 || (eqb x 38 || (attr && eqb x 34))))

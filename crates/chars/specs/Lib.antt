@@ -1,0 +1,5 @@
+pub mod Range
+pub mod Utf8
+pub mod Space
+pub mod Escape
+pub mod Decimal

@@ -1,0 +1,21 @@
+-- Ranges of numbers, as Unicode's tables give them.
+use Prim.Native.Nat.{ℕ}
+use mathlib.Core.List.{List, [], _∷_}
+use mathlib.Core.Bool.{Bool, true, false, _&&_, _||_}
+use lib.Dec.{leb}
+
+-- the numbers from low to high, both among them
+pub record Range : Type 0 where
+  pub low : ℕ
+  pub high : ℕ
+
+infix 70 _to_
+abbrev pub _to_ : ℕ → ℕ → Range
+l to h = record { low = l; high = h }
+
+unfoldable pub within : Range → ℕ → Bool
+within r x = leb (r .low) x && leb x (r .high)
+
+unfoldable pub inAny : List Range → ℕ → Bool
+inAny [] x = false
+inAny (r ∷ rs) x = within r x || inAny rs x

@@ -1,0 +1,50 @@
+-- Refusals 6 and 7 by computation: one pass each. Laws show that these decide TooDeep and Sound.
+use mathlib.Core.Bool.{Bool, true, false, cond, _&&_, _||_}
+use mathlib.Core.List.{List, [], _∷_}
+use mathlib.Core.Option.{Option, some, none}
+use Prim.Native.Nat.{ℕ, zero, suc, _+_}
+use lib.ListN.{length}
+use lib.Dec.{eqb, ltb}
+use Rattle.tape.specs.declared.Node.{Node}
+use Rattle.nest.specs.Tape.{kindAt, linkAt}
+use Rattle.nest.specs.Nest.{container, close, partOf}
+use Rattle.nest.specs.declared.Part.{Part}
+use Rattle.nest.specs.declared.Part.the-variants.{Opens, Closes, Leaf}
+
+-- the n nodes from i on, before which stand o containers and c closes
+unfoldable pub deepFrom : List Node → ℕ → ℕ → ℕ → ℕ → Bool
+deepFrom t zero i o c = false
+deepFrom t (suc n) i o c =
+    elim (ltb (c + 64) o) [
+      | true ↦ true
+      | false ↦ deepFrom t n (i + 1) (o + cond (container t i) 1 0) (c + cond (close t i) 1 0)
+    ]
+
+unfoldable pub tooDeep : List Node → Bool
+tooDeep t = deepFrom t (length t) 0 0 0
+
+-- the awaited closes past node i; none where a rule is broken
+unfoldable pub stepOf : Part → ℕ → Option (List ℕ) → Option (List ℕ)
+stepOf p i none = none
+stepOf (Opens l) i (some s) = cond (eqb (length s) 64) none (some (l ∷ s))
+stepOf Closes i (some []) = none
+stepOf Closes i (some (c ∷ s)) = cond (eqb c i) (some s) none
+stepOf Leaf i (some s) = some s
+
+-- the n nodes from i on
+unfoldable pub matchFrom : List Node → ℕ → ℕ → Option (List ℕ) → Option (List ℕ)
+matchFrom t zero i s = s
+matchFrom t (suc n) i s = matchFrom t n (i + 1) (stepOf (partOf t i) i s)
+
+unfoldable pub allMatched : Option (List ℕ) → Bool
+allMatched none = false
+allMatched (some []) = true
+allMatched (some (c ∷ s)) = false
+
+unfoldable pub rootEnds : List Node → Bool
+rootEnds t =
+    eqb (linkAt t 0) (length t)
+    || (eqb (linkAt t 0 + 1) (length t) && eqb (kindAt t (linkAt t 0)) 5)
+
+unfoldable pub sound : List Node → Bool
+sound t = rootEnds t && allMatched (matchFrom t (linkAt t 0) 0 (some []))

@@ -1,0 +1,12 @@
+-- The kinds and links of a list of nodes.
+use mathlib.Core.List.{List}
+use Prim.Native.Nat.{ℕ}
+use lib.ListN.{getD}
+use Rattle.tape.specs.File.{nowhere}
+use Rattle.tape.specs.declared.Node.{Node}
+
+abbrev pub kindAt : List Node → ℕ → ℕ
+kindAt t i = getD t i nowhere .kind .code
+
+abbrev pub linkAt : List Node → ℕ → ℕ
+linkAt t i = getD t i nowhere .link

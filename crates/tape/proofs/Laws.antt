@@ -1,0 +1,287 @@
+-- Laws of the tape's records: each field of a node or an entry is what stands in the file.
+use mathlib.Core.Path.{_≡_, refl, sym, ap, _∙_}
+use mathlib.Core.Bool.{Bool, true, false, _||_}
+use Prim.Native.Nat.{ℕ, zero, suc, _+_, _-_, _*_, _/_, _%_, _≤_, _<_}
+use native.Mathlib.Nat.{mul-zero, mul-suc, add-comm}
+use native.Mathlib.Omega.{arith}
+use lib.ListN.{length, getD, drop, List·getD-eq-default}
+use lib.Seq.{drop-drop}
+use lib.Dec.{eqb, leb}
+use borrow.Author.Tests.{eq-eqb, ne-eqb, lt-ltb, le-ltb, le-leb, lt-leb}
+use Rattle.parts.specs.Bytes.{Bytes, part}
+use Rattle.tape.specs.File.{le16, le32, nodeOf, entryOf, recordsOf, Tape, tapeIn, entriesAt, namesAt, sourceAt, sectionsOf, nowhere, nameless, nodeAt, entryAt, kindAt, textAt, entryName, isSynthetic, isNested, bearsMarker, infoAt, numberAt}
+use Rattle.tape.specs.Tree.{isClose, holds, matchingClose, childBefore, firstChild, lastOf, siblingPast, nextSibling}
+use Rattle.tape.specs.declared.kinds.Kind.{Kind}
+use Rattle.tape.specs.declared.kinds.Flags.{Flags}
+use Rattle.tape.specs.declared.kinds.Category.{Category}
+use Rattle.tape.specs.declared.kinds.Element.{Element}
+use Rattle.tape.specs.declared.Node.{Node}
+use Rattle.tape.specs.declared.Entry.{Entry}
+use Rattle.tape.specs.declared.Sections.{Sections}
+use Rattle.tape.specs.declared.Info.{Info}
+use Rattle.tape.specs.declared.Info.the-variants.{Known, Unknown}
+use Rattle.tape.specs.declared.Step.{Step}
+use Rattle.tape.specs.declared.Step.the-variants.{At, Done}
+
+-- ---- numbers
+
+pub le16-made : (s : Bytes) {a z a′ z′ : ℕ} → a ≡ getD s 0 0 → a′ ≡ a → z ≡ getD s 1 0 → z′ ≡ z → a′ + 256 * z′ ≡ le16 s
+unfolding le16
+le16-made s a a′ z z′ = rw (a′, a, z′, z)
+
+pub le32-made : (s : Bytes) {a z a′ z′ : ℕ} {r : Bytes} → a ≡ le16 s → a′ ≡ a → r ≡ drop 2 s → z ≡ le16 r → z′ ≡ z → a′ + 65536 * z′ ≡ le32 s
+unfolding le32
+le32-made s a a′ r z z′ = rw (a′, a, z′, z, r)
+
+-- a number behind a place
+pub le32-from : (s : Bytes) (i : ℕ) {r : Bytes} {x : ℕ} → r ≡ drop i s → x ≡ le32 r → x ≡ le32 (drop i s)
+le32-from s i e h = h ∙ ap le32 e
+
+pub le16-from : (s : Bytes) (i : ℕ) {r : Bytes} {x : ℕ} → r ≡ drop i s → x ≡ le16 r → x ≡ le16 (drop i s)
+le16-from s i e h = h ∙ ap le16 e
+
+-- ---- records
+
+pub sections-made : (s : Bytes) {n e m z : ℕ} {a b c d : Bytes} → a ≡ drop 4 s → n ≡ le32 a → b ≡ drop 12 s → e ≡ le32 b → c ≡ drop 20 s → m ≡ le32 c
+    → d ≡ drop 28 s → z ≡ le32 d → _≡_ {A = Sections} (record { head = 36; nodes = n; entries = e; names = m; source = z }) (sectionsOf s)
+unfolding sectionsOf
+sections-made s ea en eb ee ec em ed ez = rw (en, ea, ee, eb, em, ec, ez, ed)
+
+pub node-made : (s : Bytes) {x y : ℕ} {k : Kind} {f : Flags} {m l a n : ℕ} {r₂ r₄ r₈ r₁₂ : Bytes}
+    → x ≡ getD s 0 0 → k .code ≡ x → y ≡ getD s 1 0 → f .bits ≡ y → r₂ ≡ drop 2 s → m ≡ le16 r₂ → r₄ ≡ drop 4 s → l ≡ le32 r₄
+    → r₈ ≡ drop 8 s → a ≡ le32 r₈ → r₁₂ ≡ drop 12 s → n ≡ le32 r₁₂
+    → _≡_ {A = Node} (record { kind = k; flags = f; marker = m; link = l; start = a; len = n }) (nodeOf s)
+unfolding nodeOf
+node-made s ex ek ey ef e₂ em e₄ el e₈ ea e₁₂ en =
+    let kind : _≡_ {A = Kind} _ (record { code = getD s 0 0 }) = ap (λ (z : ℕ). record { code = z }) (ek ∙ ex) in
+    let flag : _≡_ {A = Flags} _ (record { bits = getD s 1 0 }) = ap (λ (z : ℕ). record { bits = z }) (ef ∙ ey) in
+    rw (kind, flag, em, e₂, el, e₄, ea, e₈, en, e₁₂)
+
+pub entry-made : (s : Bytes) {l m x y : ℕ} {k : Category} {e : Element} {r : Bytes}
+    → l ≡ le32 s → r ≡ drop 4 s → m ≡ le16 r → x ≡ getD s 6 0 → k .code ≡ x → y ≡ getD s 7 0 → e .code ≡ y
+    → _≡_ {A = Entry} (record { start = l; len = m; category = k; element = e }) (entryOf s)
+unfolding entryOf
+entry-made s el er em ex ek ey ee =
+    let cat : _≡_ {A = Category} _ (record { code = getD s 6 0 }) = ap (λ (z : ℕ). record { code = z }) (ek ∙ ex) in
+    let elt : _≡_ {A = Element} _ (record { code = getD s 7 0 }) = ap (λ (z : ℕ). record { code = z }) (ee ∙ ey) in
+    rw (el, em, er, cat, elt)
+
+-- the record at an index is what stands so many records further on
+pub records-at : {A : Type 0} (read : Bytes → A) (size n : ℕ) (s : Bytes) (i : ℕ) (d : A) → i < n
+    → getD (recordsOf read size n s) i d ≡ read (drop (size * i) s)
+unfolding recordsOf
+records-at read size zero s i d h = absurd (omega arith)
+records-at read size (suc n) s zero d h = ap (λ (k : ℕ). read (drop k s)) (sym (mul-zero size))
+records-at read size (suc n) s (suc i) d h =
+    records-at read size n (drop size s) i d (omega arith)
+    ∙ ap read (drop-drop (size * i) size s ∙ ap (λ (k : ℕ). drop k s) (sym (size-suc size i)))
+  where
+    size-suc : (a b : ℕ) → a * suc b ≡ a + a * b
+    size-suc a b = mul-suc a b ∙ add-comm (a * b) a
+
+pub records-length : {A : Type 0} (read : Bytes → A) (size n : ℕ) (s : Bytes) → length (recordsOf read size n s) ≡ n
+unfolding recordsOf
+records-length read size zero s = refl
+records-length read size (suc n) s = ap suc (records-length read size n (drop size s))
+
+-- past the end of a list of so many stands the default
+pub past-end : (s : Bytes) (i : ℕ) → length s ≤ i → 0 ≡ getD s i 0
+past-end s i h = sym (List·getD-eq-default s 0 h)
+
+-- ---- the record at an index, in the file
+
+module _ (c : Sections) (file : Bytes) (k : ℕ) where
+  pub node-in : {h a : ℕ} {r : Bytes} {n : Node} → k < c .nodes → h ≡ c .head → a ≡ k → r ≡ drop (h + 16 * a) file → n ≡ nodeOf r → n ≡ nodeAt (tapeIn c file) k
+  unfolding nodeAt tapeIn
+  node-in h eh ea er en =
+      en ∙ ap nodeOf (er ∙ rw (eh, ea) (sym (drop-drop (16 * k) (c .head) file))) ∙ sym (records-at nodeOf 16 (c .nodes) (drop (c .head) file) k nowhere h)
+
+  pub node-out : c .nodes ≤ k → nowhere ≡ nodeAt (tapeIn c file) k
+  unfolding nodeAt tapeIn
+  node-out h = sym (List·getD-eq-default (recordsOf nodeOf 16 (c .nodes) (drop (c .head) file)) nowhere (rw (records-length nodeOf 16 (c .nodes) (drop (c .head) file)) h))
+
+  pub entry-in : {e a : ℕ} {r : Bytes} {n : Entry} → k < c .entries → e ≡ entriesAt c → a ≡ k → r ≡ drop (e + 8 * a) file → n ≡ entryOf r → n ≡ entryAt (tapeIn c file) k
+  unfolding entryAt tapeIn
+  entry-in h ee ea er en =
+      en ∙ ap entryOf (er ∙ rw (ee, ea) (sym (drop-drop (8 * k) (entriesAt c) file))) ∙ sym (records-at entryOf 8 (c .entries) (drop (entriesAt c) file) k nameless h)
+
+  pub entry-out : c .entries ≤ k → nameless ≡ entryAt (tapeIn c file) k
+  unfolding entryAt tapeIn
+  entry-out h = sym (List·getD-eq-default (recordsOf entryOf 8 (c .entries) (drop (entriesAt c) file)) nameless (rw (records-length entryOf 8 (c .entries) (drop (entriesAt c) file)) h))
+
+pub node-count : (c : Sections) (file : Bytes) → length (tapeIn c file .nodes) ≡ c .nodes
+unfolding tapeIn
+node-count c file = records-length nodeOf 16 (c .nodes) (drop (c .head) file)
+
+pub entry-count : (c : Sections) (file : Bytes) → length (tapeIn c file .entries) ≡ c .entries
+unfolding tapeIn
+entry-count c file = records-length entryOf 8 (c .entries) (drop (entriesAt c) file)
+
+pub names-in : (c : Sections) (file : Bytes) {a n : ℕ} {r : Bytes} → a ≡ namesAt c → n ≡ c .names → r ≡ part file a n → r ≡ tapeIn c file .names
+unfolding tapeIn
+names-in c file ea en er = er ∙ rw (ea, en)
+
+pub source-in : (c : Sections) (file : Bytes) {a n : ℕ} {r : Bytes} → a ≡ sourceAt c → n ≡ c .source → r ≡ part file a n → r ≡ tapeIn c file .source
+unfolding tapeIn
+source-in c file ea en er = er ∙ rw (ea, en)
+
+pub entry-name-in : (t : Tape) (e : Entry) {ns r : Bytes} {a n : ℕ} → ns ≡ t .names → a ≡ e .start → n ≡ e .len → r ≡ part ns a n → r ≡ entryName t e
+unfolding entryName
+entry-name-in t e es ea en er = er ∙ rw (es, ea, en)
+
+-- ---- one of two numbers
+
+pub either-first : (a x : ℕ) (z : Bool) → a ≡ x → eqb a x || z ≡ true
+either-first a x z h = rw (eq-eqb a x h)
+
+pub either-second : (a x : ℕ) (z : Bool) → (a ≡ x → ⊥) → eqb a x || z ≡ z
+either-second a x z h = rw (ne-eqb a x h)
+
+pub close-first : (k : ℕ) → k ≡ 4 → true ≡ isClose k
+unfolding isClose
+close-first k h = sym (either-first k 4 (eqb k 5) h)
+
+pub close-second : (k : ℕ) → (k ≡ 4 → ⊥) → eqb k 5 ≡ isClose k
+unfolding isClose
+close-second k h = sym (either-second k 4 (eqb k 5) h)
+
+pub holds-first : (k : ℕ) → k ≡ 0 → true ≡ holds k
+unfolding holds
+holds-first k h = sym (either-first k 0 (eqb k 3) h)
+
+pub holds-second : (k : ℕ) → (k ≡ 0 → ⊥) → eqb k 3 ≡ holds k
+unfolding holds
+holds-second k h = sym (either-second k 0 (eqb k 3) h)
+
+pub bears-low : (k : ℕ) → k < 3 → false ≡ bearsMarker k
+unfolding bearsMarker
+bears-low k h = rw (lt-leb 3 k h)
+
+pub bears-high : (k : ℕ) → 3 ≤ k → leb k 7 ≡ bearsMarker k
+unfolding bearsMarker
+bears-high k h = rw (le-leb 3 k h)
+
+-- ---- fields of a node that is read
+
+module _ (t : Tape) (k : ℕ) {n : Node} (e : n ≡ nodeAt t k) where
+  pub kind-of : n .kind .code ≡ kindAt t k
+  kind-of = ap (λ (m : Node). m .kind .code) e
+
+  pub link-of : n .link ≡ nodeAt t k .link
+  link-of = ap (λ (m : Node). m .link) e
+
+  pub synthetic-of : eqb (n .flags .bits % 2) 1 ≡ isSynthetic t k
+  unfolding isSynthetic
+  synthetic-of = ap (λ (m : Node). eqb (m .flags .bits % 2) 1) e
+
+  pub nested-of : eqb (n .flags .bits / 2 % 2) 1 ≡ isNested t k
+  unfolding isNested
+  nested-of = ap (λ (m : Node). eqb (m .flags .bits / 2 % 2) 1) e
+
+  pub number-chapter : n .kind .code ≡ 6 → n .link ≡ numberAt t k
+  unfolding numberAt
+  number-chapter h = rw (either-first (kindAt t k) 6 (eqb (kindAt t k) 7) (sym kind-of ∙ h)) link-of
+
+  pub number-verse : (n .kind .code ≡ 6 → ⊥) → n .kind .code ≡ 7 → n .link ≡ numberAt t k
+  unfolding numberAt
+  number-verse g h =
+      rw (either-second (kindAt t k) 6 (eqb (kindAt t k) 7) (λ z. g (kind-of ∙ z)), eq-eqb (kindAt t k) 7 (sym kind-of ∙ h)) link-of
+
+  pub number-none : (n .kind .code ≡ 6 → ⊥) → (n .kind .code ≡ 7 → ⊥) → 0 ≡ numberAt t k
+  unfolding numberAt
+  number-none g h =
+      rw (either-second (kindAt t k) 6 (eqb (kindAt t k) 7) (λ z. g (kind-of ∙ z)), ne-eqb (kindAt t k) 7 (λ z. h (kind-of ∙ z)))
+
+  pub text-of : {src r : Bytes} {a l : ℕ} → src ≡ t .source → a ≡ n .start → l ≡ n .len → r ≡ part src a l → r ≡ textAt t k
+  unfolding textAt
+  text-of es ea el er = er ∙ rw (es, ea, el) (ap (λ (m : Node). part (t .source) (m .start) (m .len)) e)
+
+  pub close-of : n .kind .code ≡ 3 → At (record { at = n .link }) ≡ matchingClose t k
+  unfolding matchingClose
+  close-of h = rw (eq-eqb (kindAt t k) 3 (sym kind-of ∙ h), link-of)
+
+  pub close-none : (n .kind .code ≡ 3 → ⊥) → Done ≡ matchingClose t k
+  unfolding matchingClose
+  close-none h = rw (ne-eqb (kindAt t k) 3 (λ z. h (kind-of ∙ z)))
+
+  pub last-link : {h : Bool} → h ≡ holds (n .kind .code) → h ≡ true → n .link ≡ lastOf t k
+  unfolding lastOf
+  last-link eh h = rw (ap holds (sym kind-of) ∙ sym eh ∙ h) link-of
+
+  pub last-self : {h : Bool} → h ≡ holds (n .kind .code) → h ≡ false → k ≡ lastOf t k
+  unfolding lastOf
+  last-self eh h = rw (ap holds (sym kind-of) ∙ sym eh ∙ h)
+
+  pub child-none : {h : Bool} → h ≡ holds (n .kind .code) → h ≡ false → Done ≡ firstChild t k
+  unfolding firstChild
+  child-none eh h = rw (ap holds (sym kind-of) ∙ sym eh ∙ h)
+
+  pub info-plain : {h : Bool} → h ≡ bearsMarker (n .kind .code) → h ≡ false → Unknown ≡ infoAt t k
+  unfolding infoAt
+  info-plain eh h = rw (ap bearsMarker (sym kind-of) ∙ sym eh ∙ h)
+
+  pub marker-of : n .marker ≡ nodeAt t k .marker
+  marker-of = ap (λ (m : Node). m .marker) e
+
+-- ---- where the count of nodes or entries decides
+
+module _ (c : Sections) (file : Bytes) (k : ℕ) {n : Node} (e : n ≡ nodeAt (tapeIn c file) k) where
+  pub child-some : {h : Bool} {s : Step} → h ≡ holds (n .kind .code) → h ≡ true → s ≡ childBefore (c .nodes) k (n .link) → s ≡ firstChild (tapeIn c file) k
+  unfolding firstChild
+  child-some eh h es = rw (ap holds (sym (kind-of (tapeIn c file) k e)) ∙ sym eh ∙ h, node-count c file) (es ∙ ap (childBefore (c .nodes) k) (link-of (tapeIn c file) k e))
+
+  pub info-known : {h : Bool} {m : ℕ} {i : Entry} → m ≡ n .marker → h ≡ bearsMarker (n .kind .code) → h ≡ true → m < c .entries → i ≡ entryAt (tapeIn c file) m
+      → Known i ≡ infoAt (tapeIn c file) k
+  unfolding infoAt
+  info-known em eh h l ei =
+      rw (ap bearsMarker (sym (kind-of (tapeIn c file) k e)) ∙ sym eh ∙ h, entry-count c file, ← marker-of (tapeIn c file) k e, ← em, lt-ltb _ _ l, ei)
+
+  pub info-unknown : {h : Bool} {m : ℕ} → m ≡ n .marker → h ≡ bearsMarker (n .kind .code) → h ≡ true → c .entries ≤ m → Unknown ≡ infoAt (tapeIn c file) k
+  unfolding infoAt
+  info-unknown em eh h l =
+      rw (ap bearsMarker (sym (kind-of (tapeIn c file) k e)) ∙ sym eh ∙ h, entry-count c file, ← marker-of (tapeIn c file) k e, ← em, le-ltb _ _ l)
+
+-- ---- steps
+
+module _ (nodes k link : ℕ) where
+  pub before-back : link ≤ k → Done ≡ childBefore nodes k link
+  unfolding childBefore
+  before-back h = rw (le-ltb (k + 1) link (omega arith))
+
+  pub before-none : link ≤ k + 1 → Done ≡ childBefore nodes k link
+  unfolding childBefore
+  before-none h = rw (le-ltb (k + 1) link h)
+
+  pub before-some : k + 1 < link → k + 1 < nodes → At (record { at = k + 1 }) ≡ childBefore nodes k link
+  unfolding childBefore
+  before-some h l = rw (lt-ltb (k + 1) link h, lt-ltb (k + 1) nodes l)
+
+  pub before-out : k + 1 < link → nodes ≤ k + 1 → Done ≡ childBefore nodes k link
+  unfolding childBefore
+  before-out h l = rw (lt-ltb (k + 1) link h, le-ltb (k + 1) nodes l)
+
+module _ (c : Sections) (file : Bytes) (k last : ℕ) where
+  pub past-back : last < k → Done ≡ siblingPast (tapeIn c file) k last
+  unfolding siblingPast
+  past-back h = rw (lt-ltb last k h)
+
+  pub past-out : k ≤ last → c .nodes ≤ last + 1 → Done ≡ siblingPast (tapeIn c file) k last
+  unfolding siblingPast
+  past-out h l = rw (le-ltb last k h, node-count c file, le-ltb (last + 1) (c .nodes) l)
+
+  pub past-far : k ≤ last → c .nodes ≤ last → Done ≡ siblingPast (tapeIn c file) k last
+  past-far h l = past-out h (omega arith)
+
+  pub past-close : {z : Kind} {x : Bool} → k ≤ last → last + 1 < c .nodes → z .code ≡ kindAt (tapeIn c file) (last + 1) → x ≡ isClose (z .code) → x ≡ true
+      → Done ≡ siblingPast (tapeIn c file) k last
+  unfolding siblingPast
+  past-close h l ek ec x = rw (le-ltb last k h, node-count c file, lt-ltb (last + 1) (c .nodes) l, ← ek, ← ec, x)
+
+  pub past-some : {z : Kind} {x : Bool} → k ≤ last → last + 1 < c .nodes → z .code ≡ kindAt (tapeIn c file) (last + 1) → x ≡ isClose (z .code) → x ≡ false
+      → At (record { at = last + 1 }) ≡ siblingPast (tapeIn c file) k last
+  unfolding siblingPast
+  past-some h l ek ec x = rw (le-ltb last k h, node-count c file, lt-ltb (last + 1) (c .nodes) l, ← ek, ← ec, x)
+
+pub next-of : (t : Tape) (k : ℕ) {l : ℕ} {s : Step} → l ≡ lastOf t k → s ≡ siblingPast t k l → s ≡ nextSibling t k
+unfolding nextSibling
+next-of t k el es = es ∙ ap (siblingPast t k) el

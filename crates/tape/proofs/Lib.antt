@@ -1,0 +1,3 @@
+pub mod Laws
+pub mod NameRule
+pub mod Walk

@@ -1,0 +1,150 @@
+-- The tape file: any bytes make a tape. Outside it stands a default.
+use Prim.Native.Nat.{ℕ, zero, suc, _+_, _*_, _/_, _%_}
+use mathlib.Core.List.{List, [], _∷_}
+use mathlib.Core.Bool.{Bool, cond, _&&_, _||_}
+use lib.ListN.{length, getD, drop}
+use lib.Dec.{eqb, ltb, leb}
+use Rattle.parts.specs.Bytes.{Bytes, part}
+use Rattle.tape.specs.declared.Node.{Node}
+use Rattle.tape.specs.declared.Entry.{Entry}
+use Rattle.tape.specs.declared.Sections.{Sections}
+use Rattle.tape.specs.declared.Info.{Info}
+use Rattle.tape.specs.declared.Info.the-variants.{Known, Unknown}
+
+-- ---- numbers, little-endian
+
+-- the number of the first two bytes; what is missing counts 0
+unfoldable pub le16 : Bytes → ℕ
+le16 s = getD s 0 0 + 256 * getD s 1 0
+
+-- the number of the first four bytes
+unfoldable pub le32 : Bytes → ℕ
+le32 s = le16 s + 65536 * le16 (drop 2 s)
+
+-- ---- nodes and entries
+
+-- node, 16 bytes: kind u8, flags u8, marker u16, link u32, start u32, length u32
+unfoldable pub nodeOf : Bytes → Node
+nodeOf s =
+    record {
+      kind = record { code = getD s 0 0 };
+      flags = record { bits = getD s 1 0 };
+      marker = le16 (drop 2 s);
+      link = le32 (drop 4 s);
+      start = le32 (drop 8 s);
+      len = le32 (drop 12 s);
+    }
+
+-- entry, 8 bytes: name start u32, name length u16, category u8, element u8
+unfoldable pub entryOf : Bytes → Entry
+entryOf s =
+    record {
+      start = le32 s;
+      len = le16 (drop 4 s);
+      category = record { code = getD s 6 0 };
+      element = record { code = getD s 7 0 };
+    }
+
+-- so many records, one behind the other
+unfoldable pub recordsOf : {A : Type 0} → (Bytes → A) → ℕ → ℕ → Bytes → List A
+recordsOf read size zero s = []
+recordsOf read size (suc n) s = read s ∷ recordsOf read size n (drop size s)
+
+-- ---- the tape
+
+pub record Tape : Type 0 where
+  pub nodes : List Node
+  pub entries : List Entry
+  pub names : Bytes
+  pub source : Bytes
+
+-- the sections follow the header in order with no gap: nodes, entries, names, source
+abbrev pub entriesAt : Sections → ℕ
+entriesAt c = c .head + 16 * c .nodes
+
+abbrev pub namesAt : Sections → ℕ
+namesAt c = entriesAt c + 8 * c .entries
+
+abbrev pub sourceAt : Sections → ℕ
+sourceAt c = namesAt c + c .names
+
+-- the tape that a file holds by these counts
+unfoldable pub tapeIn : Sections → Bytes → Tape
+tapeIn c file =
+    record {
+      nodes = recordsOf nodeOf 16 (c .nodes) (drop (c .head) file);
+      entries = recordsOf entryOf 8 (c .entries) (drop (entriesAt c) file);
+      names = part file (namesAt c) (c .names);
+      source = part file (sourceAt c) (c .source);
+    }
+
+-- header, nine u32: format; count and offset of nodes, entries, name bytes, source bytes; it is 36 bytes long
+unfoldable pub sectionsOf : Bytes → Sections
+sectionsOf file =
+    record {
+      head = 36;
+      nodes = le32 (drop 4 file);
+      entries = le32 (drop 12 file);
+      names = le32 (drop 20 file);
+      source = le32 (drop 28 file);
+    }
+
+-- the tape of a file
+unfoldable pub tapeOf : Bytes → Tape
+tapeOf file = tapeIn (sectionsOf file) file
+
+-- ---- fields of a node
+
+-- what stands outside the tape: an Error with no text and no entry
+abbrev pub nowhere : Node
+nowhere =
+    record {
+      kind = record { code = 8 };
+      flags = record { bits = 0 };
+      marker = 65535;
+      link = 0;
+      start = 0;
+      len = 0;
+    }
+
+-- what stands outside the entries: no name, category Other
+abbrev pub nameless : Entry
+nameless = record { start = 0; len = 0; category = record { code = 7 }; element = record { code = 0 } }
+
+unfoldable pub nodeAt : Tape → ℕ → Node
+nodeAt t k = getD (t .nodes) k nowhere
+
+unfoldable pub entryAt : Tape → ℕ → Entry
+entryAt t i = getD (t .entries) i nameless
+
+abbrev pub kindAt : Tape → ℕ → ℕ
+kindAt t k = nodeAt t k .kind .code
+
+-- the text of a node: its span of the source
+unfoldable pub textAt : Tape → ℕ → Bytes
+textAt t k = part (t .source) (nodeAt t k .start) (nodeAt t k .len)
+
+-- the name of an entry
+unfoldable pub entryName : Tape → Entry → Bytes
+entryName t e = part (t .names) (e .start) (e .len)
+
+-- flags: 1 synthetic, 2 nested
+unfoldable pub isSynthetic : Tape → ℕ → Bool
+isSynthetic t k = eqb (nodeAt t k .flags .bits % 2) 1
+
+unfoldable pub isNested : Tape → ℕ → Bool
+isNested t k = eqb (nodeAt t k .flags .bits / 2 % 2) 1
+
+-- the kinds whose nodes bear a marker: MarkerOpen, MarkerClose, BlockEnd, Chapter, Verse
+unfoldable pub bearsMarker : ℕ → Bool
+bearsMarker kind = leb 3 kind && leb kind 7
+
+-- the entry of a node; a marker number at or above the entry count is unknown
+unfoldable pub infoAt : Tape → ℕ → Info
+infoAt t k =
+    cond (bearsMarker (kindAt t k) && ltb (nodeAt t k .marker) (length (t .entries)))
+    (Known (entryAt t (nodeAt t k .marker))) Unknown
+
+-- the number of a Chapter or Verse, which stands in its link
+unfoldable pub numberAt : Tape → ℕ → ℕ
+numberAt t k = cond (eqb (kindAt t k) 6 || eqb (kindAt t k) 7) (nodeAt t k .link) 0

@@ -1,0 +1,410 @@
+// The tape file: its sections, its nodes and entries, and a cursor on a node.
+mod kinds;
+mod name;
+mod number;
+
+pub use kinds::Category;
+pub use kinds::Element;
+pub use kinds::Flags;
+pub use kinds::Kind;
+ghost use mathlib.Core.Path.{_≡_};
+ghost use lib.ListN.{getD};
+ghost use Rattle.parts.specs.Bytes.{part, same};
+ghost use Rattle.tape.specs.File.{le16 as le16Of, le32 as le32Of, nodeOf, entryOf, sectionsOf, entriesAt, namesAt, sourceAt, tapeIn, nodeAt, entryAt, kindAt, textAt, entryName, nameless, isSynthetic, isNested, bearsMarker, infoAt, numberAt};
+ghost use Rattle.tape.specs.Name.{markerName, entryIs};
+ghost use Rattle.tape.specs.Tree.{isClose, holds, matchingClose, childBefore, firstChild, lastOf, siblingPast, nextSibling};
+
+// A node of the tape.
+pub struct Node {
+    pub kind: Kind,
+    pub flags: Flags,
+    pub marker: u16,
+    pub link: u32,
+    pub start: u32,
+    pub len: u32,
+}
+
+// What the tape says of a marker: where its name stands, its category and its element.
+pub struct Entry {
+    pub start: u32,
+    pub len: u16,
+    pub category: Category,
+    pub element: Element,
+}
+
+// The length of the header, and the counts of nodes, entries, name bytes and source bytes.
+pub struct Sections {
+    pub head: u32,
+    pub nodes: u32,
+    pub entries: u32,
+    pub names: u32,
+    pub source: u32,
+}
+
+// A node of the tape, by its index.
+pub struct Cursor {
+    pub at: u32,
+}
+
+// What is known of a node's marker.
+pub enum Info {
+    Known(Entry),
+    Unknown,
+}
+
+pub enum Step {
+    At(Cursor),
+    Done,
+}
+
+// The number of the first four bytes, as a length.
+pub fn length_of(s: &[u8]) -> usize
+    ensures { λ r. ⌜ r ≡ le32Of (now (s .entry)) ⌝ }
+{
+    number::long(number::le32(s))
+}
+
+impl Sections {
+    // The counts that a file's header gives.
+    pub fn of(file: &[u8]) -> Self
+        ensures { λ r. ⌜ r ≡ sectionsOf (now (file .entry)) ⌝ }
+    {
+        Sections {
+            head: 36,
+            nodes: number::le32(parts::from(file, 4)),
+            entries: number::le32(parts::from(file, 12)),
+            names: number::le32(parts::from(file, 20)),
+            source: number::le32(parts::from(file, 28)),
+        }
+    }
+
+    // Where the entries stand.
+    pub fn entries_at(self) -> usize
+        ensures { λ r. ⌜ r ≡ entriesAt self ⌝ }
+    {
+        number::long(self.head) + 16 * number::long(self.nodes)
+    }
+
+    // Where the names stand.
+    pub fn names_at(self) -> usize
+        ensures { λ r. ⌜ r ≡ namesAt self ⌝ }
+    {
+        self.entries_at() + 8 * number::long(self.entries)
+    }
+
+    // Where the source stands.
+    pub fn source_at(self) -> usize
+        ensures { λ r. ⌜ r ≡ sourceAt self ⌝ }
+    {
+        self.names_at() + number::long(self.names)
+    }
+}
+
+impl Node {
+    // The node of the first 16 bytes.
+    pub fn of(s: &[u8]) -> Self
+        ensures { λ r. ⌜ r ≡ nodeOf (now (s .entry)) ⌝ }
+    {
+        Node {
+            kind: Kind::new(number::byte_at(s, 0)),
+            flags: Flags::new(number::byte_at(s, 1)),
+            marker: number::le16(parts::from(s, 2)),
+            link: number::le32(parts::from(s, 4)),
+            start: number::le32(parts::from(s, 8)),
+            len: number::le32(parts::from(s, 12)),
+        }
+    }
+}
+
+impl Entry {
+    // The entry of the first 8 bytes.
+    pub fn of(s: &[u8]) -> Self
+        ensures { λ r. ⌜ r ≡ entryOf (now (s .entry)) ⌝ }
+    {
+        Entry {
+            start: number::le32(s),
+            len: number::le16(parts::from(s, 4)),
+            category: Category::new(number::byte_at(s, 6)),
+            element: Element::new(number::byte_at(s, 7)),
+        }
+    }
+}
+
+// The node at an index.
+pub fn node_at(file: &[u8], tape: Sections, at: u32) -> Node
+    ensures { λ r. ⌜ r ≡ nodeAt (tapeIn tape (now (file .entry))) at ⌝ }
+{
+    if at < tape.nodes {
+        let place = number::long(tape.head) + 16 * number::long(at);
+        Node::of(parts::from(file, place))
+    } else {
+        Node {
+            kind: Kind { code: Kind::ERROR },
+            flags: Flags { bits: 0 },
+            marker: 65535,
+            link: 0,
+            start: 0,
+            len: 0,
+        }
+    }
+}
+
+// The entry at an index.
+pub fn entry_at(file: &[u8], tape: Sections, at: u32) -> Entry
+    ensures { λ r. ⌜ r ≡ entryAt (tapeIn tape (now (file .entry))) at ⌝ }
+{
+    if at < tape.entries {
+        let place = tape.entries_at() + 8 * number::long(at);
+        Entry::of(parts::from(file, place))
+    } else {
+        Entry {
+            start: 0,
+            len: 0,
+            category: Category {
+                code: Category::OTHER,
+            },
+            element: Element {
+                code: Element::OTHER,
+            },
+        }
+    }
+}
+
+// The name bytes of a file.
+pub fn names(file: &[u8], tape: Sections) -> &[u8]
+    ensures { λ r. ⌜ now r ≡ tapeIn tape (now (file .entry)) .names ⌝ }
+{
+    parts::part(file, tape.names_at(), number::long(tape.names))
+}
+
+// The source bytes of a file.
+pub fn source(file: &[u8], tape: Sections) -> &[u8]
+    ensures { λ r. ⌜ now r ≡ tapeIn tape (now (file .entry)) .source ⌝ }
+{
+    parts::part(file, tape.source_at(), number::long(tape.source))
+}
+
+// The name of an entry.
+pub fn entry_name(file: &[u8], tape: Sections, e: Entry) -> &[u8]
+    ensures { λ r. ⌜ now r ≡ entryName (tapeIn tape (now (file .entry))) e ⌝ }
+{
+    parts::part(
+        names(file, tape),
+        number::long(e.start),
+        number::short(e.len),
+    )
+}
+
+impl Kind {
+    // Whether a node of this kind ends another.
+    pub fn is_close(self) -> bool
+        ensures { λ r. ⌜ r ≡ isClose (self .code) ⌝ }
+    {
+        if self.code == Kind::MARKER_CLOSE {
+            return true;
+        }
+        self.code == Kind::BLOCK_END
+    }
+
+    // Whether a node of this kind holds others.
+    pub fn holds(self) -> bool
+        ensures { λ r. ⌜ r ≡ holds (self .code) ⌝ }
+    {
+        if self.code == Kind::ROOT {
+            return true;
+        }
+        self.code == Kind::MARKER_OPEN
+    }
+
+    // Whether a node of this kind bears a marker.
+    pub fn bears_marker(self) -> bool
+        ensures { λ r. ⌜ r ≡ bearsMarker (self .code) ⌝ }
+    {
+        if self.code < Kind::MARKER_OPEN {
+            return false;
+        }
+        self.code <= Kind::VERSE
+    }
+}
+
+impl Cursor {
+    pub fn new(at: u32) -> Self
+        ensures { λ r. ⌜ r .at ≡ at ⌝ }
+    {
+        Cursor { at }
+    }
+
+    pub fn node(self, file: &[u8], tape: Sections) -> Node
+        ensures { λ r. ⌜ r ≡ nodeAt (tapeIn tape (now (file .entry))) (self .at) ⌝ }
+    {
+        node_at(file, tape, self.at)
+    }
+
+    pub fn kind(self, file: &[u8], tape: Sections) -> Kind
+        ensures { λ r. ⌜ r .code ≡ kindAt (tapeIn tape (now (file .entry))) (self .at) ⌝ }
+    {
+        self.node(file, tape).kind
+    }
+
+    pub fn link(self, file: &[u8], tape: Sections) -> u32
+        ensures { λ r. ⌜ r ≡ nodeAt (tapeIn tape (now (file .entry))) (self .at) .link ⌝ }
+    {
+        self.node(file, tape).link
+    }
+
+    pub fn is_synthetic(self, file: &[u8], tape: Sections) -> bool
+        ensures { λ r. ⌜ r ≡ isSynthetic (tapeIn tape (now (file .entry))) (self .at) ⌝ }
+    {
+        self.node(file, tape).flags.bits % 2 == 1
+    }
+
+    pub fn is_nested(self, file: &[u8], tape: Sections) -> bool
+        ensures { λ r. ⌜ r ≡ isNested (tapeIn tape (now (file .entry))) (self .at) ⌝ }
+    {
+        self.node(file, tape).flags.bits / 2 % 2 == 1
+    }
+
+    // The number of a Chapter or Verse; 0 for other kinds.
+    pub fn number(self, file: &[u8], tape: Sections) -> u32
+        ensures { λ r. ⌜ r ≡ numberAt (tapeIn tape (now (file .entry))) (self .at) ⌝ }
+    {
+        let n = self.node(file, tape);
+        if n.kind.code == Kind::CHAPTER {
+            return n.link;
+        }
+        if n.kind.code == Kind::VERSE {
+            return n.link;
+        }
+        0
+    }
+
+    // What the tape says of the node's marker.
+    pub fn marker_info(self, file: &[u8], tape: Sections) -> Info
+        ensures { λ r. ⌜ r ≡ infoAt (tapeIn tape (now (file .entry))) (self .at) ⌝ }
+    {
+        let n = self.node(file, tape);
+        let marker = number::wider(n.marker);
+        if n.kind.bears_marker() {
+            if marker < tape.entries {
+                Info::Known(entry_at(file, tape, marker))
+            } else {
+                Info::Unknown
+            }
+        } else {
+            Info::Unknown
+        }
+    }
+
+    // The node's span of the source.
+    pub fn text(self, file: &[u8], tape: Sections) -> &[u8]
+        ensures { λ r. ⌜ now r ≡ textAt (tapeIn tape (now (file .entry))) (self .at) ⌝ }
+    {
+        let n = self.node(file, tape);
+        parts::part(
+            source(file, tape),
+            number::long(n.start),
+            number::long(n.len),
+        )
+    }
+
+    // The node that a MarkerOpen links to.
+    pub fn matching_close(self, file: &[u8], tape: Sections) -> Step
+        ensures { λ r. ⌜ r ≡ matchingClose (tapeIn tape (now (file .entry))) (self .at) ⌝ }
+    {
+        let n = self.node(file, tape);
+        if n.kind.code == Kind::MARKER_OPEN {
+            Step::At(Cursor { at: n.link })
+        } else {
+            Step::Done
+        }
+    }
+
+    pub fn first_child(self, file: &[u8], tape: Sections) -> Step
+        ensures { λ r. ⌜ r ≡ firstChild (tapeIn tape (now (file .entry))) (self .at) ⌝ }
+    {
+        let n = self.node(file, tape);
+        if n.kind.holds() {
+            child_before(tape.nodes, self.at, n.link)
+        } else {
+            Step::Done
+        }
+    }
+
+    pub fn next_sibling(self, file: &[u8], tape: Sections) -> Step
+        ensures { λ r. ⌜ r ≡ nextSibling (tapeIn tape (now (file .entry))) (self .at) ⌝ }
+    {
+        past(file, tape, self.at, self.last(file, tape))
+    }
+
+    // The last node of what this one holds: its link, or itself.
+    fn last(self, file: &[u8], tape: Sections) -> u32
+        ensures { λ r. ⌜ r ≡ lastOf (tapeIn tape (now (file .entry))) (self .at) ⌝ }
+    {
+        let n = self.node(file, tape);
+        if n.kind.holds() { n.link } else { self.at }
+    }
+
+    // The marker name: the part of the node's text between an optional `\`, an optional `+`, and white space, `*`, `|`, `\` or the end.
+    pub fn marker_name(self, file: &[u8], tape: Sections) -> &[u8]
+        ensures { λ r. ⌜ now r ≡ markerName (tapeIn tape (now (file .entry))) (self .at) ⌝ }
+    {
+        name::name_in(self.text(file, tape))
+    }
+
+    // Whether the marker name is this one.
+    pub fn is_named(self, file: &[u8], tape: Sections, name: &[u8]) -> bool
+        ensures { λ r. ⌜ r ≡ same (markerName (tapeIn tape (now (file .entry))) (self .at)) (now (name .entry)) ⌝ }
+    {
+        parts::same(self.marker_name(file, tape), name)
+    }
+
+    // Whether the node has an entry of this name.
+    pub fn has_entry(self, file: &[u8], tape: Sections, name: &[u8]) -> bool
+        ensures { λ r. ⌜ r ≡ entryIs (tapeIn tape (now (file .entry))) (self .at) (now (name .entry)) ⌝ }
+    {
+        match self.marker_info(file, tape) {
+            Info::Known(e) => parts::same(entry_name(file, tape, e), name),
+            Info::Unknown => false,
+        }
+    }
+}
+
+// The node behind `at`, if it stands before the link and on a tape of so many nodes.
+fn child_before(nodes: u32, at: u32, link: u32) -> Step
+    ensures { λ r. ⌜ r ≡ childBefore nodes at link ⌝ }
+{
+    if link <= at {
+        return Step::Done;
+    }
+    let next = at + 1;
+    if link <= next {
+        return Step::Done;
+    }
+    if next < nodes {
+        Step::At(Cursor { at: next })
+    } else {
+        Step::Done
+    }
+}
+
+// The node behind `last`, if it is on the tape, stands behind `at` and closes nothing.
+fn past(file: &[u8], tape: Sections, at: u32, last: u32) -> Step
+    ensures { λ r. ⌜ r ≡ siblingPast (tapeIn tape (now (file .entry))) at last ⌝ }
+{
+    if last < at {
+        return Step::Done;
+    }
+    if tape.nodes <= last {
+        return Step::Done;
+    }
+    let next = last + 1;
+    if tape.nodes <= next {
+        return Step::Done;
+    }
+    let c = Cursor { at: next };
+    if c.kind(file, tape).is_close() {
+        Step::Done
+    } else {
+        Step::At(c)
+    }
+}

@@ -1,0 +1,60 @@
+// The rule of marker names.
+ghost use mathlib.Core.Path.{_≡_};
+ghost use Rattle.tape.specs.Name.{strip as stripped, bare as bareOf, endsName, nameLen, nameIn};
+
+// A text without a byte that it may begin with.
+fn strip(s: &[u8], x: u8) -> &[u8]
+    ensures { λ r. ⌜ now r ≡ stripped x (now (s .entry)) ⌝ }
+{
+    if parts::begins_with(s, &[x]) {
+        parts::from(s, 1)
+    } else {
+        s
+    }
+}
+
+// A text behind an optional `\` and an optional `+`.
+fn bare(s: &[u8]) -> &[u8]
+    ensures { λ r. ⌜ now r ≡ bareOf (now (s .entry)) ⌝ }
+{
+    strip(strip(s, b'\\'), b'+')
+}
+
+// Whether a code point ends a name.
+fn ends_name(code: u32) -> bool
+    ensures { λ r. ⌜ r ≡ endsName code ⌝ }
+{
+    if chars::is_white(code) {
+        return true;
+    }
+    if code == 0x2A {
+        return true;
+    }
+    if code == 0x7C {
+        return true;
+    }
+    code == 0x5C
+}
+
+// How long the name at the front of a text is.
+fn name_len(s: &[u8]) -> usize
+    ensures { λ r. ⌜ r ≡ nameLen (now (s .entry)) ⌝ }
+{
+    let mut i = 0;
+    while i < s.len() {
+        let c = chars::first_char(parts::from(s, i));
+        if ends_name(c.code) {
+            return i;
+        }
+        i += c.width;
+    }
+    i
+}
+
+// The name in a text, as the very part of it.
+pub fn name_in(s: &[u8]) -> &[u8]
+    ensures { λ r. ⌜ now r ≡ nameIn (now (s .entry)) ⌝ }
+{
+    let t = bare(s);
+    parts::part(t, 0, name_len(t))
+}

@@ -1,0 +1,52 @@
+// Numbers of the tape file, little-endian. What is missing at a file's end counts 0.
+ghost use mathlib.Core.Path.{_≡_};
+ghost use Prim.Native.Nat.{_<_, _^_};
+ghost use lib.ListN.{getD};
+ghost use Rattle.tape.specs.File.{le16 as le16Of, le32 as le32Of};
+
+pub fn byte_at(s: &[u8], i: usize) -> u8
+    ensures { λ r. ⌜ r ≡ getD (now (s .entry)) i 0 ⌝ }
+{
+    if i < s.len() { s[i] } else { 0 }
+}
+
+fn wide(x: u8) -> u16
+    ensures { λ r. ⌜ r ≡ x ⌝ }
+    ensures { λ r. ⌜ r < 256 ⌝ }
+{
+    x as u16
+}
+
+pub fn wider(x: u16) -> u32
+    ensures { λ r. ⌜ r ≡ x ⌝ }
+    ensures { λ r. ⌜ r < 65536 ⌝ }
+{
+    x as u32
+}
+
+// A u32 as a place.
+pub fn long(x: u32) -> usize
+    ensures { λ r. ⌜ r ≡ x ⌝ }
+    ensures { λ r. ⌜ r < 2 ^ 32 ⌝ }
+{
+    x as usize
+}
+
+pub fn le16(s: &[u8]) -> u16
+    ensures { λ r. ⌜ r ≡ le16Of (now (s .entry)) ⌝ }
+{
+    wide(byte_at(s, 0)) + 256 * wide(byte_at(s, 1))
+}
+
+pub fn le32(s: &[u8]) -> u32
+    ensures { λ r. ⌜ r ≡ le32Of (now (s .entry)) ⌝ }
+{
+    wider(le16(s)) + 65536 * wider(le16(parts::from(s, 2)))
+}
+
+// A u16 as a length.
+pub fn short(x: u16) -> usize
+    ensures { λ r. ⌜ r ≡ x ⌝ }
+{
+    x as usize
+}

@@ -1,0 +1,10 @@
+pub mod Rows
+pub mod Runs
+pub mod Steps
+pub mod Texts
+pub mod Places
+pub mod Blank
+pub mod Twice
+pub mod Joins
+pub mod Turns
+pub mod Answers

@@ -1,0 +1,58 @@
+use Prim.Native.Nat.{_+_, _≤_, _-_}
+use mathlib.Core.Path.{_≡_}
+use native.Mathlib.Omega.{arith}
+use borrow.Author.Needs.{needs}
+use lib.ListN.{length, drop}
+use Rattle.words.specs.First.{runOf}
+use Rattle.words.proofs.Turns.{front-fits, front-less, run-turn, run-stop, run-end}
+use Rattle.words.proofs.run_len.Statement.{statement}
+use Rattle.words.proofs.run_len.Tie as tie
+
+abbrev Inv-loop : tie.InvT-loop
+Inv-loop s set white at₀ at = (at ≤ length s) × (at + runOf set white (drop at s) ≡ runOf set white s)
+
+abbrev μ-loop : tie.MeasureT-loop
+μ-loop s set white at₀ at = length s - at
+
+loop-holds : tie.Need-loop-holds Inv-loop μ-loop
+loop-holds c = omega arith
+
+from-requires : tie.Need-from-requires Inv-loop μ-loop
+from-requires c κs = search needs
+
+front-requires : tie.Need-front-requires Inv-loop μ-loop
+front-requires c κs = search needs
+
+returns : tie.Need-returns Inv-loop μ-loop
+returns c = search run-stop
+
+add-at : tie.Need-add-at Inv-loop μ-loop
+add-at c =
+    omega (
+      arith,
+      front-fits _ _ _ (c .before .before .before .before .from .ensures) (c .before .before .before .front .ensures) (c .before .before .before .before .before .loop-test .taken),
+    )
+
+loop-less : tie.Need-loop-less Inv-loop μ-loop
+loop-less c = search front-less
+
+loop-again : tie.Need-loop-again Inv-loop μ-loop
+loop-again c = (search front-fits, search run-turn)
+
+returns-2 : tie.Need-returns-2 Inv-loop μ-loop
+returns-2 c = search run-end
+
+pub run-len-spec : {M : Type 1} → statement M
+run-len-spec =
+    tie.close
+    (tie.spec
+    Inv-loop
+    μ-loop
+    loop-holds
+    from-requires
+    front-requires
+    returns
+    add-at
+    loop-less
+    loop-again
+    returns-2)

@@ -1,0 +1,17 @@
+-- What the code reads at the front of a text.
+use Prim.Native.Nat.{ℕ}
+use mathlib.Core.Bool.{Bool, true, false}
+use lib.ListN.{take}
+use Rattle.parts.specs.Bytes.{Bytes}
+use Rattle.words.specs.Words.{stepOf, white, whiteLen, wordLen}
+use Rattle.words.specs.declared.Set.{Set}
+use Rattle.words.specs.declared.FirstChar.{FirstChar}
+
+-- the first character's length, and whether it is white space
+unfoldable pub frontOf : Set → Bytes → FirstChar
+frontOf set s = record { width = stepOf set s; white = white set (take (stepOf set s) s) }
+
+-- the bytes of white space at the front, or those before it
+unfoldable pub runOf : Set → Bool → Bytes → ℕ
+runOf set true s = whiteLen set s
+runOf set false s = wordLen set s
