@@ -1,0 +1,30 @@
+//! The functions of libbench_api.a. A slice passes as pointer and length.
+
+mod raw {
+    extern "C" {
+        pub fn bench_escape_xml(out: *mut u8, room: usize, at: usize, from: usize, s: *const u8, len: usize) -> usize;
+        pub fn bench_escape_xml_attr(out: *mut u8, room: usize, at: usize, from: usize, s: *const u8, len: usize) -> usize;
+        pub fn bench_is_utf8(s: *const u8, len: usize) -> usize;
+        pub fn bench_put_number(out: *mut u8, room: usize, at: usize, from: usize, n: u32) -> usize;
+    }
+}
+
+/// The text with its escapes behind `at` bytes, in a window that starts at `from`; the bytes written so far.
+pub fn escape_xml(out: &mut [u8], at: usize, from: usize, s: &[u8]) -> usize {
+    unsafe { raw::bench_escape_xml(out.as_mut_ptr(), out.len(), at, from, s.as_ptr(), s.len()) }
+}
+
+/// The same for an attribute's value.
+pub fn escape_xml_attr(out: &mut [u8], at: usize, from: usize, s: &[u8]) -> usize {
+    unsafe { raw::bench_escape_xml_attr(out.as_mut_ptr(), out.len(), at, from, s.as_ptr(), s.len()) }
+}
+
+/// The same for a number in decimal digits.
+pub fn put_number(out: &mut [u8], at: usize, from: usize, n: u32) -> usize {
+    unsafe { raw::bench_put_number(out.as_mut_ptr(), out.len(), at, from, n) }
+}
+
+/// Whether a text is UTF-8.
+pub fn is_utf8(s: &[u8]) -> bool {
+    unsafe { raw::bench_is_utf8(s.as_ptr(), s.len()) == 1 }
+}

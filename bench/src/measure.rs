@@ -1,0 +1,36 @@
+//! The best time of several runs of two sides, taken in turn.
+
+use std::time::Instant;
+
+pub struct Row {
+    pub name: String,
+    pub bytes: usize,
+    pub ours: f64,
+    pub rust: f64,
+}
+
+const RUNS: usize = 25;
+
+fn time(f: &mut dyn FnMut()) -> f64 {
+    let t = Instant::now();
+    f();
+    t.elapsed().as_secs_f64()
+}
+
+/// The best of several runs each; the sides take turns, so that both see the same machine.
+pub fn row(name: String, bytes: usize, ours: &mut dyn FnMut(), rust: &mut dyn FnMut()) -> Row {
+    let (mut a, mut b) = (f64::MAX, f64::MAX);
+    for _ in 0..RUNS {
+        a = a.min(time(ours));
+        b = b.min(time(rust));
+    }
+    Row { name, bytes, ours: a, rust: b }
+}
+
+pub fn print(rows: &[Row]) {
+    println!("{:<46} {:>10} {:>10} {:>10}", "", "ours ns/B", "Rust ns/B", "ours/Rust");
+    for r in rows {
+        let per = |t: f64| t * 1e9 / r.bytes as f64;
+        println!("{:<46} {:>10.3} {:>10.3} {:>10.2}", r.name, per(r.ours), per(r.rust), r.ours / r.rust);
+    }
+}

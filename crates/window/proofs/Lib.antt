@@ -1,0 +1,4 @@
+pub mod Paint
+pub mod Run
+pub mod Escape
+pub mod Decimal

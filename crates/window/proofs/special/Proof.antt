@@ -1,0 +1,11 @@
+use mathlib.Core.Path.{refl}
+use Rattle.window.specs.Plain.{special}
+use Rattle.window.proofs.special.Statement.{statement}
+use Rattle.window.proofs.special.Tie as tie
+
+returns : tie.Need-returns
+unfolding special
+returns c = refl
+
+pub special-spec : {M : Type 1} → statement M
+special-spec = tie.close (tie.spec returns)
