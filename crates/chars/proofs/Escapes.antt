@@ -8,7 +8,7 @@ use lib.ListN.{length, length-append}
 use lib.Dec.{eqb}
 use borrow.Author.Tests.{eq-eqb}
 use Rattle.parts.specs.Bytes.{Bytes, b}
-use Rattle.chars.specs.Escape.{escaped, escape, plain}
+use Rattle.chars.specs.Escape.{escaped, escape, special}
 use Rattle.chars.proofs.Lists.{all, all-at, all-append}
 
 pub escape-append : (attr : Bool) (s z : Bytes) → escape attr (s ++ z) ≡ escape attr s ++ escape attr z
@@ -48,20 +48,20 @@ escape-least attr (x ∷ s) =
 
 -- ---- plain text
 
-pub escaped-plain : (attr : Bool) (x : ℕ) → plain attr x ≡ true → escaped attr x ≡ x ∷ []
-unfolding escaped plain
-escaped-plain attr x = go (eqb x 60) (eqb x 62) (eqb x 38) (attr && eqb x 34)
+-- a byte that has no name is written as it is
+pub escaped-plain : (attr : Bool) (x : ℕ) → special attr x ≡ false → escaped attr x ≡ x ∷ []
+unfolding special escaped
+escaped-plain attr x e = go (eqb x 60) (eqb x 62) (eqb x 38) (attr && eqb x 34) (b "&lt;") (b "&gt;") (b "&amp;") (b "&quot;") e
   where
-    go : (l g a q : Bool) → not (l || (g || (a || q))) ≡ true
-        → cond l (b "&lt;") (cond g (b "&gt;") (cond a (b "&amp;") (cond q (b "&quot;") (x ∷ [])))) ≡ x ∷ []
-    go true g a q e = absurd (let no-way : _≡_ {A = ℕ} 0 1 = cc in omega arith)
-    go false true a q e = absurd (let no-way : _≡_ {A = ℕ} 0 1 = cc in omega arith)
-    go false false true q e = absurd (let no-way : _≡_ {A = ℕ} 0 1 = cc in omega arith)
-    go false false false true e = absurd (let no-way : _≡_ {A = ℕ} 0 1 = cc in omega arith)
-    go false false false false e = refl
+    go : (p q r t : Bool) (k l m n : Bytes) → p || (q || (r || t)) ≡ false → cond p k (cond q l (cond r m (cond t n (x ∷ [])))) ≡ x ∷ []
+    go true q r t k l m n e = absurd (let no-way : _≡_ {A = ℕ} 0 1 = cc in omega arith)
+    go false true r t k l m n e = absurd (let no-way : _≡_ {A = ℕ} 0 1 = cc in omega arith)
+    go false false true t k l m n e = absurd (let no-way : _≡_ {A = ℕ} 0 1 = cc in omega arith)
+    go false false false true k l m n e = absurd (let no-way : _≡_ {A = ℕ} 0 1 = cc in omega arith)
+    go false false false false k l m n e = refl
 
--- a text of plain bytes is written as itself
-pub escape-plain : (attr : Bool) (s : Bytes) → ((x : ℕ) → List·Memᴰ x s → plain attr x ≡ true) → escape attr s ≡ s
+-- a text of such bytes is written as itself
+pub escape-plain : (attr : Bool) (s : Bytes) → ((x : ℕ) → List·Memᴰ x s → special attr x ≡ false) → escape attr s ≡ s
 unfolding escape
 escape-plain attr [] f = refl
 escape-plain attr (x ∷ s) f =

@@ -4,7 +4,7 @@ use mathlib.Core.Bool.{Bool, true, false, cond, not, _&&_, and-false, and-true, 
 use mathlib.Core.List.{[], _∷_}
 use Prim.Native.Nat.{ℕ, _+_, _-_, _*_, _≤_, _<_}
 use native.Mathlib.Omega.{arith}
-use lib.ListN.{length, getD, take, drop, drop-of-length-le, length-drop, List·getD-eq-default}
+use lib.ListN.{length, getD, take, drop, drop-of-length-le, length-drop}
 use lib.Seq.{drop-drop}
 use lib.Dec.{leb, eqb}
 use borrow.Author.Tests.{eq-eqb, ne-eqb, lt-ltb, le-ltb, le-leb, lt-leb, eqb-true, eqb-false, leb-true, leb-false, not-true, not-false}
@@ -17,9 +17,6 @@ use Rattle.chars.proofs.Characters.{seq-le, seq-le-four, seq-is, byte-i
 use Rattle.chars.specs.Space.{isAsciiWhite}
 
 -- ---- ranges
-
-pub past-end : (s : Bytes) (i : ℕ) → length s ≤ i → 0 ≡ getD s i 0
-past-end s i h = sym (List·getD-eq-default s 0 h)
 
 module _ (l h x : ℕ) where
   pub below : x < l → within (l to h) x ≡ false

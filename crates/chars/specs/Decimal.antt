@@ -1,7 +1,7 @@
 -- The decimal digits of a number.
 use Prim.Native.Nat.{ℕ, zero, suc, _+_, _-_, _*_, _/_, _%_}
-use mathlib.Core.List.{List, [], _∷_, _++_}
-use mathlib.Core.Bool.{Bool, true, false}
+use mathlib.Core.List.{[], _∷_, _++_}
+use mathlib.Core.Bool.{true, false}
 use lib.Dec.{ltb}
 use Rattle.parts.specs.Bytes.{Bytes}
 

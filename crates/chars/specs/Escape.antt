@@ -1,7 +1,7 @@
 -- The XML escapes of the text, `escape_xml` and `escape_xml_attr`.
 use Prim.Native.Nat.{ℕ}
-use mathlib.Core.List.{List, [], _∷_, _++_}
-use mathlib.Core.Bool.{Bool, cond, not, _&&_, _||_}
+use mathlib.Core.List.{[], _∷_, _++_}
+use mathlib.Core.Bool.{Bool, cond, _&&_, _||_}
 use lib.Dec.{eqb}
 use Rattle.parts.specs.Bytes.{Bytes, b}
 
@@ -15,6 +15,6 @@ unfoldable pub escape : Bool → Bytes → Bytes
 escape attr [] = []
 escape attr (x ∷ s) = escaped attr x ++ escape attr s
 
--- whether a byte is written as itself
-unfoldable pub plain : Bool → ℕ → Bool
-plain attr x = not (eqb x 60 || (eqb x 62 || (eqb x 38 || (attr && eqb x 34))))
+-- whether a byte is written by name
+unfoldable pub special : Bool → ℕ → Bool
+special attr x = eqb x 60 || (eqb x 62 || (eqb x 38 || (attr && eqb x 34)))

@@ -1,7 +1,7 @@
 -- Ranges of numbers, as Unicode's tables give them.
 use Prim.Native.Nat.{ℕ}
 use mathlib.Core.List.{List, [], _∷_}
-use mathlib.Core.Bool.{Bool, true, false, _&&_, _||_}
+use mathlib.Core.Bool.{Bool, false, _&&_, _||_}
 use lib.Dec.{leb}
 
 -- the numbers from low to high, both among them

@@ -7,6 +7,7 @@ ghost use lib.ListN.{getD, drop};
 ghost use Rattle.chars.specs.Range.{_to_, within};
 ghost use Rattle.chars.specs.Utf8.{seqLen, point, firstChar, isUtf8 as isUtf8Of, isBoundary};
 ghost use Rattle.chars.specs.Space.{isWhite, isAsciiWhite};
+use parts::byte_at;
 use parts::from;
 
 // A character: its code point, and how many bytes it takes.
@@ -43,13 +44,6 @@ const WHITE: [u32; 25] = [
     0x205F,
     0x3000,
 ];
-
-// The byte at a place, and 0 past the end: 0 lies in no range of table 3-7 but the first.
-fn byte_at(s: &[u8], i: usize) -> u8
-    ensures { λ r. ⌜ r ≡ getD (now (s .entry)) i 0 ⌝ }
-{
-    if i < s.len() { s[i] } else { 0 }
-}
 
 // Whether a byte lies in a range.
 fn lies(x: u8, low: u8, high: u8) -> bool
@@ -134,6 +128,7 @@ pub fn seq_len(s: &[u8]) -> usize
     if x < 0x80 {
         return 1;
     }
+    // Past the end byte_at gives 0, which lies in no later range.
     if x < 0xE0 {
         return two(x, byte_at(s, 1));
     }

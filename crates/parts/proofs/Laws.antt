@@ -1,17 +1,21 @@
 -- Laws of parts, of words at the front and of first places.
 use mathlib.Core.Path.{_≡_, refl, sym, ap, _∙_}
 use mathlib.Core.Bool.{Bool, true, false, _&&_}
-use mathlib.Core.List.{List, [], _∷_, _++_}
+use mathlib.Core.List.{[], _∷_, _++_}
 use Prim.Native.Nat.{ℕ, zero, suc, _+_, _-_, _≤_, _<_}
 use native.Mathlib.Omega.{arith}
 use native.Mathlib.Numerals.{add-one}
-use lib.ListN.{length, getD, take, drop, drop-of-length-le, length-drop}
+use lib.ListN.{length, getD, take, drop, drop-of-length-le, length-drop, List·getD-eq-default}
 use lib.Seq.{drop-cons, take-all, length-take-le}
 use lib.Dec.{eqb}
 use borrow.Author.Tests.{eq-eqb, ne-eqb, eqb-true, eqb-false}
-use Rattle.parts.specs.Bytes.{Bytes, part, same, begins, firstAt, find}
+use Rattle.parts.specs.Bytes.{Bytes, same, begins, firstAt, find}
 
 -- ---- parts
+
+-- past the end stands the default
+pub past-end : (s : Bytes) (i : ℕ) → length s ≤ i → 0 ≡ getD s i 0
+past-end s i h = sym (List·getD-eq-default s 0 h)
 
 pub drop-part : (s : Bytes) (i : ℕ) → take (length s - i) (drop i s) ≡ drop i s
 drop-part s i = take-all (length s - i) (drop i s) (omega (arith, length-drop i s))

@@ -1,8 +1,15 @@
 // Parts of a lent slice, and what stands in one.
 ghost use mathlib.Core.Path.{_≡_};
 ghost use mathlib.Core.List.{[], _∷_};
-ghost use lib.ListN.{drop};
+ghost use lib.ListN.{getD, drop};
 ghost use Rattle.parts.specs.Bytes.{part as partOf, same as isSame, begins, find};
+
+// The byte at a place, and 0 past the end.
+pub fn byte_at(s: &[u8], i: usize) -> u8
+    ensures { λ r. ⌜ r ≡ getD (now (s .entry)) i 0 ⌝ }
+{
+    if i < s.len() { s[i] } else { 0 }
+}
 
 // What stands from a place on.
 pub fn from(s: &[u8], at: usize) -> &[u8]

@@ -84,10 +84,6 @@ unfolding recordsOf
 records-length read size zero s = refl
 records-length read size (suc n) s = ap suc (records-length read size n (drop size s))
 
--- past the end of a list of so many stands the default
-pub past-end : (s : Bytes) (i : ℕ) → length s ≤ i → 0 ≡ getD s i 0
-past-end s i h = sym (List·getD-eq-default s 0 h)
-
 -- ---- the record at an index, in the file
 
 module _ (c : Sections) (file : Bytes) (k : ℕ) where

@@ -106,8 +106,8 @@ impl Node {
         ensures { λ r. ⌜ r ≡ nodeOf (now (s .entry)) ⌝ }
     {
         Node {
-            kind: Kind::new(number::byte_at(s, 0)),
-            flags: Flags::new(number::byte_at(s, 1)),
+            kind: Kind::new(parts::byte_at(s, 0)),
+            flags: Flags::new(parts::byte_at(s, 1)),
             marker: number::le16(parts::from(s, 2)),
             link: number::le32(parts::from(s, 4)),
             start: number::le32(parts::from(s, 8)),
@@ -124,8 +124,8 @@ impl Entry {
         Entry {
             start: number::le32(s),
             len: number::le16(parts::from(s, 4)),
-            category: Category::new(number::byte_at(s, 6)),
-            element: Element::new(number::byte_at(s, 7)),
+            category: Category::new(parts::byte_at(s, 6)),
+            element: Element::new(parts::byte_at(s, 7)),
         }
     }
 }

@@ -1,14 +1,7 @@
 // Numbers of the tape file, little-endian. What is missing at a file's end counts 0.
 ghost use mathlib.Core.Path.{_≡_};
 ghost use Prim.Native.Nat.{_<_, _^_};
-ghost use lib.ListN.{getD};
 ghost use Rattle.tape.specs.File.{le16 as le16Of, le32 as le32Of};
-
-pub fn byte_at(s: &[u8], i: usize) -> u8
-    ensures { λ r. ⌜ r ≡ getD (now (s .entry)) i 0 ⌝ }
-{
-    if i < s.len() { s[i] } else { 0 }
-}
 
 fn wide(x: u8) -> u16
     ensures { λ r. ⌜ r ≡ x ⌝ }
@@ -35,7 +28,7 @@ pub fn long(x: u32) -> usize
 pub fn le16(s: &[u8]) -> u16
     ensures { λ r. ⌜ r ≡ le16Of (now (s .entry)) ⌝ }
 {
-    wide(byte_at(s, 0)) + 256 * wide(byte_at(s, 1))
+    wide(parts::byte_at(s, 0)) + 256 * wide(parts::byte_at(s, 1))
 }
 
 pub fn le32(s: &[u8]) -> u32

@@ -11,24 +11,13 @@ use lib.Dec.{eqb}
 use borrow.Author.Tests.{ne-eqb}
 use Rattle.parts.specs.Bytes.{Bytes, b, firstAt}
 use Rattle.parts.proofs.Laws.{drop-part, drop-at, and-false, first-turn, first-stop, first-end, first-le, first-found}
-use Rattle.chars.specs.Escape.{escape, escaped}
+use Rattle.chars.specs.Escape.{special, escape, escaped}
+use Rattle.chars.proofs.Escapes.{escaped-plain}
 use Rattle.window.specs.Page.{Page, paint}
-use Rattle.window.specs.Plain.{special, anySpecial, plainLen, PlainTo, RunTo, nameOf, nameStart, nameEnd}
+use Rattle.window.specs.Plain.{anySpecial, plainLen, PlainTo, RunTo, nameOf, nameStart, nameEnd}
 use Rattle.window.proofs.Paint.{paint-two}
 
 -- ---- one byte
-
--- a plain byte is written as it is
-pub plain-escaped : (attr : Bool) (x : ℕ) → special attr x ≡ false → escaped attr x ≡ x ∷ []
-unfolding special escaped
-plain-escaped attr x e = go (eqb x 60) (eqb x 62) (eqb x 38) (attr && eqb x 34) (b "&lt;") (b "&gt;") (b "&amp;") (b "&quot;") e
-  where
-    go : (p q r t : Bool) (k l m n : Bytes) → p || (q || (r || t)) ≡ false → cond p k (cond q l (cond r m (cond t n (x ∷ [])))) ≡ x ∷ []
-    go true q r t k l m n e = absurd (let no-way : _≡_ {A = ℕ} 0 1 = cc in omega arith)
-    go false true r t k l m n e = absurd (let no-way : _≡_ {A = ℕ} 0 1 = cc in omega arith)
-    go false false true t k l m n e = absurd (let no-way : _≡_ {A = ℕ} 0 1 = cc in omega arith)
-    go false false false true k l m n e = absurd (let no-way : _≡_ {A = ℕ} 0 1 = cc in omega arith)
-    go false false false false k l m n e = refl
 
 -- a byte that has a name is written by it
 pub special-escaped : (attr : Bool) (x : ℕ) → special attr x ≡ true → escaped attr x ≡ nameOf x
@@ -94,7 +83,7 @@ escape-plain attr (x ∷ s) = go (special attr x) refl (escape-plain attr s)
         → escape attr (x ∷ s) ≡ take (elim t as (λ t. ℕ) [ true ↦ 0 | false ↦ suc (plainLen attr s) ]) (x ∷ s)
         ++ escape attr (drop (elim t as (λ t. ℕ) [ true ↦ 0 | false ↦ suc (plainLen attr s) ]) (x ∷ s))
     go true e h = refl
-    go false e h = rw (plain-escaped attr x e) (ap (λ (z : Bytes). x ∷ z) h)
+    go false e h = rw (escaped-plain attr x e) (ap (λ (z : Bytes). x ∷ z) h)
 
 pub plain-le : (attr : Bool) (s : Bytes) → plainLen attr s ≤ length s
 unfolding plainLen

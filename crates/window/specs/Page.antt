@@ -1,6 +1,6 @@
 -- The text as it is written through a window: byte number `at` of the text goes to the buffer at `at - from`.
 use Prim.Native.Nat.{ℕ, _+_, _-_, _^_, min}
-use mathlib.Core.List.{List, [], _∷_}
+use mathlib.Core.List.{[], _∷_}
 use mathlib.Core.Bool.{cond}
 use lib.ListN.{set}
 use lib.Dec.{leb}

@@ -1,17 +1,14 @@
 -- The bytes that an escape leaves as they are.
 use Prim.Native.Nat.{ℕ, _+_, _≤_, max}
 use mathlib.Core.Path.{_≡_}
-use mathlib.Core.Bool.{Bool, false, cond, _&&_, _||_}
+use mathlib.Core.Bool.{Bool, false, cond, _||_}
 use mathlib.Core.List.{[], _∷_}
 use lib.ListN.{length, getD, drop}
 use lib.Dec.{eqb}
 use Rattle.parts.specs.Bytes.{Bytes, b, firstAt}
+use Rattle.chars.specs.Escape.{special}
 
--- whether a byte is written by name
-unfoldable pub special : Bool → ℕ → Bool
-special attr x = eqb x 60 || (eqb x 62 || (eqb x 38 || (attr && eqb x 34)))
-
--- whether a text has such a byte
+-- whether a text has a byte that is written by name
 unfoldable pub anySpecial : Bool → Bytes → Bool
 anySpecial attr [] = false
 anySpecial attr (x ∷ s) = special attr x || anySpecial attr s

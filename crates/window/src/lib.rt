@@ -4,11 +4,11 @@ ghost use mathlib.Core.Bool.{true, false, cond};
 ghost use mathlib.Core.List.{[], _∷_};
 ghost use Prim.Native.Nat.{_+_, _-_, _^_, _<_, min};
 ghost use lib.ListN.{drop};
-ghost use Rattle.chars.specs.Escape.{escape};
+ghost use Rattle.chars.specs.Escape.{special as isSpecial, escape};
 ghost use Rattle.chars.specs.Decimal.{decimal};
 ghost use Rattle.window.specs.Page.{pageOf, paint, stamp as stampOf};
 ghost use Rattle.window.specs.Lay.{lay, over};
-ghost use Rattle.window.specs.Plain.{special as isSpecial, anySpecial, plainLen, PlainTo, RunTo, nameStart, nameEnd, nameOf};
+ghost use Rattle.window.specs.Plain.{anySpecial, plainLen, PlainTo, RunTo, nameStart, nameEnd, nameOf};
 
 // How many bytes of the text are written, and which byte of it the buffer starts with.
 pub struct Window {

@@ -1,9 +1,9 @@
 use Prim.Native.Nat.{_+_, _≤_, _-_}
-use mathlib.Core.Path.{_≡_, refl}
+use mathlib.Core.Path.{_≡_}
 use mathlib.Core.List.{[], _∷_}
 use native.Mathlib.Omega.{arith}
 use lib.ListN.{length, drop}
-use Rattle.parts.specs.Bytes.{begins, find}
+use Rattle.parts.specs.Bytes.{find}
 use Rattle.parts.proofs.Laws.{byte-turn, byte-stop, first-end}
 use Rattle.parts.proofs.find_byte.Statement.{statement}
 use Rattle.parts.proofs.find_byte.Tie as tie

@@ -4,7 +4,7 @@ use mathlib.Core.List.{[], _∷_}
 use native.Mathlib.Omega.{arith}
 use borrow.Author.Needs.{needs}
 use lib.ListN.{length, drop}
-use Rattle.parts.specs.Bytes.{begins, find}
+use Rattle.parts.specs.Bytes.{find}
 use Rattle.parts.proofs.Laws.{first-turn, first-stop, first-end}
 use Rattle.parts.proofs.find_pair.Statement.{statement}
 use Rattle.parts.proofs.find_pair.Tie as tie

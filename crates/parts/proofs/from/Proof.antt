@@ -1,4 +1,3 @@
-use mathlib.Core.Path.{sym}
 use Rattle.parts.proofs.Laws.{drop-part, drop-past}
 use borrow.Author.Needs.{needs}
 use Rattle.parts.proofs.from.Statement.{statement}

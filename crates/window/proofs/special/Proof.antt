@@ -1,5 +1,5 @@
 use mathlib.Core.Path.{refl}
-use Rattle.window.specs.Plain.{special}
+use Rattle.chars.specs.Escape.{special}
 use Rattle.window.proofs.special.Statement.{statement}
 use Rattle.window.proofs.special.Tie as tie
 

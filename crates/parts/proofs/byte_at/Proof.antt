@@ -1,7 +1,7 @@
-use Rattle.chars.proofs.Laws.{past-end}
+use Rattle.parts.proofs.Laws.{past-end}
 use borrow.Author.Needs.{needs}
-use Rattle.chars.proofs.byte_at.Statement.{statement}
-use Rattle.chars.proofs.byte_at.Tie as tie
+use Rattle.parts.proofs.byte_at.Statement.{statement}
+use Rattle.parts.proofs.byte_at.Tie as tie
 
 shared-slice-read-result : tie.Need-shared-slice-read-result
 shared-slice-read-result c = search needs
