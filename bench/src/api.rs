@@ -4,6 +4,7 @@ mod raw {
     extern "C" {
         pub fn bench_escape_xml(out: *mut u8, room: usize, at: usize, from: usize, s: *const u8, len: usize) -> usize;
         pub fn bench_escape_xml_attr(out: *mut u8, room: usize, at: usize, from: usize, s: *const u8, len: usize) -> usize;
+        pub fn bench_admit(file: *const u8, len: usize) -> u32;
         pub fn bench_is_utf8(s: *const u8, len: usize) -> usize;
         pub fn bench_put_number(out: *mut u8, room: usize, at: usize, from: usize, n: u32) -> usize;
     }
@@ -27,4 +28,9 @@ pub fn put_number(out: &mut [u8], at: usize, from: usize, n: u32) -> usize {
 /// Whether a text is UTF-8.
 pub fn is_utf8(s: &[u8]) -> bool {
     unsafe { raw::bench_is_utf8(s.as_ptr(), s.len()) == 1 }
+}
+
+/// The number that a tape file is given, 0 where it is admitted.
+pub fn admit(file: &[u8]) -> u32 {
+    unsafe { raw::bench_admit(file.as_ptr(), file.len()) }
 }

@@ -2,6 +2,7 @@
 //!
 //! Each area has a module with a function `rows` that returns its rows.
 
+mod admit;
 mod api;
 mod escape;
 mod measure;
@@ -12,4 +13,5 @@ fn main() {
     measure::print(&utf8::rows());
     measure::print(&escape::rows());
     measure::print(&number::rows());
+    admit::print();
 }

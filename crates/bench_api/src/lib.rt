@@ -5,6 +5,8 @@ ghost use Rattle.chars.specs.Utf8.{isUtf8};
 ghost use Rattle.chars.specs.Escape.{escape};
 ghost use Rattle.chars.specs.Decimal.{decimal};
 ghost use Rattle.window.specs.Page.{Page, paint};
+ghost use Rattle.admit.specs.Refusal.{Refusal};
+use admit::Admitted;
 use window::Window;
 
 // A text with its escapes behind `at` bytes, in a window that starts at `from`; the bytes written so far.
@@ -43,4 +45,21 @@ pub extern "C" fn bench_is_utf8(s: &[u8]) -> usize
     ensures { λ r. ⌜ r ≡ cond (isUtf8 (now (s .entry))) 1 0 ⌝ }
 {
     if chars::is_utf8(s) { 1 } else { 0 }
+}
+
+fn wide(x: u8) -> u32
+    ensures { λ r. ⌜ r ≡ x ⌝ }
+{
+    x as u32
+}
+
+// The number that a file is given, 0 where it is admitted.
+#[no_mangle]
+pub extern "C" fn bench_admit(file: &[u8]) -> u32
+    ensures { λ r. ⌜ Refusal (now (file .entry)) r ⌝ }
+{
+    match admit::admit(file) {
+        Admitted::Tape(_) => 0,
+        Admitted::Refused(n) => wide(n),
+    }
 }

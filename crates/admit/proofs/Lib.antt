@@ -1,0 +1,9 @@
+pub mod All
+pub mod HeaderRule
+pub mod NamesRule
+pub mod NodesRule
+pub mod Answers
+pub mod Decide
+pub mod Examples
+pub mod Utf8
+pub mod Gives

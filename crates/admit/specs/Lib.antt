@@ -1,0 +1,5 @@
+pub mod Rules
+pub mod Pieces
+pub mod Refusal
+pub mod Decide
+pub mod Encode

@@ -1,0 +1,78 @@
+-- What document 01 asks of a tape file, a rule for each number.
+use mathlib.Core.Path.{_≡_}
+use mathlib.Core.Bool.{true}
+use mathlib.Core.Logic.{_↔_, _⊎_}
+use Prim.Native.Nat.{ℕ, _+_, _≤_, _<_}
+use lib.ListN.{length, getD, drop}
+use Rattle.parts.specs.Bytes.{Bytes}
+use Rattle.chars.specs.Utf8.{isUtf8, isBoundary}
+use Rattle.words.specs.Words.{words}
+use Rattle.words.specs.declared.Set.the-variants.{Unicode}
+use Rattle.tape.specs.File.{le32, sectionsOf, entriesAt, namesAt, sourceAt, Tape, nodeAt, entryAt, kindAt, textAt, infoAt}
+use Rattle.tape.specs.Name.{markerName}
+use Rattle.tape.specs.declared.Entry.{Entry}
+use Rattle.tape.specs.declared.Info.{Info}
+use Rattle.tape.specs.declared.Info.the-variants.{Known, Unknown}
+
+-- 1: at least 36 bytes, format 1, offsets and the file's length as laid out
+pub record LaidOut (file : Bytes) : Type 0 where
+  pub header : 36 ≤ length file
+  pub format : le32 file ≡ 1
+  pub nodes : le32 (drop 8 file) ≡ sectionsOf file .head
+  pub entries : le32 (drop 16 file) ≡ entriesAt (sectionsOf file)
+  pub names : le32 (drop 24 file) ≡ namesAt (sectionsOf file)
+  pub source : le32 (drop 32 file) ≡ sourceAt (sectionsOf file)
+  pub whole : length file ≡ sourceAt (sectionsOf file) + sectionsOf file .source
+
+-- 2: nodes 1 to 262,144; entries at most 1,024; names at most 16,384 bytes; source at most 4,194,304 bytes
+pub record Small (file : Bytes) : Type 0 where
+  pub some : 0 < sectionsOf file .nodes
+  pub nodes : sectionsOf file .nodes ≤ 262144
+  pub entries : sectionsOf file .entries ≤ 1024
+  pub names : sectionsOf file .names ≤ 16384
+  pub source : sectionsOf file .source ≤ 4194304
+
+-- 3: the source is UTF-8
+abbrev pub Utf8 : Tape → Type 0
+Utf8 t = isUtf8 (t .source) ≡ true
+
+-- 4: an entry's name lies in the names, its category is at most 7, its element at most 3
+pub record GoodEntry (t : Tape) (e : Entry) : Type 0 where
+  pub inside : e .start + e .len ≤ length (t .names)
+  pub category : e .category .code ≤ 7
+  pub element : e .element .code ≤ 3
+
+-- 4: every name byte lies in 21..7E, and every entry is good
+pub record GoodNames (t : Tape) : Type 0 where
+  pub bytes : (i : ℕ) → i < length (t .names) → (33 ≤ getD (t .names) i 0) × (getD (t .names) i 0 ≤ 126)
+  pub entries : (i : ℕ) → i < length (t .entries) → GoodEntry t (entryAt t i)
+
+-- how long the name of a node's entry is; unknown counts 0
+unfoldable pub baseLen : Info → ℕ
+baseLen (Known e) = e .len
+baseLen Unknown = 0
+
+-- the element of a node's entry; unknown counts 0
+unfoldable pub elementOf : Info → ℕ
+elementOf (Known e) = e .element .code
+elementOf Unknown = 0
+
+-- a label is cut out of the marker name where there is no second word and the name is longer than the entry's
+pub record LabelCut (t : Tape) (k : ℕ) : Type 0 where
+  pub single : length (words Unicode (textAt t k)) ≤ 1
+  pub longer : baseLen (infoAt t k) < length (markerName t k)
+
+-- 5: what is asked of a node
+pub record GoodNode (t : Tape) (k : ℕ) : Type 0 where
+  pub kind : kindAt t k ≤ 8
+  pub flags : nodeAt t k .flags .bits ≤ 3
+  pub root : (kindAt t k ≡ 0) ↔ (k ≡ 0)
+  pub inside : nodeAt t k .start + nodeAt t k .len ≤ length (t .source)
+  pub start : isBoundary (t .source) (nodeAt t k .start) ≡ true
+  pub end : isBoundary (t .source) (nodeAt t k .start + nodeAt t k .len) ≡ true
+  pub plain : (kindAt t k ≡ 6) ⊎ (kindAt t k ≡ 7) → elementOf (infoAt t k) ≡ 0
+  pub label : kindAt t k ≡ 7 → LabelCut t k → isBoundary (markerName t k) (baseLen (infoAt t k)) ≡ true
+
+-- 5: every node is good
+abbrev pub GoodNodes : Tape → Type 0
+GoodNodes t = (k : ℕ) → k < length (t .nodes) → GoodNode t k
