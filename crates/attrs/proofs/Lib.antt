@@ -1,0 +1,6 @@
+pub mod Values
+pub mod Pairs
+pub mod Keys
+pub mod Turns
+pub mod Walks
+pub mod Examples

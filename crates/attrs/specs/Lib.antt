@@ -1,0 +1,2 @@
+pub mod Attr
+pub mod Walk

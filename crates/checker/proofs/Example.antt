@@ -1,0 +1,59 @@
+-- The definition at work: both sides of each rule, and document 01's example 11.
+use mathlib.Core.Path.{_≡_, refl}
+use mathlib.Core.List.{List, [], _∷_, _++_}
+use Prim.Native.Nat.{ℕ, zero, suc}
+use Rattle.parts.specs.Bytes.{Bytes, b, same, begins}
+use Rattle.tags.specs.Names.{which, elementAt}
+use Rattle.tags.specs.Form.{plain, escape, keyByte, ok, run, pairAt, pairsAt, pairsFrom, closeHead, openHead, textHead, headAt, tailAt, ended, tagged, headed, next, tokensAt, tokensFrom, tokens}
+use Rattle.checker.specs.Rules.{notedBy, noted, markOn, view, rise, broke, push, pop, growIn, grow, turn, missed, chapterTo, verseTo, isShut, isMilestone, pairUp}
+use Rattle.checker.specs.Check.{stepOn, foldOn, noneOpen, oneTree, pairedOff, verdictOf, settle, answerOf, numberOf, chaptersOf, versesOf}
+
+abbrev framed : Bytes → Bytes
+framed s = b "<usx version=\"3.0\">" ++ (s ++ b "</usx>")
+
+abbrev nested : ℕ → Bytes
+nested zero = []
+nested (suc n) = b "<char>" ++ (nested n ++ b "</char>")
+
+-- a text, document 01's number and the counts
+pub record Row : Type 0 where
+  pub text : Bytes
+  pub number : ℕ
+  pub chapters : ℕ
+  pub verses : ℕ
+
+infix 70 _gives_and_and_
+abbrev _gives_and_and_ : Bytes → ℕ → ℕ → ℕ → Row
+s gives n and c and v = record { text = s; number = n; chapters = c; verses = v }
+
+abbrev pub table : List Row
+table =
+    framed (b "\n  <chapter number=\"2\" style=\"c\" sid=\"GEN 2\" />\n  <para style=\"p\"><verse number=\"1\" style=\"v\" sid=\"GEN 2:1\" />Sing &amp; go</para><verse eid=\"GEN 2:1\" /><chapter eid=\"GEN 2\" />\n") gives 0 and 1 and 1
+    -- example 11: the label 1" with its start escaped and its end raw
+    ∷ framed (b "\n  <para style=\"p\"><verse number=\"1&quot;\" style=\"v\" sid=\" 1:1&quot;\" />x</para><verse eid=\" 1:1\"\" />\n") gives 11 and 0 and 0
+    ∷ framed (b "<figure /><table><row><cell>a</cell></row></table><optbreak /><ref></ref>") gives 0 and 0 and 0
+    ∷ framed (b "a & b") gives 11 and 0 and 0
+    ∷ framed (b "<rows>a</rows>") gives 11 and 0 and 0
+    ∷ framed (b "<para x=\"&quot\">y</para>") gives 11 and 0 and 0
+    ∷ framed (b "<para /=\"&quot;\">y</para>") gives 0 and 0 and 0
+    ∷ b "<usx version=\"3.0\"></usx> " gives 11 and 0 and 0
+    ∷ framed (nested 159) gives 0 and 0 and 0
+    ∷ framed (nested 160) gives 12 and 0 and 0
+    ∷ framed (b "<para></char>") gives 13 and 0 and 0
+    ∷ framed (b "</usx><usx>") gives 13 and 0 and 0
+    ∷ framed (b "<usx />") gives 13 and 0 and 0
+    ∷ framed (b "<verse sid=\"a\" /><verse eid=\"b\" />") gives 14 and 0 and 0
+    ∷ framed (b "<chapter sid=\"1\" /><verse sid=\"a\" /><chapter eid=\"1\" /><verse eid=\"a\" />") gives 14 and 0 and 0
+    ∷ framed (b "<verse eid=\"a\" x=\"\" />") gives 14 and 0 and 0
+    ∷ framed (b "<chapter></chapter>") gives 14 and 0 and 0
+    ∷ []
+
+abbrev Each : List Row → Type 0
+Each [] = Unit {0}
+Each (r ∷ rs) =
+    (numberOf (answerOf (r .text)) ≡ r .number) × (chaptersOf (answerOf (r .text)) ≡ r .chapters) × (versesOf (answerOf (r .text)) ≡ r .verses) × Each rs
+
+pub examples : Each table
+unfolding plain escape keyByte ok run which elementAt pairAt pairsAt pairsFrom closeHead openHead textHead headAt tailAt ended tagged headed next tokensAt tokensFrom tokens notedBy noted markOn view rise broke push pop growIn grow turn missed chapterTo verseTo isShut isMilestone pairUp stepOn foldOn noneOpen oneTree pairedOff verdictOf settle answerOf same begins numberOf chaptersOf versesOf
+examples =
+    (refl, refl, refl, (refl, refl, refl, (refl, refl, refl, (refl, refl, refl, (refl, refl, refl, (refl, refl, refl, (refl, refl, refl, (refl, refl, refl, (refl, refl, refl, (refl, refl, refl, (refl, refl, refl, (refl, refl, refl, (refl, refl, refl, (refl, refl, refl, (refl, refl, refl, (refl, refl, refl, (refl, refl, refl, tt)))))))))))))))))

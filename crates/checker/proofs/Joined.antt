@@ -1,0 +1,147 @@
+-- Neighbouring texts are nothing to the rules: rendered items are accepted where they are right with their texts apart.
+use mathlib.Core.Path.{_≡_, refl, sym, ap, _∙_, subst}
+use mathlib.Core.Bool.{Bool, true, false, cond, _||_}
+use mathlib.Core.List.{List, [], _∷_}
+use Prim.Native.Nat.{ℕ}
+use lib.IntN.{ℤ, pos}
+use lib.Signed.{ltZ}
+use Rattle.parts.specs.Bytes.{Bytes}
+use Rattle.tags.specs.Form.{Token, text as textToken, opens, closes, empty as emptyToken}
+use Rattle.tags.specs.Write.{TagForm}
+use Rattle.tags.specs.Items.{Item, start, empty, close, text, line, join, tokensOf}
+use Rattle.checker.specs.Rules.{View, words, view, rise, Trunk, broke, growIn, grow, Pairs, pairUp}
+use Rattle.checker.specs.Check.{atStart, oneTree, pairedOff, verdictOf, answerOf}
+use Rattle.checker.specs.Meaning.{SomeHigh, Milestones}
+use Rattle.checker.specs.Words.{views, Demand, startsIn, UsxTree}
+use Rattle.checker.specs.Pairing.{Event, chaptersIn, versesIn, PlainEvents, Frame, PlainFrame, whole, bones, apart}
+use Rattle.checker.specs.declared.Verdict.the-variants.{Accepted}
+use Rattle.checker.proofs.Decides.{folds, pairFold, pairs-of, milestones-decide, milestones-counted}
+use Rattle.checker.proofs.Trees.{tree-decides}
+use Rattle.checker.proofs.Demands.{demand-exact}
+use Rattle.checker.proofs.Usx.{usx-exact}
+use Rattle.checker.proofs.Answers.{by-tokens, is-low}
+use Rattle.checker.proofs.Accepts.{trunkFold, trunk-of, going, highFold, high-of, Noted, or-noted, noted-on, tree-whole, whole-milestones, whole-counts, whole-low, whole-tree}
+
+-- ---- a text more or less
+
+words-keep : (t : Trunk) → t .done ≡ false → grow t words ≡ t
+unfolding grow growIn
+words-keep t d = ap (λ (z : Bool). cond z (broke t) t) d
+
+-- milestones
+join-pairs : (p : Pairs) (s : Bytes) (ts : List Token) → pairFold p (views (join s ts)) ≡ pairFold p (views ts)
+unfolding join pairFold pairUp view
+join-pairs p [] ts = refl
+join-pairs p (x ∷ s) [] = refl
+join-pairs p (x ∷ s) (textToken t ∷ ts) = refl
+join-pairs p (x ∷ s) (opens n ps ∷ ts) = refl
+join-pairs p (x ∷ s) (closes n ∷ ts) = refl
+join-pairs p (x ∷ s) (emptyToken n ps ∷ ts) = refl
+
+same-pairs : (p : Pairs) (is : List Item) → pairFold p (views (tokensOf is)) ≡ pairFold p (views (apart is))
+unfolding tokensOf apart pairFold
+same-pairs p [] = refl
+same-pairs p (start n qs ∷ is) = same-pairs (pairUp p _) is
+same-pairs p (empty n qs ∷ is) = same-pairs (pairUp p _) is
+same-pairs p (close n ∷ is) = same-pairs (pairUp p _) is
+same-pairs p (text t ∷ is) = join-pairs p _ (tokensOf is) ∙ same-pairs p is ∙ (unfold pairUp view in refl)
+same-pairs p (line d ∷ is) = join-pairs p _ (tokensOf is) ∙ same-pairs p is ∙ (unfold pairUp view in refl)
+
+-- the tree
+join-trunk : (t : Trunk) (s : Bytes) (ts : List Token) → t .done ≡ false → trunkFold t (views (join s ts)) ≡ trunkFold t (views ts)
+unfolding join trunkFold view
+join-trunk t [] ts d = refl
+join-trunk t (x ∷ s) [] d = words-keep t d
+join-trunk t (x ∷ s) (textToken y ∷ ts) d = refl
+join-trunk t (x ∷ s) (opens n ps ∷ ts) d = ap (λ (z : Trunk). trunkFold z (views (opens n ps ∷ ts))) (words-keep t d)
+join-trunk t (x ∷ s) (closes n ∷ ts) d = ap (λ (z : Trunk). trunkFold z (views (closes n ∷ ts))) (words-keep t d)
+join-trunk t (x ∷ s) (emptyToken n ps ∷ ts) d = ap (λ (z : Trunk). trunkFold z (views (emptyToken n ps ∷ ts))) (words-keep t d)
+
+-- a text in front of what is whole at the end
+text-trunk : (t : Trunk) (s : Bytes) (ts : List Token) (vs : List View) → trunkFold t (words ∷ vs) .broken ≡ false
+    → (trunkFold t vs .broken ≡ false → trunkFold t (views ts) ≡ trunkFold t vs) → trunkFold t (views (join s ts)) ≡ trunkFold t (words ∷ vs)
+unfolding trunkFold
+text-trunk t s ts vs e f =
+    let d : t .done ≡ false = going t words vs e in
+    let same : trunkFold t (words ∷ vs) ≡ trunkFold t vs = ap (λ (z : Trunk). trunkFold z vs) (words-keep t d) in
+    join-trunk t s ts d ∙ f (sym (ap (λ (z : Trunk). z .broken) same) ∙ e) ∙ sym same
+
+same-trunk : (t : Trunk) (is : List Item) → trunkFold t (views (apart is)) .broken ≡ false → trunkFold t (views (tokensOf is)) ≡ trunkFold t (views (apart is))
+unfolding tokensOf apart trunkFold view
+same-trunk t [] e = refl
+same-trunk t (start n qs ∷ is) e = same-trunk (grow t _) is e
+same-trunk t (empty n qs ∷ is) e = same-trunk (grow t _) is e
+same-trunk t (close n ∷ is) e = same-trunk (grow t _) is e
+same-trunk t (text s ∷ is) e = text-trunk t _ (tokensOf is) (views (apart is)) e (same-trunk t is)
+same-trunk t (line d ∷ is) e = text-trunk t _ (tokensOf is) (views (apart is)) e (same-trunk t is)
+
+-- heights
+words-high : (h : ℤ) (g : Bool) (vs : List View) → Noted h g → highFold h g (words ∷ vs) ≡ highFold h g vs
+unfolding highFold rise
+words-high h g vs i = ap (λ (z : Bool). highFold h z vs) (or-noted h g i)
+
+join-high : (h : ℤ) (g : Bool) (s : Bytes) (ts : List Token) → Noted h g → highFold h g (views (join s ts)) ≡ highFold h g (views ts)
+unfolding join view
+join-high h g [] ts i = refl
+join-high h g (x ∷ s) [] i = words-high h g [] i
+join-high h g (x ∷ s) (textToken t ∷ ts) i = refl
+join-high h g (x ∷ s) (opens n ps ∷ ts) i = words-high h g (views (opens n ps ∷ ts)) i
+join-high h g (x ∷ s) (closes n ∷ ts) i = words-high h g (views (closes n ∷ ts)) i
+join-high h g (x ∷ s) (emptyToken n ps ∷ ts) i = words-high h g (views (emptyToken n ps ∷ ts)) i
+
+same-high : (h : ℤ) (g : Bool) (is : List Item) → Noted h g → highFold h g (views (tokensOf is)) ≡ highFold h g (views (apart is))
+unfolding tokensOf apart view highFold
+same-high h g [] i = refl
+same-high h g (start n qs ∷ is) i = same-high (rise h _) (g || ltZ (pos 160) (rise h _)) is (noted-on (rise h _) g)
+same-high h g (empty n qs ∷ is) i = same-high (rise h _) (g || ltZ (pos 160) (rise h _)) is (noted-on (rise h _) g)
+same-high h g (close n ∷ is) i = same-high (rise h _) (g || ltZ (pos 160) (rise h _)) is (noted-on (rise h _) g)
+same-high h g (text t ∷ is) i = join-high h g _ (tokensOf is) i ∙ same-high h g is i ∙ sym (words-high h g (views (apart is)) i)
+same-high h g (line d ∷ is) i = join-high h g _ (tokensOf is) i ∙ same-high h g is i ∙ sym (words-high h g (views (apart is)) i)
+
+-- ---- accepted
+
+-- a text whose tokens are rendered items is accepted where the items, their texts apart, are right
+pub items-accepted : (is : List Item) (s : Bytes) → TagForm s (tokensOf is) → (SomeHigh (views (apart is)) → ⊥) → UsxTree (views (apart is)) → Demand (views (apart is))
+    → answerOf s ≡ Accepted (startsIn 3 (views (apart is))) (startsIn 4 (views (apart is)))
+unfolding verdictOf
+items-accepted is s f low one d =
+    by-tokens s (tokensOf is) f ∙ rw (high, ap oneTree trunk ∙ t, ap pairedOff pairs ∙ milestones-decide vs .1 m, ap (λ (p : Pairs). p .chapters) pairs ∙ n .0, ap (λ (p : Pairs). p .verses) pairs ∙ n .1)
+  where
+    vs : List View
+    vs = views (apart is)
+
+    l : folds atStart vs .high ≡ false
+    l = is-low vs low
+
+    t : oneTree (folds atStart vs .trunk) ≡ true
+    t = tree-decides vs l .1 (usx-exact vs .1 one)
+
+    m : Milestones vs
+    m = demand-exact vs .1 d
+
+    n : (folds atStart vs .pairs .chapters ≡ startsIn 3 vs) × (folds atStart vs .pairs .verses ≡ startsIn 4 vs)
+    n = milestones-counted vs m
+
+    high : folds atStart (views (tokensOf is)) .high ≡ false
+    high = high-of atStart (views (tokensOf is)) ∙ same-high (pos 0) false is (λ i. i) ∙ sym (high-of atStart vs) ∙ l
+
+    unbroken : trunkFold (atStart .trunk) vs .broken ≡ false
+    unbroken = sym (ap (λ (x : Trunk). x .broken) (trunk-of atStart vs)) ∙ tree-whole (folds atStart vs .trunk) t
+
+    trunk : folds atStart (views (tokensOf is)) .trunk ≡ folds atStart vs .trunk
+    trunk = trunk-of atStart (views (tokensOf is)) ∙ same-trunk (atStart .trunk) is unbroken ∙ sym (trunk-of atStart vs)
+
+    pairs : folds atStart (views (tokensOf is)) .pairs ≡ folds atStart vs .pairs
+    pairs = pairs-of atStart (views (tokensOf is)) ∙ same-pairs (atStart .pairs) is ∙ sym (pairs-of atStart vs)
+
+-- and so is what pairing makes of any events that are one tree of small height without it
+pub paired-accepted : (is : List Item) (f : Frame) (es : List Event) (s : Bytes) → apart is ≡ whole f es → TagForm s (tokensOf is) → PlainFrame f → PlainEvents es
+    → (SomeHigh (views (bones f es)) → ⊥) → UsxTree (views (bones f es)) → answerOf s ≡ Accepted (chaptersIn es) (versesIn es)
+paired-accepted is f es s e form h g low one =
+    let n = whole-counts f es h g in
+    items-accepted is s form
+    (subst (λ (ts : List Token). SomeHigh (views ts) → ⊥) (sym e) (whole-low f es low one))
+    (subst (λ (ts : List Token). UsxTree (views ts)) (sym e) (whole-tree f es low one))
+    (subst (λ (ts : List Token). Demand (views ts)) (sym e) (whole-milestones f es h g))
+    ∙ ap (λ (ts : List Token). Accepted (startsIn 3 (views ts)) (startsIn 4 (views ts))) e
+    ∙ ap (λ (k : ℕ). Accepted k (startsIn 4 (views (whole f es)))) (n .0) ∙ ap (Accepted (chaptersIn es)) (n .1)

@@ -1,0 +1,12 @@
+pub mod Laws
+pub mod Folds
+pub mod Whole
+pub mod Decides
+pub mod Trees
+pub mod Tags
+pub mod Demands
+pub mod Usx
+pub mod Answers
+pub mod Accepts
+pub mod Example
+pub mod Joined

@@ -1,0 +1,5 @@
+pub mod Rules
+pub mod Check
+pub mod Meaning
+pub mod Words
+pub mod Pairing

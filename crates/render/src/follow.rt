@@ -1,0 +1,81 @@
+// What follows a node.
+ghost use mathlib.Core.Path.{_≡_};
+ghost use Rattle.tape.specs.File.{tapeIn};
+ghost use Rattle.render.specs.Follow.{isSolid, nextSolid, inlineAt, inlineFollows, followed as isFollowed, Kept};
+use crate::children::Test;
+use crate::children::find;
+use crate::shape::is_inline;
+use tape::Cursor;
+use tape::Kind;
+use tape::Sections;
+use tape::Step;
+use words::Set;
+
+// Whether a sibling is not passed over.
+pub fn is_solid(file: &[u8], tape: Sections, c: Cursor) -> bool
+    ensures { λ r. ⌜ r ≡ isSolid (tapeIn tape (now (file .entry))) (c .at) ⌝ }
+{
+    let kind = c.kind(file, tape);
+    if kind.code == Kind::ATTRIBUTE {
+        return false;
+    }
+    if kind.code == Kind::ERROR {
+        return false;
+    }
+    if kind.code != Kind::TEXT {
+        return true;
+    }
+    !words::is_blank(c.text(file, tape), Set::Ascii)
+}
+
+// The first later sibling that is not passed over.
+pub fn next_solid(file: &[u8], tape: Sections, c: Cursor) -> Step
+    ensures { λ r. ⌜ r ≡ nextSolid (tapeIn tape (now (file .entry))) (c .at) ⌝ }
+{
+    find(file, tape, Test::Solid, c.next_sibling(file, tape))
+}
+
+// The next solid sibling of a child, from the one that was kept at the child before it: a run of blanks is passed once.
+pub fn solid_behind(file: &[u8], tape: Sections, c: Cursor, kept: Step) -> Step
+    ensures { λ r. ⌜ (Kept (tapeIn tape (now (file .entry))) c kept → r ≡ nextSolid (tapeIn tape (now (file .entry))) (c .at)) ⌝ }
+{
+    match kept {
+        Step::At(d) => {
+            if d.at == c.at {
+                return next_solid(file, tape, c);
+            }
+            Step::At(d)
+        }
+        Step::Done => Step::Done,
+    }
+}
+
+// Whether a step leads to an inline node.
+pub fn inline_at(file: &[u8], tape: Sections, s: Step) -> bool
+    ensures { λ r. ⌜ r ≡ inlineAt (tapeIn tape (now (file .entry))) s ⌝ }
+{
+    match s {
+        Step::At(c) => is_inline(file, tape, c),
+        Step::Done => false,
+    }
+}
+
+// Whether the first later sibling that is not passed over is inline.
+pub fn inline_follows(file: &[u8], tape: Sections, c: Cursor) -> bool
+    ensures { λ r. ⌜ r ≡ inlineFollows (tapeIn tape (now (file .entry))) (c .at) ⌝ }
+{
+    inline_at(file, tape, next_solid(file, tape, c))
+}
+
+// Whether inline content follows a parent, or, where it is inline, its own parent.
+pub fn followed(file: &[u8], tape: Sections, c: Cursor, outer: bool) -> bool
+    ensures { λ r. ⌜ r ≡ isFollowed (tapeIn tape (now (file .entry))) (c .at) outer ⌝ }
+{
+    if !is_inline(file, tape, c) {
+        return false;
+    }
+    if outer {
+        return true;
+    }
+    inline_follows(file, tape, c)
+}

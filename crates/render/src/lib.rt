@@ -1,0 +1,38 @@
+// What a node is, what stands in it and what follows it: the rules that every form of the text shares.
+mod children;
+mod follow;
+mod label;
+mod note;
+mod number;
+mod shape;
+
+pub use children::Test;
+pub use children::find;
+pub use children::first_text;
+pub use children::has_content;
+pub use children::is_plain_text;
+pub use follow::followed;
+pub use follow::inline_at;
+pub use follow::inline_follows;
+pub use follow::next_solid;
+pub use follow::solid_behind;
+pub use label::verse_label;
+pub use label::word_part;
+pub use note::Align;
+pub use note::book_code;
+pub use note::book_rest;
+pub use note::category_text;
+pub use note::cell_align;
+pub use note::leading_text;
+pub use note::note_caller;
+pub use note::remainder;
+pub use note::trimmed;
+pub use shape::Shape;
+pub use shape::is_blank;
+pub use shape::is_category_marker;
+pub use shape::is_element;
+pub use shape::is_inline;
+pub use shape::is_row;
+pub use shape::is_top_level_block;
+pub use shape::trims_after;
+pub use shape::unknown_shape;

@@ -1,0 +1,4 @@
+pub mod Names
+pub mod Form
+pub mod Write
+pub mod Items

@@ -1,0 +1,5 @@
+pub mod Texts
+pub mod Breaks
+pub mod Edges
+pub mod Segments
+pub mod Examples
