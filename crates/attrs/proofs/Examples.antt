@@ -1,13 +1,11 @@
 -- Examples of document 01, by computation.
 use mathlib.Core.Path.{_≡_, refl}
 use mathlib.Core.List.{List, [], _∷_, flatten, map}
-use mathlib.Core.Bool.{true, cond, not, _&&_, _||_}
 use Rattle.parts.specs.Bytes.{Bytes, b, same, begins, firstAt}
 use Rattle.chars.specs.Utf8.{table37, fits, rowLen, seqLen, step, cutAt, isSequence, every, point, codeOf}
 use Rattle.chars.specs.Range.{within, inAny}
 use Rattle.chars.specs.Space.{whiteSpace, isWhite}
 use Rattle.words.specs.Words.{stepOf, charsOf, white, solid, takeWhile, dropWhile, keep, dropEnd, onto, pieces, nonempty, words, trimStart, trimEnd, trim, whiteLen, wordLen, lastOf}
-use Rattle.words.specs.declared.Set.the-variants.{Unicode}
 use Rattle.tape.specs.Name.{strip}
 use Rattle.attrs.specs.Attr.{Pair, closesAt, quotedFrom, quotedLen, unquoted, shown, valueFrom, valueAt, equals, hasEquals, keyIn, keyed, pairsFrom, pairsIn, isWordMarker, defaultKey, keyFor, keyedFor, bodyOf, pairsOf}
 

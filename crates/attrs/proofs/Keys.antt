@@ -1,6 +1,6 @@
 -- Laws of keys: each test of the code leads to the key that the definition gives.
-use mathlib.Core.Path.{_≡_, refl, sym, ap, _∙_}
-use mathlib.Core.Bool.{Bool, true, false, cond, _&&_, _||_}
+use mathlib.Core.Path.{_≡_, sym, ap, _∙_}
+use mathlib.Core.Bool.{Bool, true, false}
 use Rattle.parts.specs.Bytes.{Bytes, b, part, same, begins}
 use Rattle.words.specs.declared.Part.{Part}
 use Rattle.attrs.specs.Attr.{isWordMarker, defaultKey, keyFor}

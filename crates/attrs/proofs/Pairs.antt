@@ -1,6 +1,6 @@
 -- Laws of pairs: one step along a text, and enough steps.
 use mathlib.Core.Path.{_≡_, refl, sym, ap, _∙_}
-use mathlib.Core.Bool.{Bool, true, false, cond}
+use mathlib.Core.Bool.{Bool, true, false}
 use mathlib.Core.List.{List, [], _∷_, _++_}
 use Prim.Native.Nat.{ℕ, zero, suc, _+_, _-_, _≤_, _<_}
 use native.Mathlib.Omega.{arith}
@@ -12,7 +12,7 @@ use Rattle.words.specs.Words.{words, lastOf, whiteLen}
 use Rattle.words.specs.declared.Set.the-variants.{Unicode}
 use Rattle.words.specs.declared.Part.{Part}
 use Rattle.words.proofs.Texts.{white-le}
-use Rattle.attrs.specs.Attr.{Pair, shown, valueFrom, valueAt, equals, hasEquals, keyIn, keyed, pairsFrom, pairsIn}
+use Rattle.attrs.specs.Attr.{Pair, shown, valueAt, equals, hasEquals, keyIn, keyed, pairsFrom, pairsIn}
 use Rattle.attrs.specs.Walk.{bytesOf, Spot, Front}
 use Rattle.attrs.specs.declared.Taken.{Taken}
 use Rattle.attrs.proofs.Values.{Within, value-within}

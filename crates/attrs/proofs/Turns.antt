@@ -1,12 +1,11 @@
 -- Laws of a walk over the pairs of a part: the parts of a part, and one turn.
 use mathlib.Core.Path.{_≡_, refl, sym, ap, _∙_}
-use mathlib.Core.Bool.{Bool, true, false}
-use mathlib.Core.List.{List, [], _∷_, _++_}
+use mathlib.Core.List.{List, [], _∷_}
 use Prim.Native.Nat.{ℕ, zero, suc, _+_, _-_, _≤_, _<_, max}
 use native.Mathlib.Nat.{sub-zero}
 use native.Mathlib.Omega.{arith}
 use lib.ListN.{length, take, drop, length-drop, length-take}
-use lib.Seq.{drop-drop, drop-nil, take-nil, length-take-le}
+use lib.Seq.{drop-drop, take-nil, length-take-le}
 use Rattle.parts.specs.Bytes.{Bytes, part}
 use Rattle.words.specs.declared.Part.{Part}
 use Rattle.attrs.specs.Attr.{Pair, shown, keyed, pairsIn}
@@ -14,7 +13,6 @@ use Rattle.attrs.specs.Walk.{bytesOf, valueOf, Front, FirstOf, itemList}
 use Rattle.attrs.specs.declared.Taken.{Taken}
 use Rattle.attrs.specs.declared.First.{First}
 use Rattle.attrs.specs.declared.First.the-variants.{Pair as FirstPair, Nothing as FirstNone}
-use Rattle.attrs.specs.declared.Item.{Item}
 use Rattle.attrs.specs.declared.Item.the-variants.{Pair as ItemPair, Nothing as ItemNone}
 use Rattle.attrs.proofs.Pairs.{part-front}
 

@@ -1,8 +1,8 @@
 -- Laws of values: quotes, and the pieces between escaped ones.
 use mathlib.Core.Path.{_≡_, refl, sym, ap, _∙_}
 use mathlib.Core.Bool.{Bool, true, false, cond, not, _&&_}
-use mathlib.Core.List.{List, [], _∷_, _++_}
-use Prim.Native.Nat.{ℕ, zero, suc, _+_, _-_, _≤_, _<_, min, max}
+use mathlib.Core.List.{[], _∷_, _++_}
+use Prim.Native.Nat.{ℕ, suc, _+_, _-_, _≤_, _<_, min, max}
 use native.Mathlib.Omega.{arith}
 use lib.ListN.{length, getD, take, drop, drop-of-length-le, length-drop}
 use lib.Dec.{eqb}
@@ -11,7 +11,7 @@ use Rattle.parts.specs.Bytes.{Bytes, b, begins, firstAt, find}
 use Rattle.parts.proofs.Laws.{drop-at, begins-fits, and-true, and-false, first-found}
 use Rattle.words.specs.Words.{whiteLen, wordLen}
 use Rattle.words.specs.declared.Set.the-variants.{Unicode}
-use Rattle.words.proofs.Texts.{white-le, word-le}
+use Rattle.words.proofs.Texts.{word-le}
 use Rattle.attrs.specs.Attr.{closesAt, quotedFrom, quotedLen, pieceLen, unquoted, valueFrom, valueAt}
 use Rattle.attrs.specs.declared.Taken.{Taken}
 

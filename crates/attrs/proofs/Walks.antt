@@ -2,7 +2,7 @@
 use mathlib.Core.Path.{_≡_, refl, sym, ap, _∙_}
 use mathlib.Core.Bool.{Bool, true, false, cond}
 use mathlib.Core.List.{List, [], _∷_, _++_, map}
-use Prim.Native.Nat.{ℕ, zero, suc, _+_, _-_, _≤_, _<_}
+use Prim.Native.Nat.{ℕ, _+_, _-_, _≤_, _<_}
 use native.Mathlib.Omega.{arith}
 use lib.ListN.{length, take, drop, length-drop}
 use lib.Seq.{drop-drop}
@@ -15,7 +15,7 @@ use Rattle.words.specs.declared.Part.{Part}
 use Rattle.words.proofs.Texts.{white-le, trim-start-drop, trim-end-take, trim-end-le}
 use Rattle.tape.specs.File.{Tape, nodeAt, kindAt, textAt}
 use Rattle.tape.specs.Name.{strip}
-use Rattle.tape.specs.Tree.{firstChild, nextSibling, walkFrom, children}
+use Rattle.tape.specs.Tree.{firstChild, nextSibling, walkFrom}
 use Rattle.tape.specs.declared.kinds.Kind.{Kind}
 use Rattle.tape.specs.declared.Node.{Node}
 use Rattle.tape.specs.declared.Cursor.{Cursor}
@@ -26,7 +26,7 @@ use Rattle.attrs.specs.Attr.{Pair, shown, equals, hasEquals, pairsIn, de
 use Rattle.attrs.specs.Walk.{fixedKeys, bytesOf, Spot, valueOf, keyOf, itemList, gotList, remaining, nextList, firstOf, soughtOf}
 use Rattle.attrs.specs.declared.Value.{Value}
 use Rattle.attrs.specs.declared.Key.{Key}
-use Rattle.attrs.specs.declared.Key.the-variants.{Own, Fixed}
+use Rattle.attrs.specs.declared.Key.the-variants.{Fixed}
 use Rattle.attrs.specs.declared.Item.{Item}
 use Rattle.attrs.specs.declared.Item.the-variants.{Pair as ItemPair, Nothing as ItemNone}
 use Rattle.attrs.specs.declared.Got.{Got}
@@ -34,7 +34,6 @@ use Rattle.attrs.specs.declared.Got.the-variants.{Pair as GotPair, Nothi
 use Rattle.attrs.specs.declared.Attrs.{Attrs}
 use Rattle.attrs.specs.declared.Next.{Next}
 use Rattle.attrs.specs.declared.Next.the-variants.{Pair as NextPair, Done as NextDone}
-use Rattle.attrs.specs.declared.Sought.{Sought}
 use Rattle.attrs.specs.declared.Sought.the-variants.{At as Found, Nowhere}
 use Rattle.attrs.proofs.Pairs.{pairs-nil}
 use Rattle.attrs.proofs.Turns.{part-in}
@@ -177,22 +176,30 @@ module _ (t : Tape) (m : Bytes) (a : Attrs) {s : Bytes} (g : Got) (es : s ≡ t 
   unfolding gotList nextList remaining
   next-found e = got-here ∙ rw e
 
+-- ---- one answer of the walk
+
+module _ (t : Tape) (m : Bytes) (a : Attrs) {n : Next} (en : remaining t m a ≡ nextList t m n) where
+  pub next-end : n ≡ NextDone → remaining t m a ≡ []
+  unfolding nextList
+  next-end e = en ∙ ap (nextList t m) e
+
+  module _ {k : Key} {v : Value} {left : Attrs} (e : n ≡ NextPair k v left) where
+    pub next-listed : remaining t m a ≡ record { key = keyOf (t .source) fixedKeys k; value = valueOf (t .source) v } ∷ remaining t m left
+    unfolding nextList
+    next-listed = en ∙ ap (nextList t m) e
+
+    pub next-less : length (remaining t m left) < length (remaining t m a)
+    next-less = rw next-listed (omega arith)
+
 -- ---- the first with a key
 
 module _ (t : Tape) (m key : Bytes) (a : Attrs) {n : Next} (en : remaining t m a ≡ nextList t m n) where
   pub sought-none : n ≡ NextDone → (k : ℕ) (a₀ : Attrs) → ((m : Bytes) → remaining t m a₀ ≡ attributesOf t k m)
       → firstOf key (remaining t m a) ≡ firstOf key (remaining t m a₀) → soughtOf (t .source) Nowhere ≡ firstOf key (attributesOf t k m)
-  unfolding nextList firstOf soughtOf
-  sought-none e k a₀ all inv = sym (ap (firstOf key) (en ∙ ap (nextList t m) e)) ∙ inv ∙ ap (firstOf key) (all m)
+  unfolding firstOf soughtOf
+  sought-none e k a₀ all inv = sym (ap (firstOf key) (next-end t m a en e)) ∙ inv ∙ ap (firstOf key) (all m)
 
   module _ {k : Key} {v : Value} {left : Attrs} (e : n ≡ NextPair k v left) where
-    listed : remaining t m a ≡ record { key = keyOf (t .source) fixedKeys k; value = valueOf (t .source) v } ∷ remaining t m left
-    unfolding nextList
-    listed = en ∙ ap (nextList t m) e
-
-    pub sought-less : length (remaining t m left) < length (remaining t m a)
-    sought-less = rw listed (omega arith)
-
     module _ {s x : Bytes} {h : Bool} (es : s ≡ t .source) (ex : x ≡ keyOf s fixedKeys k) (eh : h ≡ same x key) where
       tested : same (keyOf (t .source) fixedKeys k) key ≡ h
       tested = sym (eh ∙ ap (λ (z : Bytes). same z key) (ex ∙ ap (λ (z : Bytes). keyOf z fixedKeys k) es))
@@ -200,8 +207,8 @@ module _ (t : Tape) (m key : Bytes) (a : Attrs) {n : Next} (en : remaining t m a
       pub sought-found : h ≡ true → (k : ℕ) (a₀ : Attrs) → ((m : Bytes) → remaining t m a₀ ≡ attributesOf t k m)
           → firstOf key (remaining t m a) ≡ firstOf key (remaining t m a₀) → soughtOf (t .source) (Found v) ≡ firstOf key (attributesOf t k m)
       unfolding firstOf soughtOf
-      sought-found y k a₀ all inv = sym (ap (firstOf key) listed ∙ rw (tested ∙ y)) ∙ inv ∙ ap (firstOf key) (all m)
+      sought-found y k a₀ all inv = sym (ap (firstOf key) (next-listed t m a en e) ∙ rw (tested ∙ y)) ∙ inv ∙ ap (firstOf key) (all m)
 
       pub sought-on : h ≡ false → (ps : List Pair) → firstOf key (remaining t m a) ≡ firstOf key ps → firstOf key (remaining t m left) ≡ firstOf key ps
       unfolding firstOf
-      sought-on y ps inv = sym (ap (firstOf key) listed ∙ rw (tested ∙ y)) ∙ inv
+      sought-on y ps inv = sym (ap (firstOf key) (next-listed t m a en e) ∙ rw (tested ∙ y)) ∙ inv

@@ -1,8 +1,8 @@
 -- Laws of figures: the first child of a kind, fields between bars.
 use mathlib.Core.Path.{_≡_, refl, sym, ap, _∙_}
-use mathlib.Core.Bool.{Bool, true, false, cond, _&&_}
-use mathlib.Core.List.{List, [], _∷_, _++_}
-use Prim.Native.Nat.{ℕ, zero, suc, _+_, _-_, _≤_, _<_}
+use mathlib.Core.Bool.{Bool, true, false, cond}
+use mathlib.Core.List.{List, [], _∷_}
+use Prim.Native.Nat.{ℕ, suc, _+_, _-_, _≤_, _<_}
 use native.Mathlib.Omega.{arith}
 use lib.ListN.{length, getD, take, drop, length-drop}
 use lib.Seq.{drop-drop, take-all}
@@ -20,7 +20,7 @@ use Rattle.tape.specs.declared.Step.{Step}
 use Rattle.tape.specs.declared.Step.the-variants.{At, Done}
 use Rattle.tape.proofs.Walk.{walk-turn, walk-end, children-walk}
 use Rattle.attrs.specs.Attr.{equals, hasEquals}
-use Rattle.figure.specs.Figure.{firstOfKind, ifLegacy, legacyAt, split, fieldAt, trimmedAt, describedBy}
+use Rattle.figure.specs.Figure.{firstOfKind, ifLegacy, legacyAt, split, fieldAt, trimmedAt, describedBy, valued}
 
 -- ---- the first child of a kind
 
@@ -156,3 +156,15 @@ module _ (t : Tape) (k : ℕ) {f : Step} (ef : f ≡ firstOfKind t 1 (children t
   pub described-text : {c : Cursor} → f ≡ At c → {x r : Bytes} → x ≡ textAt t (c .at) → r ≡ trim Unicode x → r ≡ describedBy t k
   unfolding describedBy trimmedAt
   described-text e ex er = er ∙ ap (trim Unicode) ex ∙ ap (trimmedAt t) (sym e ∙ ef)
+
+-- ---- a pair unless its value is empty
+
+pub valued-none : (key v : Bytes) → length v ≡ 0 → valued key v ≡ []
+unfolding valued
+valued-none key [] h = refl
+valued-none key (x ∷ v) h = absurd (omega arith)
+
+pub valued-some : (key v : Bytes) → (length v ≡ 0 → ⊥) → valued key v ≡ record { key = key; value = v } ∷ []
+unfolding valued
+valued-some key [] h = absurd (h refl)
+valued-some key (x ∷ v) h = refl

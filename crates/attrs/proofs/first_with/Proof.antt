@@ -1,9 +1,8 @@
 use mathlib.Core.Path.{_≡_, refl}
 use lib.ListN.{length}
 use Rattle.tape.specs.File.{tapeIn}
-use Rattle.attrs.specs.Attr.{attributesOf}
 use Rattle.attrs.specs.Walk.{remaining, firstOf}
-use Rattle.attrs.proofs.Walks.{sought-none, sought-found, sought-on, sought-less}
+use Rattle.attrs.proofs.Walks.{sought-none, sought-found, sought-on, next-less}
 use borrow.Author.Needs.{needs}
 use Rattle.attrs.proofs.first_with.Statement.{statement}
 use Rattle.attrs.proofs.first_with.Tie as tie
@@ -48,7 +47,7 @@ returns-2 : tie.Need-returns-2 Inv-loop μ-loop
 returns-2 c = search sought-found
 
 loop-less : tie.Need-loop-less Inv-loop μ-loop
-loop-less c = search sought-less
+loop-less c = search next-less
 
 loop-again : tie.Need-loop-again Inv-loop μ-loop
 loop-again c = search sought-on

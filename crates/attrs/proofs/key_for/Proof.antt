@@ -1,4 +1,3 @@
-use Rattle.attrs.specs.Walk.{fixedKeys, keyOf}
 use Rattle.attrs.proofs.Keys.{key-file, key-fig, key-other}
 use borrow.Author.Needs.{needs}
 use Rattle.attrs.proofs.key_for.Statement.{statement}

@@ -1,7 +1,7 @@
 use Prim.Native.Nat.{_+_, _≤_, _-_}
 use mathlib.Core.Path.{_≡_}
 use lib.ListN.{length, drop}
-use Rattle.parts.specs.Bytes.{b, begins, find}
+use Rattle.parts.specs.Bytes.{b, find}
 use Rattle.parts.proofs.Laws.{first-turn, first-stop, first-end}
 use Rattle.attrs.specs.Attr.{pieceLen}
 use borrow.Author.Needs.{needs}

@@ -1,0 +1,3 @@
+pub mod Folding
+pub mod Numbers
+pub mod Examples

@@ -1,0 +1,19 @@
+use Rattle.fold.proofs.Folding.{at-some, at-none}
+use borrow.Author.Needs.{needs}
+use Rattle.fold.proofs.is_at.Statement.{statement}
+use Rattle.fold.proofs.is_at.Tie as tie
+
+enum-told : tie.Need-enum-told
+enum-told c = search needs
+
+enum-told-2 : tie.Need-enum-told-2
+enum-told-2 c = search needs
+
+returns : tie.Need-returns
+returns c = search at-some
+
+returns-2 : tie.Need-returns-2
+returns-2 c = search at-none
+
+pub is-at-spec : {M : Type 1} → statement M
+is-at-spec = tie.close (tie.spec enum-told enum-told-2 returns returns-2)

@@ -1,0 +1,53 @@
+-- A folded number, as it is walked: pieces of texts, with a space where white space stood between two.
+use Prim.Native.Nat.{_≤_, _<_}
+use lib.ListN.{length}
+use mathlib.Core.List.{[], _∷_, _++_}
+use mathlib.Core.Bool.{Bool, true, false, cond, _&&_}
+use Rattle.parts.specs.Bytes.{Bytes}
+use Rattle.chars.specs.Space.{isAsciiWhite}
+use Rattle.tape.specs.File.{Tape}
+use Rattle.tape.specs.Tree.{walkFrom}
+use Rattle.attrs.specs.Walk.{bytesOf}
+use Rattle.fold.specs.Fold.{textsOf}
+use Rattle.fold.specs.declared.Run.{Run}
+use Rattle.fold.specs.declared.Run.the-variants.{Word, White}
+use Rattle.fold.specs.declared.Number.{Number}
+use Rattle.fold.specs.declared.Piece.{Piece}
+use Rattle.fold.specs.declared.Piece.the-variants.{Some, Done}
+
+-- one space, or nothing
+unfoldable pub spaceIf : Bool → Bytes
+spaceIf t = cond t (32 ∷ []) []
+
+-- a text collapsed byte by byte: whether a byte stands in front of it, and whether white space stands between
+unfoldable pub collapse : Bool → Bool → Bytes → Bytes
+collapse begun gap [] = []
+collapse begun gap (x ∷ s) =
+    elim (isAsciiWhite x) as (λ _. Bytes) [
+      | true ↦ collapse begun true s
+      | false ↦ spaceIf (begun && gap) ++ (x ∷ collapse true false s)
+    ]
+
+-- what is left of a number behind the first run of a part, with more behind the part
+unfoldable pub runList : Bytes → Bool → Run → Bytes → Bytes
+runList source begun (Word p space rest) more = spaceIf space ++ (bytesOf source p ++ collapse true false (bytesOf source rest ++ more))
+runList source begun (White gap) more = collapse begun gap more
+
+-- what is still to come of a number
+unfoldable pub toCome : Tape → Number → Bytes
+toCome t n = collapse (n .begun) (n .gap) (bytesOf (t .source) (n .rest) ++ textsOf t (walkFrom t (n .next)))
+
+-- an answer: a piece, with or without a space in front, and what comes behind it
+unfoldable pub pieceList : Tape → Piece → Bytes
+pieceList t (Some p space left) = spaceIf space ++ (bytesOf (t .source) p ++ toCome t left)
+pieceList t Done = []
+
+-- a word is not empty
+abbrev pub wordSome : Bytes → Run → Type 0
+wordSome source (Word p space rest) = 0 < length (bytesOf source p)
+wordSome source (White gap) = 0 ≤ 0
+
+-- nor is a piece
+abbrev pub pieceSome : Tape → Piece → Type 0
+pieceSome t (Some p space left) = 0 < length (bytesOf (t .source) p)
+pieceSome t Done = 0 ≤ 0
