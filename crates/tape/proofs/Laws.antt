@@ -1,6 +1,7 @@
 -- Laws of the tape's records: each field of a node or an entry is what stands in the file.
 use mathlib.Core.Path.{_≡_, refl, sym, ap, _∙_}
 use mathlib.Core.Bool.{Bool, true, false, _||_}
+use mathlib.Core.List.{[]}
 use Prim.Native.Nat.{ℕ, zero, suc, _+_, _-_, _*_, _/_, _%_, _≤_, _<_}
 use native.Mathlib.Nat.{mul-zero, mul-suc, add-comm}
 use native.Mathlib.Omega.{arith}
@@ -9,7 +10,7 @@ use lib.Seq.{drop-drop}
 use lib.Dec.{eqb, leb}
 use borrow.Author.Tests.{eq-eqb, ne-eqb, lt-ltb, le-ltb, le-leb, lt-leb}
 use Rattle.parts.specs.Bytes.{Bytes, part}
-use Rattle.tape.specs.File.{le16, le32, nodeOf, entryOf, recordsOf, Tape, tapeIn, entriesAt, namesAt, sourceAt, sectionsOf, nowhere, nameless, nodeAt, entryAt, kindAt, textAt, entryName, isSynthetic, isNested, bearsMarker, infoAt, numberAt}
+use Rattle.tape.specs.File.{le16, le32, nodeOf, entryOf, recordsOf, Tape, tapeIn, entriesAt, namesAt, sourceAt, sectionsOf, nowhere, nameless, nodeAt, entryAt, kindAt, textAt, entryName, isSynthetic, isNested, bearsMarker, infoAt, numberAt, categoryOf, elementOf, nameOf}
 use Rattle.tape.specs.Tree.{isClose, holds, matchingClose, childBefore, firstChild, lastOf, siblingPast, nextSibling}
 use Rattle.tape.specs.declared.kinds.Kind.{Kind}
 use Rattle.tape.specs.declared.kinds.Flags.{Flags}
@@ -281,3 +282,63 @@ module _ (c : Sections) (file : Bytes) (k last : ℕ) where
 pub next-of : (t : Tape) (k : ℕ) {l : ℕ} {s : Step} → l ≡ lastOf t k → s ≡ siblingPast t k l → s ≡ nextSibling t k
 unfolding nextSibling
 next-of t k el es = es ∙ ap (siblingPast t k) el
+
+-- ---- the entry of a node, taken apart
+
+pub flags-of : (t : Tape) (k : ℕ) {n : Node} → n ≡ nodeAt t k → n .flags .bits ≡ nodeAt t k .flags .bits
+flags-of t k e = ap (λ (m : Node). m .flags .bits) e
+
+module _ {i j : Info} (ei : i ≡ j) where
+  pub category-known : (e : Entry) → i ≡ Known e → e .category .code ≡ categoryOf j
+  unfolding categoryOf
+  category-known e h = ap categoryOf (sym h ∙ ei)
+
+  pub category-unknown : {c : Category} → i ≡ Unknown → c .code ≡ 7 → c .code ≡ categoryOf j
+  unfolding categoryOf
+  category-unknown h e = e ∙ ap categoryOf (sym h ∙ ei)
+
+  pub element-known : (e : Entry) → i ≡ Known e → e .element .code ≡ elementOf j
+  unfolding elementOf
+  element-known e h = ap elementOf (sym h ∙ ei)
+
+  pub element-unknown : {c : Element} → i ≡ Unknown → c .code ≡ 0 → c .code ≡ elementOf j
+  unfolding elementOf
+  element-unknown h e = e ∙ ap elementOf (sym h ∙ ei)
+
+  pub name-known : (t : Tape) (e : Entry) {r : Bytes} → i ≡ Known e → r ≡ entryName t e → r ≡ nameOf t j
+  unfolding nameOf
+  name-known t e h er = er ∙ ap (nameOf t) (sym h ∙ ei)
+
+  pub name-unknown : (t : Tape) {r : Bytes} → i ≡ Unknown → r ≡ [] → r ≡ nameOf t j
+  unfolding nameOf
+  name-unknown t h er = er ∙ ap (nameOf t) (sym h ∙ ei)
+
+-- ---- where each field stands in the file
+
+module _ (c : Sections) (file : Bytes) (k : ℕ) (h : k < c .nodes) where
+  node-bytes : nodeAt (tapeIn c file) k ≡ nodeOf (drop (c .head + 16 * k) file)
+  node-bytes = sym (node-in c file k h refl refl refl refl)
+
+  pub kind-bytes : nodeAt (tapeIn c file) k .kind .code ≡ getD (drop (c .head + 16 * k) file) 0 0
+  unfolding nodeOf
+  kind-bytes = ap (λ (n : Node). n .kind .code) node-bytes
+
+  pub flags-bytes : nodeAt (tapeIn c file) k .flags .bits ≡ getD (drop (c .head + 16 * k) file) 1 0
+  unfolding nodeOf
+  flags-bytes = ap (λ (n : Node). n .flags .bits) node-bytes
+
+  pub marker-bytes : nodeAt (tapeIn c file) k .marker ≡ le16 (drop 2 (drop (c .head + 16 * k) file))
+  unfolding nodeOf
+  marker-bytes = ap (λ (n : Node). n .marker) node-bytes
+
+  pub link-bytes : nodeAt (tapeIn c file) k .link ≡ le32 (drop 4 (drop (c .head + 16 * k) file))
+  unfolding nodeOf
+  link-bytes = ap (λ (n : Node). n .link) node-bytes
+
+  pub start-bytes : nodeAt (tapeIn c file) k .start ≡ le32 (drop 8 (drop (c .head + 16 * k) file))
+  unfolding nodeOf
+  start-bytes = ap (λ (n : Node). n .start) node-bytes
+
+  pub len-bytes : nodeAt (tapeIn c file) k .len ≡ le32 (drop 12 (drop (c .head + 16 * k) file))
+  unfolding nodeOf
+  len-bytes = ap (λ (n : Node). n .len) node-bytes

@@ -148,3 +148,18 @@ infoAt t k =
 -- the number of a Chapter or Verse, which stands in its link
 unfoldable pub numberAt : Tape → ℕ → ℕ
 numberAt t k = cond (eqb (kindAt t k) 6 || eqb (kindAt t k) 7) (nodeAt t k .link) 0
+
+-- the category of a node's entry; that of what is unknown is Other
+unfoldable pub categoryOf : Info → ℕ
+categoryOf (Known e) = e .category .code
+categoryOf Unknown = 7
+
+-- the element of a node's entry; that of what is unknown is other
+unfoldable pub elementOf : Info → ℕ
+elementOf (Known e) = e .element .code
+elementOf Unknown = 0
+
+-- the name of a node's entry; what is unknown has none
+unfoldable pub nameOf : Tape → Info → Bytes
+nameOf t (Known e) = entryName t e
+nameOf t Unknown = []

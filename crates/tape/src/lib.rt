@@ -10,7 +10,7 @@ pub use kinds::Kind;
 ghost use mathlib.Core.Path.{_≡_};
 ghost use lib.ListN.{getD};
 ghost use Rattle.parts.specs.Bytes.{part, same};
-ghost use Rattle.tape.specs.File.{le16 as le16Of, le32 as le32Of, nodeOf, entryOf, sectionsOf, entriesAt, namesAt, sourceAt, tapeIn, nodeAt, entryAt, kindAt, textAt, entryName, nameless, isSynthetic, isNested, bearsMarker, infoAt, numberAt};
+ghost use Rattle.tape.specs.File.{le16 as le16Of, le32 as le32Of, nodeOf, entryOf, sectionsOf, entriesAt, namesAt, sourceAt, tapeIn, nodeAt, entryAt, kindAt, textAt, entryName, nameless, isSynthetic, isNested, bearsMarker, infoAt, numberAt, categoryOf, elementOf, nameOf};
 ghost use Rattle.tape.specs.Name.{markerName, entryIs};
 ghost use Rattle.tape.specs.Tree.{isClose, holds, matchingClose, childBefore, firstChild, lastOf, siblingPast, nextSibling};
 
@@ -292,6 +292,42 @@ impl Cursor {
             }
         } else {
             Info::Unknown
+        }
+    }
+
+    pub fn flags(self, file: &[u8], tape: Sections) -> Flags
+        ensures { λ r. ⌜ r .bits ≡ nodeAt (tapeIn tape (now (file .entry))) (self .at) .flags .bits ⌝ }
+    {
+        self.node(file, tape).flags
+    }
+
+    // The category of the node's entry; Other where it is unknown.
+    pub fn category(self, file: &[u8], tape: Sections) -> Category
+        ensures { λ r. ⌜ r .code ≡ categoryOf (infoAt (tapeIn tape (now (file .entry))) (self .at)) ⌝ }
+    {
+        match self.marker_info(file, tape) {
+            Info::Known(e) => e.category,
+            Info::Unknown => Category::new(Category::OTHER),
+        }
+    }
+
+    // The element of the node's entry; other where it is unknown.
+    pub fn element(self, file: &[u8], tape: Sections) -> Element
+        ensures { λ r. ⌜ r .code ≡ elementOf (infoAt (tapeIn tape (now (file .entry))) (self .at)) ⌝ }
+    {
+        match self.marker_info(file, tape) {
+            Info::Known(e) => e.element,
+            Info::Unknown => Element::new(Element::OTHER),
+        }
+    }
+
+    // The name of the node's entry; nothing where it is unknown.
+    pub fn entry_name(self, file: &[u8], tape: Sections) -> &[u8]
+        ensures { λ r. ⌜ now r ≡ nameOf (tapeIn tape (now (file .entry))) (infoAt (tapeIn tape (now (file .entry))) (self .at)) ⌝ }
+    {
+        match self.marker_info(file, tape) {
+            Info::Known(e) => entry_name(file, tape, e),
+            Info::Unknown => parts::part(file, 0, 0),
         }
     }
 

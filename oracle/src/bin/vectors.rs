@@ -1,4 +1,5 @@
 //! Outside vectors for the leaf crates: inputs, and the answers that Rust's std gives to them.
+//! Our own rule stands where std has none: the escapes, U+FFFD of one byte for a stray byte, a missing word at the text's end.
 //!
 //! Writes a stream of records to standard output. A record: operation u8, set u8 (0 ASCII, 1 Unicode),
 //! number u16, length of the input u16, length of the answer u16 (all little-endian), input, answer.
