@@ -1,0 +1,51 @@
+-- Emission and pairing along a list of events.
+use mathlib.Core.Path.{_≡_, refl, sym, ap, _∙_}
+use mathlib.Core.List.{List, [], _∷_, _++_, append-assoc}
+use Rattle.parts.specs.Bytes.{Bytes}
+use Rattle.window.specs.Page.{Page, paint}
+use Rattle.window.proofs.Paint.{paint-append}
+use Rattle.tags.specs.Items.{Item, render}
+use Rattle.tags.proofs.Rendered.{render-append}
+use Rattle.events.specs.Event.{Event}
+use Rattle.events.specs.Pairing.{State, itemsOf, after, paired, lastEnds}
+use Rattle.events.specs.Emit.{Desk, lay, emit, emitAll, emitted, afterAll}
+
+-- what a list and another behind it emit
+pub emit-append : (w : Desk) (a z : List Event) → emitAll w (a ++ z) ≡ emitAll (emitAll w a) z
+unfolding emitAll
+emit-append w [] z = refl
+emit-append w (e ∷ a) z = emit-append (emit w e) a z
+
+-- the items of a list and of another behind it
+pub emitted-append : (s : State) (a z : List Event) → emitted s (a ++ z) ≡ emitted s a ++ emitted (afterAll s a) z
+unfolding emitted afterAll
+emitted-append s [] z = refl
+emitted-append s (e ∷ a) z =
+    ap (λ (is : List Item). itemsOf s e ++ is) (emitted-append (after s e) a z)
+    ∙ sym (append-assoc (itemsOf s e) (emitted (after s e) a) (emitted (afterAll (after s e) a) z))
+
+-- pairing is the items of the events, then the last ends
+pub paired-emitted : (s : State) (es : List Event) → paired s es ≡ emitted s es ++ lastEnds (afterAll s es)
+unfolding paired emitted afterAll
+paired-emitted s [] = refl
+paired-emitted s (e ∷ es) =
+    ap (λ (is : List Item). itemsOf s e ++ is) (paired-emitted (after s e) es)
+    ∙ sym (append-assoc (itemsOf s e) (emitted (after s e) es) (lastEnds (afterAll (after s e) es)))
+
+paint-none : (p : Page) → p ≡ paint p (render [])
+unfolding paint render
+paint-none p = refl
+
+-- emission paints what pairing gives
+pub emit-page : (w : Desk) (es : List Event) → emitAll w es .page ≡ paint (w .page) (render (emitted (w .state) es))
+unfolding emitAll emit emitted
+emit-page w [] = paint-none (w .page)
+emit-page w (e ∷ es) =
+    emit-page (emit w e) es
+    ∙ paint-append (w .page) (render (itemsOf (w .state) e)) (render (emitted (after (w .state) e) es))
+    ∙ ap (paint (w .page)) (sym (render-append (itemsOf (w .state) e) (emitted (after (w .state) e) es)))
+
+pub emit-state : (w : Desk) (es : List Event) → emitAll w es .state ≡ afterAll (w .state) es
+unfolding emitAll emit afterAll
+emit-state w [] = refl
+emit-state w (e ∷ es) = emit-state (emit w e) es

@@ -1,0 +1,5 @@
+pub mod Event
+pub mod Pairing
+pub mod Walk
+pub mod Text
+pub mod Emit

@@ -1,0 +1,330 @@
+-- The events of a tape: white space, attributes, folding. A container has remaining depth; at 0 none is entered, and leaves are still written.
+use Prim.Native.Nat.{ℕ, zero, suc, _+_, _-_}
+use mathlib.Core.List.{List, [], _∷_, _++_}
+use mathlib.Core.Bool.{Bool, true, false, cond, not, _&&_, _||_}
+use mathlib.Core.Option.{Option, none, some}
+use lib.ListN.{length}
+use lib.Dec.{eqb}
+use Rattle.parts.specs.Bytes.{Bytes, b, same}
+use Rattle.texts.specs.Text.{bodyOf, hasBreak, normalizeText, written, segments}
+use Rattle.texts.specs.declared.Normalized.{Normalized}
+use Rattle.tape.specs.File.{Tape, kindAt, nodeAt, textAt, infoAt, isSynthetic, isNested, numberAt, entryName}
+use Rattle.tape.specs.Tree.{children, firstChild, upTo, without}
+use Rattle.tape.specs.Name.{markerName}
+use Rattle.tape.specs.declared.Info.{Info}
+use Rattle.tape.specs.declared.Info.the-variants.{Known, Unknown}
+use Rattle.tape.specs.declared.Entry.{Entry}
+use Rattle.tape.specs.declared.Step.{Step}
+use Rattle.tape.specs.declared.Step.the-variants.{At, Done}
+use Rattle.render.specs.Shape.{isOpen, isChapter, isVerse, isInline, isRow, isElement, isTopLevelBlock, isCategoryMarker, trimsAfter, unknownShape}
+use Rattle.render.specs.First.{any, found}
+use Rattle.render.specs.Follow.{inlineFollows, followed}
+use Rattle.render.specs.Children.{hasContent}
+use Rattle.render.specs.Label.{labelOf}
+use Rattle.render.specs.Note.{noteCaller, remainder, categoryOf, bookCode, bookRest, periphAlt, cellAlign, alignWord}
+use Rattle.render.specs.declared.shape.Shape.{Shape}
+use Rattle.render.specs.declared.shape.Shape.the-variants.{Block, Inline, Leaf, Other}
+use Rattle.attrs.specs.Attr.{attributesOf}
+use Rattle.attrs.specs.Walk.{firstOf}
+use Rattle.fold.specs.Fold.{Folded, foldAt}
+use Rattle.figure.specs.Figure.{legacyAt, legacyPairs, captionOf}
+use Rattle.tags.specs.Items.{Attr, start, empty, close, text, line}
+use Rattle.events.specs.Event.{Event, item, chapter, verse, book, rawly, escaped, perhaps, collected, element}
+
+-- ---- texts
+
+-- a text where it shows: lead, body and trail
+unfoldable pub unbroken : Bytes → Normalized → List Event
+unbroken s n = cond (n .shows) (item (text (written s n)) ∷ []) []
+
+-- segments behind the first, `<optbreak />` before each
+unfoldable pub breaks : List Bytes → List Event
+breaks [] = []
+breaks (g ∷ gs) = item (empty 15 []) ∷ item (text g) ∷ breaks gs
+
+unfoldable pub segmented : List Bytes → List Event
+segmented [] = []
+segmented (g ∷ gs) = item (text g) ∷ breaks gs
+
+-- "a body holding `//` loses its edge spaces, is split there .. with `<optbreak />` between"
+unfoldable pub broken : Bytes → Normalized → List Event
+broken s n = cond (hasBreak (bodyOf s)) (segmented (segments s)) (unbroken s n)
+
+-- ---- attributes
+
+-- the style of a marker: its name in the source
+unfoldable pub style : Tape → ℕ → Attr
+style t k = rawly (b "style") (markerName t k)
+
+-- a style that the source does not name
+unfoldable pub styled : Bytes → List Attr
+styled name = rawly (b "style") name ∷ []
+
+-- `closed="false"` where the matching close is synthetic; a leaf's close is itself
+unfoldable pub unclosed : Tape → ℕ → List Attr
+unclosed t k = cond (isSynthetic t (nodeAt t k .link)) (escaped (b "closed") (b "false") ∷ []) []
+
+-- ---- one node
+
+-- how the children of a container are written
+pub data Manner : Type 0 where
+  asInline asNote : Manner
+
+-- what a MarkerOpen is written as
+pub data Role : Type 0 where
+  unknownBlock unknownInline unwritten figure ref id note ms char para : Role
+
+unfoldable pub roleOfShape : Shape → Role
+roleOfShape Block = unknownBlock
+roleOfShape Inline = unknownInline
+roleOfShape Leaf = unwritten
+roleOfShape Other = unwritten
+
+unfoldable pub roleOfCategory : ℕ → Role
+roleOfCategory category = cond (eqb category 5) note (cond (eqb category 6) ms (cond (eqb category 4) char para))
+
+-- `write_node`: unknown by shape; by the entry's name `usfm` and `fig`; by the name in the source `ref`; `id`; by category
+unfoldable pub roleBy : Tape → ℕ → Info → Role
+roleBy t k Unknown = roleOfShape (unknownShape t k)
+roleBy t k (Known e) =
+    cond (same (entryName t e) (b "usfm")) unwritten
+    (cond (same (entryName t e) (b "fig")) figure
+    (cond (same (markerName t k) (b "ref")) ref
+    (cond (eqb (e .category .code) 0 && same (entryName t e) (b "id")) id (roleOfCategory (e .category .code)))))
+
+unfoldable pub roleOf : Tape → ℕ → Role
+roleOf t k = roleBy t k (infoAt t k)
+
+-- a child that the source names `ref`
+unfoldable pub isRef : Tape → ℕ → Bool
+isRef t k = isOpen t k && same (markerName t k) (b "ref")
+
+-- `xt`, nested, with content, an `href` and no `ref` inside: the first href
+unfoldable pub linkOf : Tape → ℕ → Option Bytes
+linkOf t k =
+    cond (same (markerName t k) (b "xt") && (isNested t k && (hasContent t k && not (any (isRef t) (children t k)))))
+    (firstOf (b "href") (attributesOf t k (markerName t k))) none
+
+-- its content then stands in a `ref`
+unfoldable pub linked : Option Bytes → List Event → List Event
+linked none es = es
+linked (some loc) es = element 16 (escaped (b "loc") loc ∷ []) es
+
+-- `write_figure`: the positional form of old writes no child
+unfoldable pub figureAs : (Manner → ℕ → Bool → List Event) → Tape → ℕ → Bool → Step → List Event
+figureAs inside t k outer (At a) = element 9 (styled (b "fig") ++ collected (legacyPairs t k (a .at))) (item (text (captionOf t (a .at))) ∷ [])
+figureAs inside t k outer Done = element 9 (styled (b "fig") ++ collected (attributesOf t k (b "fig"))) (inside asInline k outer)
+
+-- a MarkerOpen by its role; `inside` has the events inside a container, `outer` says whether inline content follows the parent
+unfoldable pub markerAs : (Manner → ℕ → Bool → List Event) → Tape → ℕ → Bool → Role → List Event
+markerAs inside t k outer unknownBlock = element 5 (style t k ∷ escaped (b "status") (b "unknown") ∷ []) (inside asInline k outer)
+markerAs inside t k outer unknownInline = element 6 (style t k ∷ escaped (b "status") (b "unknown") ∷ []) (inside asInline k outer)
+markerAs inside t k outer unwritten = []
+markerAs inside t k outer figure = figureAs inside t k outer (legacyAt t k)
+markerAs inside t k outer ref = element 16 (perhaps (b "loc") (firstOf (b "loc") (attributesOf t k (b "ref")))) (inside asInline k outer)
+markerAs inside t k outer id = book (bookCode t k) (bookRest t k) ∷ []
+markerAs inside t k outer note =
+    element 7 (escaped (b "caller") (noteCaller t k) ∷ style t k ∷ perhaps (b "category") (categoryOf t k)) (inside asNote k outer)
+markerAs inside t k outer ms = item (empty 8 (style t k ∷ collected (attributesOf t k (markerName t k)))) ∷ []
+markerAs inside t k outer char =
+    element 6 (style t k ∷ (unclosed t k ++ collected (attributesOf t k (markerName t k)))) (linked (linkOf t k) (inside asInline k outer))
+markerAs inside t k outer para =
+    cond (found (firstChild t k)) (element 5 (style t k ∷ []) (inside asInline k outer)) (item (empty 5 (style t k ∷ [])) ∷ [])
+
+-- one node that is no text; a Chapter or Verse here folds nothing
+unfoldable pub nodeIn : (Manner → ℕ → Bool → List Event) → Tape → ℕ → Bool → List Event
+nodeIn inside t k outer =
+    cond (isChapter t k) (chapter (numberAt t k) none none ∷ [])
+    (cond (isVerse t k) (verse (labelOf t k) none none ∷ [])
+    (cond (isOpen t k) (markerAs inside t k outer (roleOf t k)) []))
+
+-- ---- children
+
+-- what a child is to its list: Attribute and Error are passed over
+pub data Child : Type 0 where
+  anchor words passed marker : Child
+
+unfoldable pub childOf : ℕ → Child
+childOf kind = cond (eqb kind 7) anchor (cond (eqb kind 1) words (cond (eqb kind 2 || eqb kind 8) passed marker))
+
+-- in a note `cat` is passed over, and a Verse folds nothing
+unfoldable pub noteChildOf : Tape → ℕ → Child
+noteChildOf t k =
+    cond (isCategoryMarker t k) passed
+    (cond (eqb (kindAt t k) 1) words (cond (eqb (kindAt t k) 2 || eqb (kindAt t k) 8) passed marker))
+
+-- one turn along a list: what is written, whether a text behind it loses its leading space, and where the list goes on
+pub record Turn : Type 0 where
+  pub written : List Event
+  pub trim : Bool
+  pub rest : List ℕ
+
+-- a text in a list: `write_children`
+unfoldable pub normalized : Tape → ℕ → Bytes → Bool → Bool → Normalized
+normalized t k s trim behind = normalizeText s (not trim) (inlineFollows t k || behind)
+
+-- `behind`: whether inline content follows the parent
+unfoldable pub inlineTurn : (ℕ → Bool → List Event) → Tape → Bool → Bool → ℕ → List ℕ → Child → Turn
+inlineTurn node t behind trim k ks anchor =
+    let f = foldAt t 7 ks in record { written = verse (labelOf t k) (f .alt) (f .published) ∷ []; trim = true; rest = f .rest }
+inlineTurn node t behind trim k ks words =
+    let n = normalized t k (textAt t k) trim behind in
+    record { written = broken (textAt t k) n; trim = trim && not (n .shows); rest = ks }
+inlineTurn node t behind trim k ks passed = record { written = []; trim = trim; rest = ks }
+inlineTurn node t behind trim k ks marker = record { written = node k behind; trim = trimsAfter t k; rest = ks }
+
+-- the events of a list of inline children, in at most so many turns
+unfoldable pub inlineFrom : (ℕ → Bool → List Event) → Tape → Bool → ℕ → Bool → List ℕ → List Event
+inlineFrom node t behind zero trim ks = []
+inlineFrom node t behind (suc n) trim [] = []
+inlineFrom node t behind (suc n) trim (k ∷ ks) =
+    let r = inlineTurn node t behind trim k ks (childOf (kindAt t k)) in r .written ++ inlineFrom node t behind n (r .trim) (r .rest)
+
+-- the events of a list of inline children
+unfoldable pub inlineAll : (ℕ → Bool → List Event) → Tape → Bool → Bool → List ℕ → List Event
+inlineAll node t behind trim ks = inlineFrom node t behind (length ks) trim ks
+
+-- the text of a note's child: the caller's word goes from the first child
+unfoldable pub noteText : Tape → ℕ → ℕ → Bytes
+noteText t first k = cond (eqb k first) (remainder (textAt t k)) (textAt t k)
+
+-- a child of a note: direct text is never split at `//`
+unfoldable pub noteTurn : (ℕ → Bool → List Event) → Tape → ℕ → Bool → Bool → ℕ → Child → Turn
+noteTurn node t first behind trim k anchor = record { written = []; trim = trim; rest = [] }
+noteTurn node t first behind trim k words =
+    let n = normalized t k (noteText t first k) trim behind in
+    record { written = unbroken (noteText t first k) n; trim = trim && not (n .shows); rest = [] }
+noteTurn node t first behind trim k passed = record { written = []; trim = trim; rest = [] }
+noteTurn node t first behind trim k marker = record { written = node k behind; trim = trimsAfter t k; rest = [] }
+
+-- the events of a note's children, of which the first has this index
+unfoldable pub noteAll : (ℕ → Bool → List Event) → Tape → ℕ → Bool → Bool → List ℕ → List Event
+noteAll node t first behind trim [] = []
+noteAll node t first behind trim (k ∷ ks) =
+    let r = noteTurn node t first behind trim k (noteChildOf t k) in r .written ++ noteAll node t first behind (r .trim) ks
+
+-- ---- by depth
+
+-- the events inside a container, by the depth that is left at it
+unfoldable pub inside : Tape → ℕ → Manner → ℕ → Bool → List Event
+inside t zero m k outer = []
+inside t (suc d) asInline k outer = inlineAll (nodeIn (inside t d) t) t (followed t k outer) true (children t k)
+inside t (suc d) asNote k outer = noteAll (nodeIn (inside t d) t) t (k + 1) (followed t k outer) true (children t k)
+
+-- one node
+abbrev pub nodeE : Tape → ℕ → ℕ → Bool → List Event
+nodeE t d k outer = nodeIn (inside t d) t k outer
+
+-- ---- blocks
+
+-- two spaces a level: 1 for the blocks of Root, where 64 containers may be entered
+unfoldable pub levelOf : ℕ → ℕ
+levelOf d = 65 - d
+
+-- cells are known markers
+unfoldable pub isKnown : Info → Bool
+isKnown (Known e) = true
+isKnown Unknown = false
+
+unfoldable pub isCell : Tape → ℕ → Bool
+isCell t k = isOpen t k && isKnown (infoAt t k)
+
+-- `write_cell`
+unfoldable pub cellIn : (Manner → ℕ → Bool → List Event) → Tape → ℕ → ℕ → List Event
+cellIn inside t level k =
+    let attrs = style t k ∷ escaped (b "align") (alignWord (cellAlign (markerName t k))) ∷ [] in
+    item (line level) ∷ cond (hasContent t k) (element 12 attrs (inside asInline k false)) (item (empty 12 attrs) ∷ [])
+
+unfoldable pub cellsAlong : (Manner → ℕ → Bool → List Event) → Tape → ℕ → List ℕ → List Event
+cellsAlong inside t level [] = []
+cellsAlong inside t level (k ∷ ks) = cond (isCell t k) (cellIn inside t level k) [] ++ cellsAlong inside t level ks
+
+-- the cells of a row, by the depth that is left at the row
+unfoldable pub cells : Tape → ℕ → ℕ → ℕ → List Event
+cells t zero level k = []
+cells t (suc d) level k = cellsAlong (inside t d) t level (children t k)
+
+unfoldable pub rowE : Tape → ℕ → ℕ → List Event
+rowE t d k =
+    item (line (levelOf d + 1)) ∷ item (start 11 (styled (b "tr")))
+    ∷ (cells t d (levelOf d + 2) k ++ (item (line (levelOf d + 1)) ∷ item (close 11) ∷ []))
+
+unfoldable pub rowsE : Tape → ℕ → List ℕ → List Event
+rowsE t d [] = []
+rowsE t d (k ∷ ks) = rowE t d k ++ rowsE t d ks
+
+-- `write_table`: rows that stand together
+unfoldable pub tableE : Tape → ℕ → List ℕ → List Event
+tableE t d ks =
+    item (line (levelOf d)) ∷ item (start 10 []) ∷ (rowsE t d ks ++ (item (line (levelOf d)) ∷ item (close 10) ∷ []))
+
+-- a sidebar or periph around a list: blocks, or ` />` where it has no block and no row
+unfoldable pub holder : (List ℕ → List Event) → Tape → ℕ → ℕ → List Attr → List ℕ → List Event
+holder blocks t level n attrs ks =
+    cond (any (λ k. isTopLevelBlock t k || isRow t k) ks)
+    (item (start n attrs) ∷ (blocks ks ++ (item (line level) ∷ item (close n) ∷ [])))
+    (item (empty n attrs) ∷ [])
+
+-- "a sidebar's `\cat`" leaves the list
+unfoldable pub sidebarIn : (List ℕ → List Event) → Tape → ℕ → ℕ → List Event
+sidebarIn blocks t level k =
+    holder blocks t level 13 (style t k ∷ (perhaps (b "category") (categoryOf t k) ++ unclosed t k)) (without (isCategoryMarker t) (children t k))
+
+unfoldable pub periphIn : (List ℕ → List Event) → Tape → ℕ → ℕ → List Event
+periphIn blocks t level k =
+    holder blocks t level 14 (perhaps (b "alt") (periphAlt t k) ++ collected (attributesOf t k (b "periph"))) (children t k)
+
+-- what a node is at block level
+pub data Place : Type 0 where
+  aRow aChapter aSidebar aPeriph aBlock aVerse dropped : Place
+
+unfoldable pub placeOf : Tape → ℕ → Place
+placeOf t k =
+    cond (isRow t k) aRow
+    (cond (isChapter t k) aChapter
+    (cond (isElement 1 (infoAt t k)) aSidebar
+    (cond (isElement 2 (infoAt t k)) aPeriph
+    (cond (isTopLevelBlock t k) aBlock (cond (isVerse t k) aVerse dropped)))))
+
+-- a list from the first node on that passes a test
+unfoldable pub fromFirst : (ℕ → Bool) → List ℕ → List ℕ
+fromFirst p [] = []
+fromFirst p (k ∷ ks) = cond (p k) (k ∷ ks) (fromFirst p ks)
+
+-- one turn along a list of blocks: what is written, and where the list goes on
+pub record Blocks : Type 0 where
+  pub written : List Event
+  pub rest : List ℕ
+
+-- `write_blocks`: each starts on a new line; a verse starts a run in a paragraph of its own, cut at the next block
+unfoldable pub blockTurn : (List ℕ → List Event) → Tape → ℕ → ℕ → List ℕ → Place → Blocks
+blockTurn blocks t d k ks aRow =
+    record { written = tableE t d (k ∷ upTo (λ i. not (isRow t i)) ks); rest = fromFirst (λ i. not (isRow t i)) ks }
+blockTurn blocks t d k ks aChapter =
+    let f = foldAt t 6 ks in
+    record { written = item (line (levelOf d)) ∷ chapter (numberAt t k) (f .alt) (f .published) ∷ []; rest = f .rest }
+blockTurn blocks t d k ks aSidebar = record { written = item (line (levelOf d)) ∷ sidebarIn blocks t (levelOf d) k; rest = ks }
+blockTurn blocks t d k ks aPeriph = record { written = item (line (levelOf d)) ∷ periphIn blocks t (levelOf d) k; rest = ks }
+blockTurn blocks t d k ks aBlock = record { written = item (line (levelOf d)) ∷ nodeE t d k false; rest = ks }
+blockTurn blocks t d k ks aVerse =
+    record {
+      written = item (line (levelOf d)) ∷ element 5 (styled (b "p")) (inlineAll (nodeIn (inside t d) t) t false true (k ∷ upTo (isTopLevelBlock t) ks));
+      rest = fromFirst (isTopLevelBlock t) ks;
+    }
+blockTurn blocks t d k ks dropped = record { written = []; rest = ks }
+
+-- the events of a list of blocks, in at most so many turns
+unfoldable pub blocksFrom : (List ℕ → List Event) → Tape → ℕ → ℕ → List ℕ → List Event
+blocksFrom blocks t d zero ks = []
+blocksFrom blocks t d (suc n) [] = []
+blocksFrom blocks t d (suc n) (k ∷ ks) =
+    let r = blockTurn blocks t d k ks (placeOf t k) in r .written ++ blocksFrom blocks t d n (r .rest)
+
+-- the events of a list of blocks, by the depth that is left at them
+unfoldable pub blocksE : Tape → ℕ → List ℕ → List Event
+blocksE t zero ks = blocksFrom (λ _. []) t zero (length ks) ks
+blocksE t (suc d) ks = blocksFrom (blocksE t d) t (suc d) (length ks) ks
+
+-- all events of a tape; 64 containers may be entered
+unfoldable pub eventsOf : Tape → List Event
+eventsOf t = blocksE t 64 (children t 0)

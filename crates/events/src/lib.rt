@@ -1,0 +1,1 @@
+// The definition of the text. It holds no code: specs/ says what is written, proofs/ what follows from it.
