@@ -1,0 +1,44 @@
+use Rattle.sink.proofs.Idents.{chapter-id}
+use borrow.Author.Needs.{needs}
+use Rattle.sink.proofs.ident.put_chapter_id.Statement.{statement}
+use Rattle.sink.proofs.ident.put_chapter_id.Tie as tie
+use Rattle.sink.proofs.ident.put_chapter_id.Reads as reads
+use Rattle.sink.proofs.ident.put_chapter_id.Lts as lts
+use Rattle.sink.proofs.ident.put_shown.Reads as put-shown-reads
+use Rattle.window.proofs.put_number.Reads as put-number-reads
+use Rattle.window.proofs.put_run.Reads as put-run-reads
+
+-- src/ident.rt:31:9
+put-shown-requires : tie.Need-put-shown-requires
+put-shown-requires c κs = search needs
+
+-- src/ident.rt:32:29
+slice-aggregate-put-run : tie.Need-slice-aggregate-put-run
+slice-aggregate-put-run c = search needs
+
+-- src/ident.rt:32:9
+put-run-requires : tie.Need-put-run-requires
+put-run-requires c κs = search needs
+
+-- src/ident.rt:33:5
+put-number-requires : tie.Need-put-number-requires
+put-number-requires c κs = search needs
+
+-- src/ident.rt:28:1
+same-length : tie.Need-same-length
+same-length c = search needs
+
+-- src/ident.rt:28:1
+returns : tie.Need-returns
+returns c = search chapter-id
+
+pub put-chapter-id-spec : {M : Type 1} → statement M
+put-chapter-id-spec =
+    tie.close
+    (tie.spec
+    put-shown-requires
+    slice-aggregate-put-run
+    put-run-requires
+    put-number-requires
+    same-length
+    returns)

@@ -1,0 +1,15 @@
+// Events written through a window: the sink, its marks, and one function for each kind of event.
+mod ident;
+mod plain;
+
+use marks::Marks;
+pub use plain::line;
+pub use plain::literal;
+use window::Window;
+
+// How much of the text is written, which byte of it the buffer starts with, and what is open.
+pub struct Sink {
+    pub at: usize,
+    pub from: usize,
+    pub marks: Marks,
+}
