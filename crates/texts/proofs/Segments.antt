@@ -22,7 +22,8 @@ use Rattle.words.proofs.Steps.{size-some, space-apart, space-size, space-white}
 use Rattle.words.proofs.Texts.{chars-flatten, chars-row, row-chars, trim-start-chars}
 use Rattle.texts.specs.Text.{hardSpaces, bodyOf, spaced, hasBreak, splitBreaks, segments}
 use Rattle.texts.proofs.Texts.{hard-append, hard-other, hard-space, joined-tail}
-use Rattle.texts.proofs.Breaks.{isSlash, pairIn, slash-pair, break-pair, onto-first, pieces-step, pair-words, pair-hard}
+use Rattle.texts.proofs.Breaks.{isSlash, pairIn, slash-pair, break-pair, onto-first, pair-words, pair-hard}
+use Rattle.texts.proofs.Told.{told, more, told-nil, more-nil, told-words, told-white, told-solid, more-white, more-solid, joined-nil, spaced-nil, spaced-joined}
 
 -- ---- spaces at the edges of what is trimmed
 
@@ -86,62 +87,7 @@ unfolding spaces hardSpaces
 hard-spaces zero = refl
 hard-spaces (suc n) = hard-space (spaces n) ∙ rw (hard-spaces n)
 
--- ---- a body byte by byte
-
--- the body's words, joined; and what they add behind a solid byte
-unfoldable told : Bytes → Bytes
-told s = joined (words Ascii s)
-
-unfoldable behindSolid : List Bytes → Bytes
-behindSolid [] = []
-behindSolid (p ∷ ps) = p ++ spaced (nonempty ps)
-
-unfoldable more : Bytes → Bytes
-more s = behindSolid (pieces (white Ascii) (charsOf Ascii s))
-
-told-nil : told [] ≡ []
-unfolding told joined
-told-nil = rw (words-nil Ascii)
-
-more-nil : more [] ≡ []
-unfolding more behindSolid charsOf cutAt pieces nonempty spaced
-more-nil = refl
-
-told-words : (s : Bytes) → told s ≡ joined (words Ascii s)
-unfolding told
-told-words s = refl
-
-first-behind : (x : ℕ) (p : Bytes) (ps : List Bytes) → behindSolid ((x ∷ p) ∷ ps) ≡ x ∷ behindSolid (p ∷ ps)
-unfolding behindSolid
-first-behind x p ps = refl
-
-first-piece : (x : ℕ) (p : Bytes) (ps : List Bytes) → joined (nonempty ((x ∷ p) ∷ ps)) ≡ x ∷ behindSolid (p ∷ ps)
-unfolding behindSolid nonempty
-first-piece x p ps = joined-tail (x ∷ p) (nonempty ps)
-
-told-white : (x : ℕ) (s : Bytes) → isAsciiWhite x ≡ true → told (x ∷ s) ≡ told s
-unfolding told words nonempty
-told-white x s h = rw (pieces-step x s, h)
-
-told-solid : (x : ℕ) (s : Bytes) → isAsciiWhite x ≡ false → told (x ∷ s) ≡ x ∷ more s
-unfolding told words more
-told-solid x s h = rw (pieces-step x s, h) (go (pieces (white Ascii) (charsOf Ascii s)) refl)
-  where
-    go : (q : List Bytes) → pieces (white Ascii) (charsOf Ascii s) ≡ q → joined (nonempty (onto (x ∷ []) q)) ≡ x ∷ behindSolid q
-    go [] e = absurd (pieces-some (white Ascii) (charsOf Ascii s) e)
-    go (p ∷ ps) e = rw (onto-first x p ps) (first-piece x p ps)
-
-more-white : (x : ℕ) (s : Bytes) → isAsciiWhite x ≡ true → more (x ∷ s) ≡ spaced (words Ascii s)
-unfolding more behindSolid words
-more-white x s h = rw (pieces-step x s, h)
-
-more-solid : (x : ℕ) (s : Bytes) → isAsciiWhite x ≡ false → more (x ∷ s) ≡ x ∷ more s
-unfolding more
-more-solid x s h = rw (pieces-step x s, h) (go (pieces (white Ascii) (charsOf Ascii s)) refl)
-  where
-    go : (q : List Bytes) → pieces (white Ascii) (charsOf Ascii s) ≡ q → behindSolid (onto (x ∷ []) q) ≡ x ∷ behindSolid q
-    go [] e = absurd (pieces-some (white Ascii) (charsOf Ascii s) e)
-    go (p ∷ ps) e = rw (onto-first x p ps) (first-behind x p ps)
+-- ---- what follows a solid byte
 
 -- what follows a solid byte: spaces, and the body of the rest
 spaced-told : (ws : List Bytes) → (n : ℕ) × (spaced ws ≡ spaces n ++ joined ws)
@@ -157,18 +103,6 @@ more-told (x ∷ s) = go (isAsciiWhite x) refl
     go : (y : Bool) → isAsciiWhite x ≡ y → (n : ℕ) × (more (x ∷ s) ≡ spaces n ++ told (x ∷ s))
     go true e = let (n, h) = spaced-told (words Ascii s) in (n, more-white x s e ∙ h ∙ sym (ap (λ (a : Bytes). spaces n ++ a) (told-white x s e ∙ told-words s)))
     go false e = (0, more-solid x s e ∙ sym (told-solid x s e))
-
-joined-nil : joined [] ≡ []
-unfolding joined
-joined-nil = refl
-
-spaced-nil : spaced [] ≡ []
-unfolding spaced
-spaced-nil = refl
-
-spaced-joined : (w : Bytes) (ws : List Bytes) → spaced (w ∷ ws) ≡ 32 ∷ joined (w ∷ ws)
-unfolding spaced
-spaced-joined w ws = rw (joined-tail w ws)
 
 blank-up : (n : ℕ) (t : Bytes) {m u : Bytes} → m ≡ [] → u ≡ [] → m ++ (spaces (suc n) ++ t) ≡ 32 ∷ (u ++ (spaces n ++ t))
 unfolding spaces

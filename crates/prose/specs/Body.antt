@@ -1,0 +1,53 @@
+-- A body as it is written: runs that it shares with its text, and the marks between them.
+use Prim.Native.Nat.{ℕ}
+use mathlib.Core.Bool.{Bool, false, true, cond, not, _&&_, _||_}
+use mathlib.Core.List.{[], _∷_}
+use lib.ListN.{length, drop}
+use lib.Dec.{eqb}
+use Rattle.parts.specs.Bytes.{Bytes, firstAt}
+use Rattle.chars.specs.Space.{isAsciiWhite}
+use Rattle.words.specs.Words.{whiteLen}
+use Rattle.words.specs.declared.Set.the-variants.{Ascii}
+use Rattle.texts.specs.Text.{bodyOf}
+use Rattle.prose.specs.declared.Mark.{Mark}
+use Rattle.prose.specs.declared.Mark.the-variants.{Nothing, Space, Hard}
+use Rattle.prose.specs.declared.Gap.{Gap}
+
+-- what a body goes on with where this follows a solid byte, such as A
+unfoldable pub restOf : Bytes → Bytes
+restOf s = drop 1 (bodyOf (65 ∷ s))
+
+-- a byte that a body holds as it is: neither white space nor `~`
+unfoldable pub plain : ℕ → Bool
+plain x = not (isAsciiWhite x || eqb x 126)
+
+unfoldable pub startsPlain : Bytes → Bool
+startsPlain [] = false
+startsPlain (x ∷ s) = plain x
+
+-- where the run ends that a text shares with its body behind a solid byte: plain bytes, and a space before one
+unfoldable pub differs : Bytes → Bool
+differs [] = true
+differs (x ∷ s) = not (plain x || (eqb x 32 && startsPlain s))
+
+-- how many bytes that run has
+unfoldable pub sharedLen : Bytes → ℕ
+sharedLen s = firstAt differs s
+
+-- what is written for a mark: nothing, a space, U+00A0
+unfoldable pub marked : Mark → Bytes
+marked Nothing = []
+marked Space = 32 ∷ []
+marked Hard = 194 ∷ 160 ∷ []
+
+-- white space is one space, and at the end of a text nothing
+unfoldable pub gapWhite : Bytes → Gap
+gapWhite s =
+    record { mark = cond (eqb (whiteLen Ascii s) (length s)) Nothing Space; len = whiteLen Ascii s }
+
+-- what is written for the first bytes of a text behind a solid byte, and how many they are; none where the first is plain
+unfoldable pub gapOf : Bytes → Gap
+gapOf [] = record { mark = Nothing; len = 0 }
+gapOf (x ∷ s) =
+    cond (eqb x 126) (record { mark = Hard; len = 1 })
+    (cond (isAsciiWhite x) (gapWhite (x ∷ s)) (record { mark = Nothing; len = 0 }))

@@ -1,0 +1,206 @@
+// Normalized text written through the window, without a copy of it.
+ghost use mathlib.Core.Path.{_≡_};
+ghost use mathlib.Core.Bool.{false};
+ghost use mathlib.Core.List.{_++_};
+ghost use lib.ListN.{drop};
+ghost use Rattle.chars.specs.Escape.{escape};
+ghost use Rattle.words.specs.Words.{words, joined, trim};
+ghost use Rattle.texts.specs.Text.{bodyOf, spaced, written, spaceIf};
+ghost use Rattle.window.specs.Page.{pageOf, paint};
+ghost use Rattle.prose.specs.Body.{restOf, plain, startsPlain, differs, sharedLen, marked, gapWhite, gapOf};
+use texts::Normalized;
+use window::Window;
+use words::Set;
+
+// What is written for white space or `~`.
+enum Mark {
+    Nothing,
+    Space,
+    Hard,
+}
+
+// A mark, and how many bytes of the text it stands for.
+struct Gap {
+    mark: Mark,
+    len: usize,
+}
+
+// Whether a body holds a byte as it is.
+fn is_plain(x: u8) -> bool
+    ensures { λ r. ⌜ r ≡ plain x ⌝ }
+{
+    if chars::is_ascii_white(x) {
+        return false;
+    }
+    x != b'~'
+}
+
+fn starts_plain(s: &[u8]) -> bool
+    ensures { λ r. ⌜ r ≡ startsPlain (now (s .entry)) ⌝ }
+{
+    if s.len() == 0 {
+        return false;
+    }
+    is_plain(s[0])
+}
+
+// Whether a body differs from its text here, behind a solid byte.
+fn differs_here(s: &[u8]) -> bool
+    ensures { λ r. ⌜ r ≡ differs (now (s .entry)) ⌝ }
+{
+    if s.len() == 0 {
+        return true;
+    }
+    let x = s[0];
+    if is_plain(x) {
+        return false;
+    }
+    if x == b' ' {
+        return !starts_plain(&s[1..]);
+    }
+    true
+}
+
+// How many bytes a body shares with its text, behind a solid byte.
+fn shared_len(s: &[u8]) -> usize
+    ensures { λ r. ⌜ r ≡ sharedLen (now (s .entry)) ⌝ }
+{
+    let mut i = 0;
+    while i < s.len() {
+        if differs_here(parts::from(s, i)) {
+            return i;
+        }
+        i += 1;
+    }
+    i
+}
+
+// White space: one space, and at the end nothing.
+fn white_gap(s: &[u8]) -> Gap
+    ensures { λ r. ⌜ r ≡ gapWhite (now (s .entry)) ⌝ }
+{
+    let len = words::white_len(s, Set::Ascii);
+    if len == s.len() {
+        return Gap {
+            mark: Mark::Nothing,
+            len,
+        };
+    }
+    Gap {
+        mark: Mark::Space,
+        len,
+    }
+}
+
+// What is written for the first bytes of a text, behind a solid byte.
+fn first_gap(s: &[u8]) -> Gap
+    ensures { λ r. ⌜ r ≡ gapOf (now (s .entry)) ⌝ }
+{
+    if s.len() == 0 {
+        return Gap {
+            mark: Mark::Nothing,
+            len: 0,
+        };
+    }
+    let x = s[0];
+    if x == b'~' {
+        return Gap {
+            mark: Mark::Hard,
+            len: 1,
+        };
+    }
+    if chars::is_ascii_white(x) {
+        return white_gap(s);
+    }
+    Gap {
+        mark: Mark::Nothing,
+        len: 0,
+    }
+}
+
+fn put_mark(w: Window, out: &mut [u8], mark: Mark) -> Window
+    ensures { λ r. ⌜ pageOf r (now (out .exit)) ≡ paint (pageOf w (now (out .entry))) (marked mark) ⌝ }
+{
+    match mark {
+        Mark::Nothing => w,
+        Mark::Space => window::put_run(w, out, b" "),
+        Mark::Hard => window::put_run(w, out, b"\xC2\xA0"),
+    }
+}
+
+// What a body goes on with behind a solid byte: a run, and the gap behind it.
+fn put_rest(w: Window, out: &mut [u8], s: &[u8]) -> Window
+    ensures { λ r. ⌜ pageOf r (now (out .exit)) ≡ paint (pageOf w (now (out .entry))) (escape false (restOf (now (s .entry)))) ⌝ }
+{
+    let mut v = w;
+    let mut at = 0;
+    while at < s.len() {
+        let n = shared_len(parts::from(s, at));
+        v = window::escape_xml(v, out, parts::part(s, at, n));
+        let g = first_gap(parts::from(s, at + n));
+        let m = g.mark;
+        v = put_mark(v, out, m);
+        at += n + g.len;
+    }
+    v
+}
+
+// The body of a text.
+pub fn put_body(w: Window, out: &mut [u8], s: &[u8]) -> Window
+    ensures { λ r. ⌜ pageOf r (now (out .exit)) ≡ paint (pageOf w (now (out .entry))) (escape false (bodyOf (now (s .entry)))) ⌝ }
+{
+    put_rest(w, out, words::trim_start(s, Set::Ascii))
+}
+
+fn put_space(w: Window, out: &mut [u8], t: bool) -> Window
+    ensures { λ r. ⌜ pageOf r (now (out .exit)) ≡ paint (pageOf w (now (out .entry))) (spaceIf t) ⌝ }
+{
+    if t { window::put_run(w, out, b" ") } else { w }
+}
+
+// A normalized text: its lead, its body and its trail.
+pub fn put_written(w: Window, out: &mut [u8], s: &[u8], n: Normalized) -> Window
+    ensures { λ r. ⌜ pageOf r (now (out .exit)) ≡ paint (pageOf w (now (out .entry))) (escape false (written (now (s .entry)) n)) ⌝ }
+{
+    let v = put_space(w, out, n.lead);
+    let u = put_body(v, out, s);
+    put_space(u, out, n.trail)
+}
+
+// A text with its escapes, as a value or as text.
+fn put_escaped(w: Window, out: &mut [u8], s: &[u8], attr: bool) -> Window
+    ensures { λ r. ⌜ pageOf r (now (out .exit)) ≡ paint (pageOf w (now (out .entry))) (escape attr (now (s .entry))) ⌝ }
+{
+    if attr {
+        window::escape_xml_attr(w, out, s)
+    } else {
+        window::escape_xml(w, out, s)
+    }
+}
+
+// The words from a place on, a space before each.
+fn put_spaced(w: Window, out: &mut [u8], s: &[u8], start: usize, attr: bool) -> Window
+    ensures { λ r. ⌜ pageOf r (now (out .exit)) ≡ paint (pageOf w (now (out .entry))) (escape attr (spaced (words Set.Unicode (drop start (now (s .entry)))))) ⌝ }
+{
+    let mut v = w;
+    let mut at = start;
+    while at < s.len() {
+        let word = words::next_word(s, Set::Unicode, at);
+        if word.len == 0 {
+            return v;
+        }
+        v = window::put_run(v, out, b" ");
+        v = put_escaped(v, out, parts::part(s, word.start, word.len), attr);
+        at = word.start + word.len;
+    }
+    v
+}
+
+// The words of a text, joined by one space.
+pub fn put_words(w: Window, out: &mut [u8], s: &[u8], attr: bool) -> Window
+    ensures { λ r. ⌜ pageOf r (now (out .exit)) ≡ paint (pageOf w (now (out .entry))) (escape attr (joined (words Set.Unicode (now (s .entry))))) ⌝ }
+{
+    let word = words::next_word(s, Set::Unicode, 0);
+    let v = put_escaped(w, out, parts::part(s, word.start, word.len), attr);
+    put_spaced(v, out, s, word.start + word.len, attr)
+}
