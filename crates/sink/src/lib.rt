@@ -3,6 +3,10 @@ mod ident;
 mod plain;
 
 use marks::Marks;
+pub use ident::end_chapter;
+pub use ident::end_verse;
+pub use ident::put_chapter_id;
+pub use ident::put_verse_id;
 pub use plain::line;
 pub use plain::literal;
 use window::Window;
