@@ -1,0 +1,25 @@
+use Rattle.fold.proofs.Folding.{at-some, at-none}
+use borrow.Author.Needs.{needs}
+use Rattle.lists.proofs.is_at.Statement.{statement}
+use Rattle.lists.proofs.is_at.Tie as tie
+use Rattle.lists.proofs.is_at.Reads as reads
+use Rattle.lists.proofs.is_at.Lts as lts
+
+-- src/lib.rt:67:24
+enum-told : tie.Need-enum-told
+enum-told c = search needs
+
+-- src/lib.rt:68:23
+enum-told-2 : tie.Need-enum-told-2
+enum-told-2 c = search needs
+
+-- src/lib.rt:63:1
+returns : tie.Need-returns
+returns c = search at-some
+
+-- src/lib.rt:63:1
+returns-2 : tie.Need-returns-2
+returns-2 c = search at-none
+
+pub is-at-spec : {M : Type 1} → statement M
+is-at-spec = tie.close (tie.spec enum-told enum-told-2 returns returns-2)

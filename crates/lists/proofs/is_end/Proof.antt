@@ -1,0 +1,22 @@
+use Rattle.lists.proofs.Nodes.{both-yes, both-no}
+use borrow.Author.Needs.{needs}
+use Rattle.lists.proofs.is_end.Statement.{statement}
+use Rattle.lists.proofs.is_end.Tie as tie
+use Rattle.lists.proofs.is_end.Reads as reads
+use Rattle.lists.proofs.is_end.Lts as lts
+use Rattle.render.proofs.is_top_level_block.Reads as is-top-level-block-reads
+
+-- src/lib.rt:46:9
+is-top-level-block-requires : tie.Need-is-top-level-block-requires
+is-top-level-block-requires c κs = search needs
+
+-- src/lib.rt:46:9
+returns : tie.Need-returns
+returns c = search both-yes
+
+-- src/lib.rt:42:1
+returns-2 : tie.Need-returns-2
+returns-2 c = search needs
+
+pub is-end-spec : {M : Type 1} → statement M
+is-end-spec = tie.close (tie.spec is-top-level-block-requires returns returns-2)

@@ -1,0 +1,22 @@
+use Rattle.lists.proofs.Nodes.{both-yes, both-no}
+use borrow.Author.Needs.{needs}
+use Rattle.lists.proofs.is_skipped.Statement.{statement}
+use Rattle.lists.proofs.is_skipped.Tie as tie
+use Rattle.lists.proofs.is_skipped.Reads as reads
+use Rattle.lists.proofs.is_skipped.Lts as lts
+use Rattle.render.proofs.is_category_marker.Reads as is-category-marker-reads
+
+-- src/lib.rt:36:9
+is-category-marker-requires : tie.Need-is-category-marker-requires
+is-category-marker-requires c κs = search needs
+
+-- src/lib.rt:36:9
+returns : tie.Need-returns
+returns c = search both-yes
+
+-- src/lib.rt:32:1
+returns-2 : tie.Need-returns-2
+returns-2 c = search needs
+
+pub is-skipped-spec : {M : Type 1} → statement M
+is-skipped-spec = tie.close (tie.spec is-category-marker-requires returns returns-2)

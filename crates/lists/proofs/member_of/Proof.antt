@@ -1,0 +1,32 @@
+use Rattle.lists.proofs.Nodes.{member-skipped, member-ends, member-listed}
+use borrow.Author.Needs.{needs}
+use Rattle.lists.proofs.member_of.Statement.{statement}
+use Rattle.lists.proofs.member_of.Tie as tie
+use Rattle.lists.proofs.member_of.Reads as reads
+use Rattle.lists.proofs.member_of.Lts as lts
+use Rattle.lists.proofs.is_end.Reads as is-end-reads
+use Rattle.lists.proofs.is_skipped.Reads as is-skipped-reads
+
+-- src/lib.rt:54:8
+is-skipped-requires : tie.Need-is-skipped-requires
+is-skipped-requires c κs = search needs
+
+-- src/lib.rt:55:9
+returns : tie.Need-returns
+returns c = search member-skipped
+
+-- src/lib.rt:57:8
+is-end-requires : tie.Need-is-end-requires
+is-end-requires c κs = search needs
+
+-- src/lib.rt:58:9
+returns-2 : tie.Need-returns-2
+returns-2 c = search member-ends
+
+-- src/lib.rt:51:1
+returns-3 : tie.Need-returns-3
+returns-3 c = search member-listed
+
+pub member-of-spec : {M : Type 1} → statement M
+member-of-spec =
+    tie.close (tie.spec is-skipped-requires returns is-end-requires returns-2 returns-3)
