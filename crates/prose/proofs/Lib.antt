@@ -1,3 +1,6 @@
 pub mod Rest
 pub mod Tests
 pub mod Turns
+pub mod Characters
+pub mod Edges
+pub mod Ends

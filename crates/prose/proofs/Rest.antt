@@ -1,8 +1,8 @@
 -- What a body goes on with behind a solid byte: a run that it shares with its text, and the gap behind that.
 use mathlib.Core.Path.{_≡_, refl, sym, ap, _∙_}
 use mathlib.Core.Bool.{Bool, true, false, cond, not, _&&_, _||_}
-use mathlib.Core.List.{List, [], _∷_, _++_, flatten}
-use Prim.Native.Nat.{ℕ, zero, suc, _+_, _-_, _≤_, _<_}
+use mathlib.Core.List.{[], _∷_, _++_, flatten}
+use Prim.Native.Nat.{ℕ, suc, _+_, _-_, _≤_, _<_}
 use native.Mathlib.Omega.{arith}
 use lib.ListN.{length, take, drop, length-drop}
 use lib.Dec.{eqb}
@@ -14,7 +14,7 @@ use Rattle.chars.specs.Space.{isAsciiWhite}
 use Rattle.chars.specs.Utf8.{cutAt}
 use Rattle.words.specs.Words.{charsOf, white, takeWhile, dropWhile, trimStart, whiteLen}
 use Rattle.words.specs.declared.Set.the-variants.{Ascii}
-use Rattle.words.proofs.Texts.{chars-flatten, trim-start-drop, words-trim-start, white-le}
+use Rattle.words.proofs.Texts.{chars-flatten, trim-start-drop, white-le}
 use Rattle.texts.specs.Text.{hardSpaces, bodyOf}
 use Rattle.texts.proofs.Texts.{hard-tilde, hard-other, hard-space}
 use Rattle.texts.proofs.Breaks.{ascii-chars}

@@ -13,7 +13,7 @@ use Rattle.words.specs.Words.{words, joined, trimStart, nextWord}
 use Rattle.words.specs.declared.Set.{Set}
 use Rattle.words.specs.declared.Set.the-variants.{Ascii}
 use Rattle.words.specs.declared.Part.{Part}
-use Rattle.words.proofs.Places.{bytesOf, endOf, next-start, next-fits, next-in, next-none, words-nil}
+use Rattle.words.proofs.Places.{bytesOf, endOf, next-start, next-in, next-none, words-nil}
 use Rattle.texts.specs.Text.{bodyOf, spaced, spaceIf, written}
 use Rattle.texts.specs.declared.Normalized.{Normalized}
 use Rattle.texts.proofs.Texts.{joined-none, joined-next, spaced-none, spaced-next}

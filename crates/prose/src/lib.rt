@@ -2,12 +2,13 @@
 ghost use mathlib.Core.Path.{_≡_};
 ghost use mathlib.Core.Bool.{false};
 ghost use mathlib.Core.List.{_++_};
-ghost use lib.ListN.{drop};
+ghost use lib.ListN.{length, drop};
 ghost use Rattle.chars.specs.Escape.{escape};
 ghost use Rattle.words.specs.Words.{words, joined, trim};
 ghost use Rattle.texts.specs.Text.{bodyOf, spaced, written, spaceIf};
 ghost use Rattle.window.specs.Page.{pageOf, paint};
 ghost use Rattle.prose.specs.Body.{restOf, plain, startsPlain, differs, sharedLen, marked, gapWhite, gapOf};
+ghost use Rattle.prose.specs.Edge.{softLen, coreEnd, coreOf, frontOf};
 use texts::Normalized;
 use window::Window;
 use words::Set;
@@ -23,6 +24,12 @@ enum Mark {
 struct Gap {
     mark: Mark,
     len: usize,
+}
+
+// A character: how many bytes it takes, and whether it is white space in a body.
+struct Front {
+    width: usize,
+    soft: bool,
 }
 
 // Whether a body holds a byte as it is.
@@ -150,6 +157,70 @@ pub fn put_body(w: Window, out: &mut [u8], s: &[u8]) -> Window
     ensures { λ r. ⌜ pageOf r (now (out .exit)) ≡ paint (pageOf w (now (out .entry))) (escape false (bodyOf (now (s .entry)))) ⌝ }
 {
     put_rest(w, out, words::trim_start(s, Set::Ascii))
+}
+
+// The first character of a text.
+fn first_front(s: &[u8]) -> Front
+    ensures { λ r. ⌜ r ≡ frontOf (now (s .entry)) ⌝ }
+{
+    let c = chars::first_char(s);
+    if parts::byte_at(s, 0) == b'~' {
+        return Front {
+            width: c.width,
+            soft: true,
+        };
+    }
+    Front {
+        width: c.width,
+        soft: chars::is_white(c.code),
+    }
+}
+
+// The bytes of soft characters that a text begins with.
+fn soft_len(s: &[u8]) -> usize
+    ensures { λ r. ⌜ r ≡ softLen (now (s .entry)) ⌝ }
+{
+    let mut at = 0;
+    while at < s.len() {
+        let c = first_front(parts::from(s, at));
+        if !c.soft {
+            return at;
+        }
+        at += c.width;
+    }
+    at
+}
+
+// Where the last character that is not soft ends.
+fn core_len(s: &[u8]) -> usize
+    ensures { λ r. ⌜ r ≡ length (coreEnd (now (s .entry))) ⌝ }
+{
+    let mut at = 0;
+    let mut end = 0;
+    while at < s.len() {
+        let c = first_front(parts::from(s, at));
+        let next = at + c.width;
+        if !c.soft {
+            end = next;
+        }
+        at = next;
+    }
+    end
+}
+
+// A text without soft characters at its edges.
+fn core(s: &[u8]) -> &[u8]
+    ensures { λ r. ⌜ now r ≡ coreOf (now (s .entry)) ⌝ }
+{
+    let t = parts::from(s, soft_len(s));
+    parts::part(t, 0, core_len(t))
+}
+
+// A piece of a text between two `//`: its body, trimmed.
+pub fn put_segment(w: Window, out: &mut [u8], s: &[u8]) -> Window
+    ensures { λ r. ⌜ pageOf r (now (out .exit)) ≡ paint (pageOf w (now (out .entry))) (escape false (trim Set.Unicode (bodyOf (now (s .entry))))) ⌝ }
+{
+    put_body(w, out, core(s))
 }
 
 fn put_space(w: Window, out: &mut [u8], t: bool) -> Window

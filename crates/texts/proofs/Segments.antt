@@ -13,11 +13,9 @@ use Rattle.chars.specs.Space.{isAsciiWhite}
 use Rattle.chars.specs.Range.{inAny, within}
 use Rattle.chars.specs.Utf8.{cutAt}
 use Rattle.chars.proofs.Characters.{cut-first}
-use Rattle.words.specs.Words.{stepOf, charsOf, white, dropWhile, keep, dropEnd, onto, pieces, nonempty, words, joined, trim, trimEnd}
+use Rattle.words.specs.Words.{stepOf, charsOf, white, dropWhile, keep, dropEnd, onto, words, joined, trim, trimEnd}
 use Rattle.words.specs.declared.Set.the-variants.{Ascii, Unicode}
 use Rattle.words.proofs.Rows.{flatten-append, row-join}
-use Rattle.words.proofs.Runs.{pieces-some}
-use Rattle.words.proofs.Places.{words-nil}
 use Rattle.words.proofs.Steps.{size-some, space-apart, space-size, space-white}
 use Rattle.words.proofs.Texts.{chars-flatten, chars-row, row-chars, trim-start-chars}
 use Rattle.texts.specs.Text.{hardSpaces, bodyOf, spaced, hasBreak, splitBreaks, segments}
