@@ -1,12 +1,11 @@
 -- Document 01's examples 1 to 10 and 12: one table, each row by computation.
-use mathlib.Core.Path.{_≡_, refl}
-use mathlib.Core.List.{List, [], _∷_, _++_, flatten}
+use mathlib.Core.Path.{refl}
+use mathlib.Core.List.{List, [], _∷_, _++_}
 use Prim.Native.Nat.{ℕ, zero, suc}
 use Rattle.parts.specs.Bytes.{Bytes, b}
 use Rattle.admit.specs.Encode.{file}
-use Rattle.events.specs.Text.{Outcome}
 use Rattle.events.proofs.Answered.{answered}
-use Rattle.events.proofs.Tapes.{Piece, unknown, words, attribute, error, chapter, verse, leaf, block, inline, nested, unclosed, Marker, marker, tape, row, Holds, Each, Example, _by_, rows, each, usxOf, usx, para, times}
+use Rattle.events.proofs.Tapes.{Piece, words, attribute, verse, block, inline, Marker, marker, tape, row, Holds, Each, Example, _by_, rows, each, usxOf, usx, para, times}
 
 -- ---- the entries of every tape here
 

@@ -1,12 +1,10 @@
 -- Further tapes, whose texts the Rust wrote: one table, each row by computation.
-use mathlib.Core.Path.{_≡_, refl}
-use mathlib.Core.List.{List, [], _∷_, _++_, flatten}
-use Prim.Native.Nat.{ℕ, zero, suc}
+use mathlib.Core.Path.{refl}
+use mathlib.Core.List.{List, [], _∷_, _++_}
+use Prim.Native.Nat.{ℕ}
 use Rattle.parts.specs.Bytes.{Bytes, b}
-use Rattle.admit.specs.Encode.{file}
-use Rattle.events.specs.Text.{Outcome}
 use Rattle.events.proofs.Answered.{answered}
-use Rattle.events.proofs.Tapes.{Piece, unknown, words, attribute, error, chapter, verse, leaf, block, inline, nested, unclosed, Marker, marker, tape, row, Holds, Each, Example, _by_, rows, each, usxOf, usx, para, times}
+use Rattle.events.proofs.Tapes.{Piece, unknown, words, attribute, error, chapter, verse, leaf, block, inline, nested, unclosed, Marker, marker, tape, row, Holds, Each, Example, _by_, rows, each, usxOf, usx, para}
 
 -- ---- the entries of every tape here
 

@@ -8,7 +8,7 @@ use lib.ListN.{length, replicate}
 use lib.Dec.{eqb}
 use Rattle.parts.specs.Bytes.{Bytes, b}
 use Rattle.admit.specs.Encode.{flagged, entry, file}
-use Rattle.events.specs.Text.{Outcome, outcome}
+use Rattle.events.specs.Text.{outcome}
 
 -- ---- nodes
 

@@ -1,16 +1,15 @@
 -- The pairing theorem: what pairing makes of any events has its milestones right, and as many starts as there are chapters and verses.
 use mathlib.Core.Path.{_≡_, refl, sym, ap, _∙_, subst}
-use mathlib.Core.Bool.{Bool, cond}
+use mathlib.Core.Bool.{cond}
 use mathlib.Core.List.{List, [], _∷_, _++_, append-assoc, append-nil}
 use mathlib.Core.Logic.{inl, inr}
 use mathlib.Core.Option.{Option, none, some}
-use Prim.Native.Nat.{ℕ, suc, _+_}
+use Prim.Native.Nat.{ℕ, suc}
 use native.Mathlib.Omega.{arith}
 use lib.Dec.{eqb}
 use Rattle.parts.specs.Bytes.{Bytes, b, same}
-use Rattle.tags.specs.Form.{Pair}
 use Rattle.tags.specs.Items.{Item, start, empty, close, text, line}
-use Rattle.checker.specs.Rules.{Mark, start as starts, ends, bare, View, words, opened, closed, single, notedBy, noted, markOn, view, Held, shut, held}
+use Rattle.checker.specs.Rules.{Mark, start as starts, ends, bare, View, single, notedBy, noted, markOn, view, Held, shut, held}
 use Rattle.checker.specs.Meaning.{since, Fits, of-words, of-open, of-close, of-single, chapter-start, chapter-end, verse-start, verse-end}
 use Rattle.checker.specs.Words.{Kind, Demand, startsIn}
 use Rattle.checker.proofs.Decides.{since-other, starts-other, starts-more}
