@@ -1,1 +1,5 @@
 pub mod Emits
+pub mod Answered
+pub mod Tapes
+pub mod Examples
+pub mod More

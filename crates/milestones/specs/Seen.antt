@@ -1,0 +1,68 @@
+-- How the checker's rules see the items of the text: a tag with its keys and values as they are, before any escape.
+use Prim.Native.Nat.{ℕ, suc}
+use mathlib.Core.List.{List, [], _∷_, _++_}
+use mathlib.Core.Option.{Option, none, some}
+use Rattle.parts.specs.Bytes.{Bytes}
+use Rattle.tags.specs.Form.{Pair, Token, text as textToken, opens, closes, empty as emptyToken}
+use Rattle.tags.specs.Items.{Attr, Item, start, empty, close, text, line, newLine}
+use Rattle.checker.specs.Rules.{start as starts, View, single, view}
+use Rattle.checker.specs.Words.{Kind}
+use Rattle.events.specs.Event.{Event, item, chapter, verse, book}
+use Rattle.events.specs.Pairing.{State}
+
+-- "identifiers are compared as bytes"
+unfoldable pub pairs : List Attr → List Pair
+pairs [] = []
+pairs (a ∷ qs) = record { key = a .key; value = a .value } ∷ pairs qs
+
+unfoldable pub tokenOf : Item → Token
+tokenOf (start n qs) = opens n (pairs qs)
+tokenOf (empty n qs) = emptyToken n (pairs qs)
+tokenOf (close n) = closes n
+tokenOf (text t) = textToken t
+tokenOf (line d) = textToken (newLine d)
+
+unfoldable pub seen : List Item → List View
+seen [] = []
+seen (i ∷ is) = view (tokenOf i) ∷ seen is
+
+-- the start of what is open, as the rules see it
+unfoldable pub startOf : ℕ → Option Bytes → List View
+startOf k none = []
+startOf k (some i) = single k (starts i) ∷ []
+
+-- the starts of what is open in a state: none where nothing is
+unfoldable pub opening : State → List View
+opening s = startOf 3 (s .chapter) ++ startOf 4 (s .verse)
+
+-- ---- events
+
+-- neither a chapter element nor a verse element: 3 and 4
+abbrev pub PlainItem : Item → Type 0
+PlainItem (start n qs) = Kind n → ⊥
+PlainItem (empty n qs) = Kind n → ⊥
+PlainItem (close n) = Kind n → ⊥
+PlainItem (text t) = Unit {0}
+PlainItem (line d) = Unit {0}
+
+-- chapters and verses stand as events and never as items
+abbrev pub PlainEvents : List Event → Type 0
+PlainEvents [] = Unit {0}
+PlainEvents (item i ∷ es) = PlainItem i × PlainEvents es
+PlainEvents (chapter n alt published ∷ es) = PlainEvents es
+PlainEvents (verse label alt published ∷ es) = PlainEvents es
+PlainEvents (book code rest ∷ es) = PlainEvents es
+
+unfoldable pub chaptersIn : List Event → ℕ
+chaptersIn [] = 0
+chaptersIn (item i ∷ es) = chaptersIn es
+chaptersIn (chapter n alt published ∷ es) = suc (chaptersIn es)
+chaptersIn (verse label alt published ∷ es) = chaptersIn es
+chaptersIn (book code rest ∷ es) = chaptersIn es
+
+unfoldable pub versesIn : List Event → ℕ
+versesIn [] = 0
+versesIn (item i ∷ es) = versesIn es
+versesIn (chapter n alt published ∷ es) = versesIn es
+versesIn (verse label alt published ∷ es) = suc (versesIn es)
+versesIn (book code rest ∷ es) = versesIn es

@@ -1,0 +1,1 @@
+// Theorems on the milestones of the text. It holds no code.
