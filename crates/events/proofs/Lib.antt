@@ -1,4 +1,5 @@
 pub mod Emits
+pub mod Turns
 pub mod Answered
 pub mod Tapes
 pub mod Examples
