@@ -43,9 +43,22 @@ pub(crate) fn ref_tag(c: Cursor<'_>) -> String {
     head(|out, st| usx_ref(c, out, st))
 }
 
-/// The node as a periph, up to the first `>`.
-pub(crate) fn periph_tag(c: Cursor<'_>) -> String {
-    head(|out, st| usx_periph(c, 0, out, st))
+/// What a periph writes of its alt: all between its name and its attributes.
+pub(crate) fn periph_alt(c: Cursor<'_>) -> String {
+    let whole = written(|out, st| usx_periph(c, 0, out, st));
+    let mut behind = whole.strip_prefix("<periph").expect("a periph");
+    let attributes = attributes(c, "periph");
+    let has_no_alt = |text: &str| {
+        let end = text.strip_prefix(&attributes);
+        end.is_some_and(|end| end.starts_with('>') || end.starts_with(" />"))
+    };
+    let mut alt = "";
+    if !has_no_alt(behind) {
+        let (end, _) = behind.match_indices('"').nth(1).expect("a value between quotes");
+        (alt, behind) = behind.split_at(end + 1);
+        assert!(has_no_alt(behind));
+    }
+    alt.to_string()
 }
 
 fn written(write: impl Fn(&mut String, &mut UsxState) -> fmt::Result) -> String {

@@ -64,8 +64,7 @@ fn is_blank(document: &Document<'_>, c: Cursor<'_>) -> bool {
 }
 
 fn text_lines(out: &mut impl Write, at: usize, c: Cursor<'_>) -> io::Result<()> {
-    writeln!(out, "{at} text {}", normalized(c.text()))?;
-    writeln!(out, "{at} alone {}", asked::alone(c))?;
+    writeln!(out, "{at} text {} {}", normalized(c.text()), asked::alone(c))?;
     writeln!(out, "{at} rest {}", asked::quoted(remainder_after_first_token(c.text())))
 }
 
@@ -83,14 +82,12 @@ fn holder_lines(out: &mut impl Write, at: usize, c: Cursor<'_>) -> io::Result<()
     let follows: Vec<bool> = c.children().map(inline_follows).collect();
     writeln!(out, "{at} follows {}", digits(&follows))?;
     let category = or_dash(category_of(c).map(str::trim));
-    writeln!(out, "{at} note {} {category}", asked::quoted(note_caller(c)))?;
-    writeln!(out, "{at} cell {}", cell_align(name))?;
+    writeln!(out, "{at} note {} {category} {}", asked::quoted(note_caller(c)), cell_align(name))?;
     let [own, fig, periph] = [name, "fig", "periph"].map(|marker| asked::attributes(c, marker));
     writeln!(out, "{at} attributes{own} fig{fig} periph{periph}")?;
     writeln!(out, "{at} figure{}", figure(c))?;
     writeln!(out, "{at} {}", asked::book(c))?;
-    writeln!(out, "{at} {}", asked::ref_tag(c))?;
-    writeln!(out, "{at} {}", asked::periph_tag(c))
+    writeln!(out, "{at} {}{}", asked::ref_tag(c), asked::periph_alt(c))
 }
 
 fn or_dash(text: Option<&str>) -> String {

@@ -1,150 +1,166 @@
 // What a node that holds others says.
-use crate::pairs::all;
-use crate::tags;
-use crate::write::digit;
-use crate::write::end;
-use crate::write::head;
-use crate::write::quoted;
+use crate::pairs;
+use crate::say;
+use attrs::Sought;
 use render::Align;
 use tape::Cursor;
 use tape::Sections;
 use tape::Step;
-use window::Window;
+use words::Set;
 
 // Of each child whether inline content follows it; the solid sibling is kept along the way.
-fn each_follows(w: Window, out: &mut [u8], file: &[u8], t: Sections, c: Cursor) -> Window {
-    let mut next = w;
+fn each_follows(file: &[u8], t: Sections, c: Cursor) {
     let mut step = c.first_child(file, t);
     let mut kept = step;
     loop {
         let Step::At(child) = step else {
-            return next;
+            return;
         };
         kept = render::solid_behind(file, t, child, kept);
-        next = digit(next, out, render::inline_at(file, t, kept));
+        say::digit(render::inline_at(file, t, kept));
         step = child.next_sibling(file, t);
     }
 }
 
-fn follows(w: Window, out: &mut [u8], file: &[u8], t: Sections, c: Cursor) -> Window {
-    let w1 = head(w, out, c.at, b" follows ");
-    let w2 = each_follows(w1, out, file, t, c);
-    end(w2, out)
-}
-
-fn category(w: Window, out: &mut [u8], file: &[u8], t: Sections, text: Step) -> Window {
+fn category(file: &[u8], t: Sections, text: Step) {
     match text {
-        Step::At(c) => quoted(w, out, render::trimmed(file, t, c)),
-        Step::Done => window::put_run(w, out, b"-"),
+        Step::At(c) => say::quoted(render::trimmed(file, t, c)),
+        Step::Done => say::run(b"-"),
     }
 }
 
-fn caller(w: Window, out: &mut [u8], file: &[u8], t: Sections, c: Cursor) -> Window {
-    let w1 = quoted(w, out, render::note_caller(file, b"+", t, c));
-    window::put_run(w1, out, b" ")
+// The caller and the category.
+fn note(file: &[u8], t: Sections, c: Cursor) {
+    say::head(c.at, b" note ");
+    say::quoted(render::note_caller(file, b"+", t, c));
+    say::run(b" ");
+    category(file, t, render::category_text(file, t, c));
 }
 
-fn note(w: Window, out: &mut [u8], file: &[u8], t: Sections, c: Cursor) -> Window {
-    let w1 = head(w, out, c.at, b" note ");
-    let w2 = caller(w1, out, file, t, c);
-    let w3 = category(w2, out, file, t, render::category_text(file, t, c));
-    end(w3, out)
-}
-
-fn cell(w: Window, out: &mut [u8], at: u32, name: &[u8]) -> Window {
-    let w1 = head(w, out, at, b" cell ");
+fn cell(name: &[u8]) {
     match render::cell_align(name) {
-        Align::Start => window::put_run(w1, out, b"start\n"),
-        Align::Center => window::put_run(w1, out, b"center\n"),
-        Align::End => window::put_run(w1, out, b"end\n"),
+        Align::Start => say::run(b" start\n"),
+        Align::Center => say::run(b" center\n"),
+        Align::End => say::run(b" end\n"),
     }
-}
-
-fn named(
-    w: Window,
-    out: &mut [u8],
-    file: &[u8],
-    t: Sections,
-    c: Cursor,
-    word: &[u8],
-    marker: &[u8],
-) -> Window {
-    let w1 = window::put_run(w, out, word);
-    all(w1, out, file, t, c, marker)
 }
 
 // By its own name, as a `fig` and as a `periph`.
-fn three_lists(w: Window, out: &mut [u8], file: &[u8], t: Sections, c: Cursor) -> Window {
-    let w1 = all(w, out, file, t, c, c.marker_name(file, t));
-    let w2 = named(w1, out, file, t, c, b" fig", b"fig");
-    named(w2, out, file, t, c, b" periph", b"periph")
+fn attributes(file: &[u8], t: Sections, c: Cursor) {
+    say::head(c.at, b" attributes");
+    pairs::all(file, t, c, c.marker_name(file, t));
+    say::run(b" fig");
+    pairs::all(file, t, c, b"fig");
+    say::run(b" periph");
+    pairs::all(file, t, c, b"periph");
 }
 
-fn attributes(w: Window, out: &mut [u8], file: &[u8], t: Sections, c: Cursor) -> Window {
-    let w1 = head(w, out, c.at, b" attributes");
-    let w2 = three_lists(w1, out, file, t, c);
-    end(w2, out)
-}
-
-fn field(w: Window, out: &mut [u8], key: &[u8], text: &[u8]) -> Window {
-    if text.len() == 0 {
-        return w;
+fn field(key: &[u8], text: &[u8]) {
+    if 0 < text.len() {
+        say::run(key);
+        say::quoted(text);
     }
-    let w1 = window::put_run(w, out, key);
-    quoted(w1, out, text)
 }
 
-// Description, file and size.
-fn fields(w: Window, out: &mut [u8], file: &[u8], t: Sections, c: Cursor, a: Cursor) -> Window {
-    let w1 = field(w, out, b" alt=", figure::description(file, t, c));
-    let w2 = field(w1, out, b" file=", figure::field(file, t, a, 0));
-    field(w2, out, b" size=", figure::field(file, t, a, 1))
+fn fields(file: &[u8], t: Sections, a: Cursor) {
+    field(b" file=", figure::field(file, t, a, 0));
+    field(b" size=", figure::field(file, t, a, 1));
+    field(b" loc=", figure::field(file, t, a, 2));
+    field(b" copy=", figure::field(file, t, a, 3));
+    field(b" ref=", figure::field(file, t, a, 5));
 }
 
-// Place, copyright and reference.
-fn more_fields(w: Window, out: &mut [u8], file: &[u8], t: Sections, a: Cursor) -> Window {
-    let w1 = field(w, out, b" loc=", figure::field(file, t, a, 2));
-    let w2 = field(w1, out, b" copy=", figure::field(file, t, a, 3));
-    field(w2, out, b" ref=", figure::field(file, t, a, 5))
-}
-
-fn caption(w: Window, out: &mut [u8], file: &[u8], t: Sections, a: Cursor) -> Window {
-    let w1 = window::put_run(w, out, b">");
-    window::escape_xml(w1, out, figure::field(file, t, a, 4))
-}
-
-fn legacy(w: Window, out: &mut [u8], file: &[u8], t: Sections, c: Cursor) -> Window {
+fn legacy(file: &[u8], t: Sections, c: Cursor) {
     match figure::legacy(file, t, c) {
         Step::At(a) => {
-            let w1 = fields(w, out, file, t, c, a);
-            let w2 = more_fields(w1, out, file, t, a);
-            caption(w2, out, file, t, a)
+            field(b" alt=", figure::description(file, t, c));
+            fields(file, t, a);
+            say::run(b">");
+            say::escaped(figure::field(file, t, a, 4), false);
         }
-        Step::Done => window::put_run(w, out, b" -"),
+        Step::Done => say::run(b" -"),
     }
 }
 
-fn picture(w: Window, out: &mut [u8], file: &[u8], t: Sections, c: Cursor) -> Window {
-    let w1 = head(w, out, c.at, b" figure");
-    let w2 = legacy(w1, out, file, t, c);
-    end(w2, out)
+// The words of a text, joined by one space.
+fn joined(s: &[u8], attr: bool) {
+    let mut part = words::next_word(s, Set::Unicode, 0);
+    let mut begun = false;
+    while 0 < part.len {
+        say::space_if(begun);
+        say::escaped(parts::part(s, part.start, part.len), attr);
+        begun = true;
+        part = words::next_word(s, Set::Unicode, part.start + part.len);
+    }
 }
 
-fn own_lines(w: Window, out: &mut [u8], file: &[u8], t: Sections, c: Cursor) -> Window {
-    let w1 = follows(w, out, file, t, c);
-    let w2 = note(w1, out, file, t, c);
-    let w3 = cell(w2, out, c.at, c.marker_name(file, t));
-    attributes(w3, out, file, t, c)
+fn book_rest(rest: &[u8]) {
+    if words::is_blank(rest, Set::Unicode) {
+        say::run(b"\" style=\"id\" />\n");
+    } else {
+        say::run(b"\" style=\"id\">");
+        joined(rest, false);
+        say::run(b"</book>\n");
+    }
 }
 
-fn tag_lines(w: Window, out: &mut [u8], file: &[u8], t: Sections, c: Cursor) -> Window {
-    let w1 = picture(w, out, file, t, c);
-    let w2 = tags::book(w1, out, file, t, c);
-    let w3 = tags::reference(w2, out, file, t, c);
-    tags::periph(w3, out, file, t, c)
+fn book(file: &[u8], t: Sections, c: Cursor) {
+    let p = render::book_code(file, t, c);
+    say::head(c.at, b" <book code=\"");
+    say::run(parts::part(tape::source(file, t), p.start, p.len));
+    book_rest(render::book_rest(file, t, c));
 }
 
-pub fn lines(w: Window, out: &mut [u8], file: &[u8], t: Sections, c: Cursor) -> Window {
-    let w1 = own_lines(w, out, file, t, c);
-    tag_lines(w1, out, file, t, c)
+fn location(source: &[u8], loc: Sought) {
+    match loc {
+        Sought::At(v) => {
+            say::run(b" loc=");
+            pairs::value(source, v);
+        }
+        Sought::Nowhere => {}
+    }
+}
+
+fn reference(file: &[u8], t: Sections, c: Cursor) {
+    say::head(c.at, b" <ref");
+    location(
+        tape::source(file, t),
+        attrs::first_with(file, t, c, b"ref", b"loc"),
+    );
+    say::run(b">");
+}
+
+// The alt of a periph.
+fn alt(text: &[u8]) {
+    if words::is_blank(text, Set::Unicode) {
+        say::run(b"\n");
+    } else {
+        say::run(b" alt=\"");
+        joined(text, true);
+        say::run(b"\"\n");
+    }
+}
+
+fn own_lines(file: &[u8], t: Sections, c: Cursor) {
+    say::head(c.at, b" follows ");
+    each_follows(file, t, c);
+    say::run(b"\n");
+    note(file, t, c);
+    cell(c.marker_name(file, t));
+}
+
+fn lists(file: &[u8], t: Sections, c: Cursor) {
+    attributes(file, t, c);
+    say::run(b"\n");
+    say::head(c.at, b" figure");
+    legacy(file, t, c);
+    say::run(b"\n");
+}
+
+pub fn lines(file: &[u8], t: Sections, c: Cursor) {
+    own_lines(file, t, c);
+    lists(file, t, c);
+    book(file, t, c);
+    reference(file, t, c);
+    alt(render::leading_text(file, t, c));
 }

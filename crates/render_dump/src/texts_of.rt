@@ -1,106 +1,113 @@
 // What a Text says: its edges and body, what is written of it alone, what follows its first word.
-use crate::write::Form;
-use crate::write::digit;
-use crate::write::end;
-use crate::write::head;
-use crate::write::joined;
-use crate::write::quoted;
+use crate::say;
+use crate::say::digit;
 use tape::Cursor;
 use tape::Sections;
 use window::Window;
 use words::Set;
 
 // Lead, trail and whether it shows.
-fn edges(w: Window, out: &mut [u8], text: &[u8], before: bool, behind: bool) -> Window {
+fn edges(text: &[u8], before: bool, behind: bool) {
     let n = texts::normalize_text(text, before, behind);
-    let w1 = digit(w, out, n.lead);
-    let w2 = digit(w1, out, n.trail);
-    let w3 = digit(w2, out, n.shows);
-    window::put_run(w3, out, b" ")
+    digit(n.lead);
+    digit(n.trail);
+    digit(n.shows);
+    say::run(b" ");
 }
 
-fn all_edges(w: Window, out: &mut [u8], text: &[u8]) -> Window {
-    let w1 = edges(w, out, text, false, false);
-    let w2 = edges(w1, out, text, false, true);
-    let w3 = edges(w2, out, text, true, false);
-    edges(w3, out, text, true, true)
-}
-
-fn normalized(w: Window, out: &mut [u8], at: u32, text: &[u8], body: &[u8]) -> Window {
-    let w1 = head(w, out, at, b" text ");
-    let w2 = all_edges(w1, out, text);
-    let w3 = quoted(w2, out, body);
-    end(w3, out)
+fn all_edges(text: &[u8]) {
+    edges(text, false, false);
+    edges(text, false, true);
+    edges(text, true, false);
+    edges(text, true, true);
 }
 
 // A body split at `//`, each segment trimmed.
-fn segments(w: Window, out: &mut [u8], body: &[u8]) -> Window {
-    let mut next = w;
+fn segments(body: &[u8]) {
     let mut at = 0;
     loop {
         let rest = parts::from(body, at);
         let n = parts::find_pair(rest, b'/');
-        next = window::escape_xml(
-            next,
-            out,
-            words::trim(parts::part(rest, 0, n), Set::Unicode),
-        );
+        say::escaped(words::trim(parts::part(rest, 0, n), Set::Unicode), false);
         if rest.len() <= n {
-            return next;
+            return;
         }
-        next = window::put_run(next, out, b"<optbreak />");
+        say::run(b"<optbreak />");
         at = at + n + 2;
     }
 }
 
 // A body and, where the text ends in white space and something follows, a space behind it.
-fn unbroken(w: Window, out: &mut [u8], text: &[u8], body: &[u8], behind: bool) -> Window {
-    let w1 = window::escape_xml(w, out, body);
-    if texts::normalize_text(text, false, behind).trail {
-        return window::put_run(w1, out, b" ");
-    }
-    w1
+fn unbroken(text: &[u8], body: &[u8], behind: bool) {
+    say::escaped(body, false);
+    say::space_if(texts::normalize_text(text, false, behind).trail);
 }
 
-fn alone(w: Window, out: &mut [u8], at: u32, text: &[u8], body: &[u8], behind: bool) -> Window {
-    let w1 = head(w, out, at, b" alone ");
+fn alone(text: &[u8], body: &[u8], behind: bool) {
     if texts::has_break(text) {
-        let w2 = segments(w1, out, body);
-        return end(w2, out);
+        segments(body);
+    } else {
+        unbroken(text, body, behind);
     }
-    let w2 = unbroken(w1, out, text, body, behind);
-    end(w2, out)
+    say::run(b"\n");
 }
 
-fn rest(w: Window, out: &mut [u8], at: u32, text: &[u8]) -> Window {
-    let w1 = head(w, out, at, b" rest ");
-    let w2 = quoted(w1, out, render::remainder(text));
-    end(w2, out)
+fn with_body(at: u32, text: &[u8], body: &[u8], behind: bool) {
+    say::head(at, b" text ");
+    all_edges(text);
+    say::quoted(body);
+    say::run(b" ");
+    alone(text, body, behind);
 }
 
-fn with_body(w: Window, out: &mut [u8], at: u32, text: &[u8], body: &[u8], behind: bool) -> Window {
-    let w1 = normalized(w, out, at, text, body);
-    let w2 = alone(w1, out, at, text, body, behind);
-    rest(w2, out, at, text)
+fn hard_byte(w: Window, out: &mut [u8], x: u8) -> Window {
+    if x == b'~' {
+        window::put_run(w, out, b"\xC2\xA0")
+    } else {
+        window::put_run(w, out, &[x])
+    }
 }
 
-// The lines of a Text; its body is made in a buffer of its own.
-pub fn lines(
-    w: Window,
-    out: &mut [u8],
-    body: &mut [u8],
-    file: &[u8],
-    t: Sections,
-    c: Cursor,
-) -> Window {
+// A word with each `~` as U+00A0.
+fn hard(w: Window, out: &mut [u8], s: &[u8]) -> Window {
+    let mut next = w;
+    let mut i = 0;
+    while i < s.len() {
+        next = hard_byte(next, out, s[i]);
+        i += 1;
+    }
+    next
+}
+
+fn space_between(w: Window, out: &mut [u8]) -> Window {
+    if 0 < w.at {
+        return window::put_run(w, out, b" ");
+    }
+    w
+}
+
+// The body of a text at the front of a buffer, and its length.
+fn body_into(out: &mut [u8], s: &[u8]) -> usize {
+    let mut next = Window { at: 0, from: 0 };
+    let mut part = words::next_word(s, Set::Ascii, 0);
+    while 0 < part.len {
+        let w = space_between(next, out);
+        next = hard(w, out, parts::part(s, part.start, part.len));
+        part = words::next_word(s, Set::Ascii, part.start + part.len);
+    }
+    next.at
+}
+
+fn normalized(at: u32, text: &[u8], behind: bool) {
+    let mut body = io::large_buffer();
+    let n = body_into(&mut body, text);
+    with_body(at, text, parts::part(&body, 0, n), behind);
+}
+
+pub fn lines(file: &[u8], t: Sections, c: Cursor) {
     let text = c.text(file, t);
-    let n = joined(
-        Window { at: 0, from: 0 },
-        body,
-        text,
-        Set::Ascii,
-        Form::Hard,
-    ).at;
-    let behind = render::inline_follows(file, t, c);
-    with_body(w, out, c.at, text, parts::part(body, 0, n), behind)
+    normalized(c.at, text, render::inline_follows(file, t, c));
+    say::head(c.at, b" rest ");
+    say::quoted(render::remainder(text));
+    say::run(b"\n");
 }

@@ -1,30 +1,26 @@
-use Prim.Native.Nat.{_-_}
-use mathlib.Core.Path.{_≡_}
-use lib.ListN.{length}
+use Prim.Native.Nat.{_≤_, _-_}
+use native.Mathlib.Omega.{arith}
 use borrow.Author.Needs.{needs}
 use Rattle.render_dump.proofs.dump.Statement.{statement}
 use Rattle.render_dump.proofs.dump.Tie as tie
 
 abbrev Inv-loop : tie.InvT-loop
-Inv-loop out₀ body₀ file t at₀ t7 out body at = (length out ≡ length out₀) × (length body ≡ length body₀)
+Inv-loop file t at₀ t4 at = 0 ≤ 0
 
 abbrev μ-loop : tie.MeasureT-loop
-μ-loop out₀ body₀ file t at₀ t7 out body at = t .nodes - at
+μ-loop file t at₀ t4 at = t .nodes - at
 
 of-requires : tie.Need-of-requires Inv-loop μ-loop
 of-requires c κs = search needs
 
 loop-holds : tie.Need-loop-holds Inv-loop μ-loop
-loop-holds c = search needs
+loop-holds c = omega arith
 
-lines-requires : tie.Need-lines-requires Inv-loop μ-loop
-lines-requires c κs = search needs
+line-requires : tie.Need-line-requires Inv-loop μ-loop
+line-requires c κs = search needs
 
-part-requires : tie.Need-part-requires Inv-loop μ-loop
-part-requires c κs = search needs
-
-write-all-requires : tie.Need-write-all-requires Inv-loop μ-loop
-write-all-requires c κs = search needs
+by-kind-requires : tie.Need-by-kind-requires Inv-loop μ-loop
+by-kind-requires c κs = search needs
 
 add-at : tie.Need-add-at Inv-loop μ-loop
 add-at c = search needs
@@ -33,19 +29,13 @@ loop-less : tie.Need-loop-less Inv-loop μ-loop
 loop-less c = search needs
 
 loop-again : tie.Need-loop-again Inv-loop μ-loop
-loop-again c = search needs
+loop-again c = omega arith
 
-slice-aggregate-write-all : tie.Need-slice-aggregate-write-all Inv-loop μ-loop
-slice-aggregate-write-all c = search needs
+slice-aggregate-run : tie.Need-slice-aggregate-run Inv-loop μ-loop
+slice-aggregate-run c = search needs
 
-write-all-requires-2 : tie.Need-write-all-requires-2 Inv-loop μ-loop
-write-all-requires-2 c κs = search needs
-
-same-length : tie.Need-same-length Inv-loop μ-loop
-same-length c = search needs
-
-same-length-2 : tie.Need-same-length-2 Inv-loop μ-loop
-same-length-2 c = search needs
+run-requires : tie.Need-run-requires Inv-loop μ-loop
+run-requires c κs = search needs
 
 returns : tie.Need-returns Inv-loop μ-loop
 returns c = search needs
@@ -58,14 +48,11 @@ dump-spec =
     μ-loop
     of-requires
     loop-holds
-    lines-requires
-    part-requires
-    write-all-requires
+    line-requires
+    by-kind-requires
     add-at
     loop-less
     loop-again
-    slice-aggregate-write-all
-    write-all-requires-2
-    same-length
-    same-length-2
+    slice-aggregate-run
+    run-requires
     returns)

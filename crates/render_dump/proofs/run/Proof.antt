@@ -5,11 +5,10 @@ use Rattle.render_dump.proofs.run.Statement.{statement}
 use Rattle.render_dump.proofs.run.Tie as tie
 
 abbrev Inv-loop : tie.InvT-loop
-Inv-loop out₀ body₀ space₀ turns₀ out body space turns =
-    (length out ≡ length out₀) × ((length body ≡ length body₀) × (length space ≡ length space₀))
+Inv-loop space₀ turns₀ space turns = length space ≡ length space₀
 
 abbrev μ-loop : tie.MeasureT-loop
-μ-loop out₀ body₀ space₀ turns₀ out body space turns = turns
+μ-loop space₀ turns₀ space turns = turns
 
 loop-holds : tie.Need-loop-holds Inv-loop μ-loop
 loop-holds c = search needs
@@ -29,23 +28,11 @@ loop-again c = search needs
 same-length : tie.Need-same-length Inv-loop μ-loop
 same-length c = search needs
 
-same-length-2 : tie.Need-same-length-2 Inv-loop μ-loop
-same-length-2 c = search needs
-
-same-length-3 : tie.Need-same-length-3 Inv-loop μ-loop
-same-length-3 c = search needs
-
 returns : tie.Need-returns Inv-loop μ-loop
 returns c = search needs
 
-same-length-4 : tie.Need-same-length-4 Inv-loop μ-loop
-same-length-4 c = search needs
-
-same-length-5 : tie.Need-same-length-5 Inv-loop μ-loop
-same-length-5 c = search needs
-
-same-length-6 : tie.Need-same-length-6 Inv-loop μ-loop
-same-length-6 c = search needs
+same-length-2 : tie.Need-same-length-2 Inv-loop μ-loop
+same-length-2 c = search needs
 
 returns-2 : tie.Need-returns-2 Inv-loop μ-loop
 returns-2 c = search needs
@@ -62,10 +49,6 @@ run-spec =
     loop-less
     loop-again
     same-length
-    same-length-2
-    same-length-3
     returns
-    same-length-4
-    same-length-5
-    same-length-6
+    same-length-2
     returns-2)

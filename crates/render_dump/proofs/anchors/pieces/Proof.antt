@@ -1,5 +1,6 @@
-use mathlib.Core.Path.{_≡_}
+use Prim.Native.Nat.{_≤_, _-_, _+_}
 use lib.ListN.{length}
+use native.Mathlib.Omega.{arith}
 use Rattle.tape.specs.File.{tapeIn}
 use Rattle.fold.specs.Number.{toCome}
 use Rattle.fold.proofs.Numbers.{number-less}
@@ -8,16 +9,16 @@ use Rattle.render_dump.proofs.anchors.pieces.Statement.{statement}
 use Rattle.render_dump.proofs.anchors.pieces.Tie as tie
 
 abbrev Inv-loop : tie.InvT-loop
-Inv-loop out₀ file t next₀ left₀ out next left = length out ≡ length out₀
+Inv-loop file t left₀ left = 0 ≤ 0
 
 abbrev μ-loop : tie.MeasureT-loop
-μ-loop out₀ file t next₀ left₀ out next left = length (toCome (tapeIn t file) left)
+μ-loop file t left₀ left = length (toCome (tapeIn t file) left)
 
 of-requires : tie.Need-of-requires Inv-loop μ-loop
 of-requires c κs = search needs
 
 loop-holds : tie.Need-loop-holds Inv-loop μ-loop
-loop-holds c = search needs
+loop-holds c = omega arith
 
 next-requires : tie.Need-next-requires Inv-loop μ-loop
 next-requires c κs = search needs
@@ -25,14 +26,14 @@ next-requires c κs = search needs
 enum-told : tie.Need-enum-told Inv-loop μ-loop
 enum-told c = search needs
 
-same-length : tie.Need-same-length Inv-loop μ-loop
-same-length c = search needs
-
 returns : tie.Need-returns Inv-loop μ-loop
 returns c = search needs
 
 enum-known-part : tie.Need-enum-known-part Inv-loop μ-loop
 enum-known-part c = search needs
+
+space-if-requires : tie.Need-space-if-requires Inv-loop μ-loop
+space-if-requires c κs = search needs
 
 source-requires : tie.Need-source-requires Inv-loop μ-loop
 source-requires c κs = search needs
@@ -40,14 +41,14 @@ source-requires c κs = search needs
 part-requires : tie.Need-part-requires Inv-loop μ-loop
 part-requires c κs = search needs
 
-piece-requires : tie.Need-piece-requires Inv-loop μ-loop
-piece-requires c κs = search needs
+escaped-requires : tie.Need-escaped-requires Inv-loop μ-loop
+escaped-requires c κs = search needs
 
 loop-less : tie.Need-loop-less Inv-loop μ-loop
 loop-less c = search number-less
 
 loop-again : tie.Need-loop-again Inv-loop μ-loop
-loop-again c = search needs
+loop-again c = omega arith
 
 pub pieces-spec : {M : Type 1} → statement M
 pieces-spec =
@@ -59,11 +60,11 @@ pieces-spec =
     loop-holds
     next-requires
     enum-told
-    same-length
     returns
     enum-known-part
+    space-if-requires
     source-requires
     part-requires
-    piece-requires
+    escaped-requires
     loop-less
     loop-again)

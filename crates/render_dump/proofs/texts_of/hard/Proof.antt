@@ -3,8 +3,8 @@ use Prim.Native.Nat.{_≤_, _-_, _+_}
 use lib.ListN.{length}
 use native.Mathlib.Omega.{arith}
 use borrow.Author.Needs.{needs}
-use Rattle.render_dump.proofs.write.hard.Statement.{statement}
-use Rattle.render_dump.proofs.write.hard.Tie as tie
+use Rattle.render_dump.proofs.texts_of.hard.Statement.{statement}
+use Rattle.render_dump.proofs.texts_of.hard.Tie as tie
 
 abbrev Inv-loop : tie.InvT-loop
 Inv-loop out₀ s next₀ i₀ out next i = length out ≡ length out₀
