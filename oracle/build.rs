@@ -1,24 +1,33 @@
-//! Writes into OUT_DIR what the unchanged sources need: the marker tables, and render.rs with its one patch.
+//! Writes into OUT_DIR what the unchanged sources need: the marker tables, render.rs with its one patch, and usx.rs with one module behind it.
 
 use std::path::{Path, PathBuf};
 use std::{env, fs};
 
 const RENDER: &str = "../docs/src/crates/usfm3/src/serialize/render.rs";
 const PATCH: &str = "is_table_row.diff";
+const USX: &str = "../docs/src/crates/usfm3/src/serialize/usx.rs";
+const ASKED: &str = "src/asked.rs";
 const TABLES: &str = "src/marker_tables.rs";
 
 fn main() {
     let out = PathBuf::from(env::var_os("OUT_DIR").expect("OUT_DIR"));
-    for input in [RENDER, PATCH, TABLES] {
+    for input in [RENDER, PATCH, USX, TABLES] {
         println!("cargo::rerun-if-changed={input}");
     }
     fs::copy(TABLES, out.join("marker_tables.rs")).expect("marker_tables.rs");
-    let patched = apply(&read(RENDER), &read(PATCH));
     let render = out.join("render.rs");
-    fs::write(&render, patched).expect("render.rs");
-    // `#[path]` takes a literal, so the module's declaration is written here too.
-    let declaration = format!("#[path = {render:?}]\npub(crate) mod render;\n");
-    fs::write(out.join("render_mod.rs"), declaration).expect("render_mod.rs");
+    fs::write(&render, apply(&read(RENDER), &read(PATCH))).expect("render.rs");
+    // A module behind usx.rs may call its private functions.
+    let asked = env::current_dir().expect("the package's folder").join(ASKED);
+    let usx = out.join("usx.rs");
+    fs::write(&usx, read(USX) + &declared(&asked, "asked")).expect("usx.rs");
+    let modules = declared(&render, "render") + &declared(&usx, "usx");
+    fs::write(out.join("modules.rs"), modules).expect("modules.rs");
+}
+
+/// The declaration of a module; `#[path]` takes a literal, so it is written here.
+fn declared(file: &Path, name: &str) -> String {
+    format!("#[path = {file:?}]\npub(crate) mod {name};\n")
 }
 
 fn read(path: impl AsRef<Path>) -> String {

@@ -2,20 +2,30 @@
 
 use std::io::{self, BufReader, Read, Write};
 
+use crate::Document;
 use crate::answer::read_tape;
 use crate::cst::Cursor;
 use crate::loader;
 use crate::tape::{Node, NodeKind};
 
 /// Dumps a stream of tapes; the form of a line stands in the README. A refused tape gives its number alone.
-pub fn stream(input: impl Read, mut output: impl Write) -> io::Result<()> {
+pub fn stream(input: impl Read, output: impl Write) -> io::Result<()> {
+    each_node(input, output, |out, document, c| write_line(out, document.nodes(), c))
+}
+
+/// Writes of each node what `write` does, and an empty line behind each tape.
+pub(crate) fn each_node<W: Write>(
+    input: impl Read,
+    mut output: W,
+    write: fn(&mut W, &Document<'_>, Cursor<'_>) -> io::Result<()>,
+) -> io::Result<()> {
     let mut input = BufReader::with_capacity(1 << 16, input);
     let mut tape = Vec::new();
     while read_tape(&mut input, &mut tape)? {
         match loader::load(&tape) {
             Ok(document) => {
                 for cursor in document.cursors() {
-                    write_line(&mut output, document.nodes(), cursor)?;
+                    write(&mut output, &document, cursor)?;
                 }
                 output.write_all(b"\n")?;
             }
@@ -40,7 +50,7 @@ fn write_line(out: &mut impl Write, nodes: &[Node], c: Cursor<'_>) -> io::Result
 }
 
 /// A cursor does not tell its index, but its node is an element of the tape.
-fn index(nodes: &[Node], c: Cursor<'_>) -> usize {
+pub(crate) fn index(nodes: &[Node], c: Cursor<'_>) -> usize {
     (std::ptr::from_ref(c.node()).addr() - nodes.as_ptr().addr()) / size_of::<Node>()
 }
 

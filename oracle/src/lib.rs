@@ -28,6 +28,7 @@ pub mod dump;
 pub mod generate;
 pub mod loader;
 pub mod notation;
+pub mod rendered;
 pub mod tapes;
 
 pub use document::Document;
