@@ -589,7 +589,10 @@ fn is_broken(answer: Verdict, s: State) -> bool
     let t = s.tree;
     let m = s.marks;
     match answer {
-        Verdict::Accepted { chapters: _, verses: _ } => false,
+        Verdict::Accepted {
+            chapters: _,
+            verses: _,
+        } => false,
         Verdict::NotTags => false,
         Verdict::TooHigh => s.high,
         Verdict::NoTree => t.broken,
