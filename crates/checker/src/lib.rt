@@ -9,7 +9,7 @@ ghost use lib.Signed.{mag, ltZ};
 ghost use mir.Syntax.{w64};
 ghost use mir.Val.{SFits};
 ghost use Rattle.tags.specs.Form.{Pair, pairsFrom, tagged, next, tokensFrom};
-ghost use Rattle.checker.specs.Rules.{bare, notedBy, noted, markOn, single as singleV, rise, broke, push, pop, grow, turn, missed, chapterTo, verseTo, isShut, isMilestone, pairUp};
+ghost use Rattle.checker.specs.Rules.{bare, notedBy, noted, markOn, single as singleV, rise, broke, push, pop, grow, turn, missed, chapterTo, verseTo, isShut, isHeld, isMilestone, pairUp};
 ghost use Rattle.checker.specs.Check.{bytesOf, markIn, viewIn, brief, sightIn, stackOf, trunkOf, heldIn, turnIn, pairsIn, runIn, stepOn, atStart, stateAtStart, oneTree, pairedOff, verdictOf, settle, answerOf};
 ghost use Rattle.checker.specs.Place.{isBroken, brokenFrom, placeOf, lineEnd, lineEnds, lineOf};
 use parts::begins_with;
@@ -330,6 +330,16 @@ fn amiss(m: Marks) -> Marks
     }
 }
 
+// Whether an end of that identifier belongs to what is open.
+fn closes(text: &[u8], open: Open, id: Part) -> bool
+    ensures { λ r. ⌜ r ≡ isHeld (heldIn (now (text .entry)) «open») (bytesOf (now (text .entry)) id) ⌝ }
+{
+    match open {
+        Open::Shut => false,
+        Open::At(q) => same(part_of(text, q), part_of(text, id)),
+    }
+}
+
 fn turned(text: &[u8], open: Open, form: Form) -> Turn
     ensures { λ r. ⌜ turnIn (now (text .entry)) r ≡ turn (heldIn (now (text .entry)) «open») (markIn (now (text .entry)) form) ⌝ }
 {
@@ -338,15 +348,12 @@ fn turned(text: &[u8], open: Open, form: Form) -> Turn
             Open::Shut => Turn::Begun(p),
             Open::At(_) => Turn::Wrong,
         },
-        Form::End(p) => match open {
-            Open::Shut => Turn::Wrong,
-            Open::At(q) => {
-                if same(part_of(text, q), part_of(text, p)) {
-                    return Turn::Ended;
-                }
-                Turn::Wrong
+        Form::End(p) => {
+            if closes(text, open, p) {
+                return Turn::Ended;
             }
-        },
+            Turn::Wrong
+        }
         Form::Bare => Turn::Wrong,
         Form::Plain => Turn::Wrong,
         Form::Other => Turn::Wrong,
