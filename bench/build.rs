@@ -1,7 +1,16 @@
-//! Links the static library that `rt staticlib bench_api` writes.
+//! Links the static library that `rt staticlib bench_api` writes, and of libxml2 and expat what is installed.
+use std::process::Command;
+
 fn main() {
     let here = std::env::var("CARGO_MANIFEST_DIR").expect("cargo sets it");
     println!("cargo:rustc-link-search=native={here}/../target/staticlib");
     println!("cargo:rustc-link-lib=static=bench_api");
     println!("cargo:rerun-if-changed={here}/../target/staticlib/libbench_api.a");
+    for (package, library, cfg) in [("libxml-2.0", "xml2", "libxml2"), ("expat", "expat", "expat")] {
+        println!("cargo:rustc-check-cfg=cfg({cfg})");
+        if Command::new("pkg-config").args(["--exists", package]).status().is_ok_and(|s| s.success()) {
+            println!("cargo:rustc-cfg={cfg}");
+            println!("cargo:rustc-link-lib={library}");
+        }
+    }
 }

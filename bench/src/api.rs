@@ -5,6 +5,7 @@ mod raw {
         pub fn bench_escape_xml(out: *mut u8, room: usize, at: usize, from: usize, s: *const u8, len: usize) -> usize;
         pub fn bench_escape_xml_attr(out: *mut u8, room: usize, at: usize, from: usize, s: *const u8, len: usize) -> usize;
         pub fn bench_admit(file: *const u8, len: usize) -> u32;
+        pub fn bench_check(text: *const u8, len: usize) -> u32;
         pub fn bench_is_utf8(s: *const u8, len: usize) -> usize;
         pub fn bench_put_number(out: *mut u8, room: usize, at: usize, from: usize, n: u32) -> usize;
     }
@@ -33,4 +34,9 @@ pub fn is_utf8(s: &[u8]) -> bool {
 /// The number that a tape file is given, 0 where it is admitted.
 pub fn admit(file: &[u8]) -> u32 {
     unsafe { raw::bench_admit(file.as_ptr(), file.len()) }
+}
+
+/// The number that a finished text is given, 0 where it is accepted.
+pub fn check(text: &[u8]) -> u32 {
+    unsafe { raw::bench_check(text.as_ptr(), text.len()) }
 }

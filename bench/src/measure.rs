@@ -27,10 +27,10 @@ pub fn row(name: String, bytes: usize, ours: &mut dyn FnMut(), rust: &mut dyn Fn
     Row { name, bytes, ours: a, rust: b }
 }
 
-pub fn print(rows: &[Row]) {
-    println!("{:<46} {:>10} {:>10} {:>10}", "", "ours ns/B", "Rust ns/B", "ours/Rust");
+pub fn print(other: &str, rows: &[Row]) {
+    println!("{:<46} {:>10} {:>11} {:>11}", "", "ours ns/B", format!("{other} ns/B"), format!("ours/{other}"));
     for r in rows {
         let per = |t: f64| t * 1e9 / r.bytes as f64;
-        println!("{:<46} {:>10.3} {:>10.3} {:>10.2}", r.name, per(r.ours), per(r.rust), r.ours / r.rust);
+        println!("{:<46} {:>10.3} {:>11.3} {:>11.2}", r.name, per(r.ours), per(r.rust), r.ours / r.rust);
     }
 }

@@ -23,6 +23,8 @@ mod bytes;
 pub use bytes::{memchr_iter, memrchr};
 
 pub mod answer;
+pub mod check;
+pub mod check_cases;
 mod document;
 pub mod dump;
 pub mod generate;

@@ -1,5 +1,5 @@
 -- The parts of a page that is known as a whole, and the number of an answer.
-use mathlib.Core.Path.{_≡_, sym, ap, subst}
+use mathlib.Core.Path.{_≡_, sym, ap, subst, _∙_}
 use mathlib.Core.Bool.{Bool, true, false, cond}
 use Prim.Native.Nat.{ℕ}
 use Rattle.parts.specs.Bytes.{Bytes}
@@ -7,6 +7,8 @@ use Rattle.tape.specs.declared.Sections.{Sections}
 use Rattle.admit.specs.Refusal.{Refusal, numberOf}
 use Rattle.admit.specs.declared.Admitted.{Admitted}
 use Rattle.admit.specs.declared.Admitted.the-variants.{Tape, Refused}
+use Rattle.checker.specs.Check.{answerOf, numberOf as numberOfV}
+use Rattle.checker.specs.declared.Verdict.{Verdict}
 use Rattle.window.specs.Page.{Page, pageOf}
 use Rattle.window.specs.declared.Window.{Window}
 
@@ -28,3 +30,7 @@ number-none file h e = subst (λ (z : Admitted). Refusal file (numberOf z)) e h
 pub number-given : (file : Bytes) {r : Admitted} {n m : ℕ} → Refusal file (numberOf r) → r ≡ Refused n → m ≡ n → Refusal file m
 unfolding numberOf
 number-given file h e w = subst (λ (z : ℕ). Refusal file z) (sym w) (subst (λ (z : Admitted). Refusal file (numberOf z)) e h)
+
+-- the number of a verdict that is told
+pub number-told : (x : Bytes) {r v : Verdict} → r ≡ answerOf x → r ≡ v → numberOfV v ≡ numberOfV (answerOf x)
+number-told x e i = ap numberOfV (sym i ∙ e)

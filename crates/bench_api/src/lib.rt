@@ -6,7 +6,9 @@ ghost use Rattle.chars.specs.Escape.{escape};
 ghost use Rattle.chars.specs.Decimal.{decimal};
 ghost use Rattle.window.specs.Page.{Page, paint};
 ghost use Rattle.admit.specs.Refusal.{Refusal};
+ghost use Rattle.checker.specs.Check.{answerOf, numberOf};
 use admit::Admitted;
+use checker::Verdict;
 use window::Window;
 
 // A text with its escapes behind `at` bytes, in a window that starts at `from`; the bytes written so far.
@@ -61,5 +63,22 @@ pub extern "C" fn bench_admit(file: &[u8]) -> u32
     match admit::admit(file) {
         Admitted::Tape(_) => 0,
         Admitted::Refused(n) => wide(n),
+    }
+}
+
+// The number that a finished text is given, 0 where it is accepted.
+#[no_mangle]
+pub extern "C" fn bench_check(text: &[u8]) -> u32
+    ensures { λ r. ⌜ r ≡ numberOf (answerOf (now (text .entry))) ⌝ }
+{
+    match checker::check(text) {
+        Verdict::Accepted {
+            chapters: _,
+            verses: _,
+        } => 0,
+        Verdict::NotTags => 11,
+        Verdict::TooHigh => 12,
+        Verdict::NoTree => 13,
+        Verdict::BadMarks => 14,
     }
 }

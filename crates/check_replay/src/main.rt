@@ -1,14 +1,9 @@
-// Runs the checker over a stream of texts and writes a line for each: document 01's number, the number of chapters, that of verses.
+// Runs the checker over a stream of texts and writes of each what usx_check writes.
 //
 // A stream of texts: for each its length as a u32, little-endian, then its bytes, at most 65,536.
 ghost use Prim.Native.Nat.{_<_};
-use checker::Verdict;
 use libc::STDIN_FILENO;
 use libc::STDOUT_FILENO;
-
-fn wide(n: usize) -> u64 {
-    n as u64
-}
 
 fn small(x: u8) -> usize
     ensures { λ r. ⌜ r < 256 ⌝ }
@@ -27,25 +22,6 @@ fn length_of(s: &[u8]) -> usize {
     byte(s, 0) + 256 * (byte(s, 1) + 256 * (byte(s, 2) + 256 * byte(s, 3)))
 }
 
-fn write_answer(number: u64, chapters: usize, verses: usize) {
-    io::print_decimal(STDOUT_FILENO, number);
-    io::write_all(STDOUT_FILENO, b" ");
-    io::print_decimal(STDOUT_FILENO, wide(chapters));
-    io::write_all(STDOUT_FILENO, b" ");
-    io::print_decimal(STDOUT_FILENO, wide(verses));
-    io::write_all(STDOUT_FILENO, b"\n");
-}
-
-fn judge(text: &[u8]) {
-    match checker::check(text) {
-        Verdict::Accepted { chapters, verses } => write_answer(0, chapters, verses),
-        Verdict::NotTags => write_answer(11, 0, 0),
-        Verdict::TooHigh => write_answer(12, 0, 0),
-        Verdict::NoTree => write_answer(13, 0, 0),
-        Verdict::BadMarks => write_answer(14, 0, 0),
-    }
-}
-
 // The next so many bytes of standard input, at the front of a buffer that has room for them.
 fn read_some(space: &mut [u8], size: usize) -> bool {
     if size <= space.len() {
@@ -62,7 +38,7 @@ fn step(space: &mut [u8]) -> bool {
     }
     let size = length_of(space);
     if read_some(space, size) {
-        judge(parts::part(space, 0, size));
+        report::report(parts::part(space, 0, size));
         return true;
     }
     io::write_all(STDOUT_FILENO, b"too long\n");

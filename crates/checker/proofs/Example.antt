@@ -6,6 +6,7 @@ use Rattle.parts.specs.Bytes.{Bytes, b, same, begins}
 use Rattle.tags.specs.Names.{which, elementAt}
 use Rattle.tags.specs.Form.{plain, escape, keyByte, ok, run, pairAt, pairsAt, pairsFrom, closeHead, openHead, textHead, headAt, tailAt, ended, tagged, headed, next, tokensAt, tokensFrom, tokens}
 use Rattle.checker.specs.Rules.{notedBy, noted, markOn, view, rise, broke, push, pop, growIn, grow, turn, missed, chapterTo, verseTo, isShut, isMilestone, pairUp}
+use Rattle.checker.specs.Place.{isBroken, brokenAt, brokenFrom, placeOf, lineEnd, lineEnds, lineOf}
 use Rattle.checker.specs.Check.{stepOn, foldOn, noneOpen, oneTree, pairedOff, verdictOf, settle, answerOf, numberOf, chaptersOf, versesOf}
 
 abbrev framed : Bytes → Bytes
@@ -57,3 +58,34 @@ pub examples : Each table
 unfolding plain escape keyByte ok run which elementAt pairAt pairsAt pairsFrom closeHead openHead textHead headAt tailAt ended tagged headed next tokensAt tokensFrom tokens notedBy noted markOn view rise broke push pop growIn grow turn missed chapterTo verseTo isShut isMilestone pairUp stepOn foldOn noneOpen oneTree pairedOff verdictOf settle answerOf same begins numberOf chaptersOf versesOf
 examples =
     (refl, refl, refl, (refl, refl, refl, (refl, refl, refl, (refl, refl, refl, (refl, refl, refl, (refl, refl, refl, (refl, refl, refl, (refl, refl, refl, (refl, refl, refl, (refl, refl, refl, (refl, refl, refl, (refl, refl, refl, (refl, refl, refl, (refl, refl, refl, (refl, refl, refl, (refl, refl, refl, (refl, refl, refl, tt)))))))))))))))))
+
+-- a text, and the bytes before the place where its first rule breaks, and the line of it
+pub record Spot : Type 0 where
+  pub text : Bytes
+  pub place : ℕ
+  pub line : ℕ
+
+infix 70 _breaks-at_in-line_
+abbrev _breaks-at_in-line_ : Bytes → ℕ → ℕ → Spot
+s breaks-at n in-line l = record { text = s; place = n; line = l }
+
+abbrev pub spots : List Spot
+spots =
+    b "<usx>" breaks-at 0 in-line 1
+    ∷ framed (b "\n\na & b") breaks-at 23 in-line 3
+    ∷ framed (b "\n<para x=\"&\"></para>") breaks-at 20 in-line 2
+    ∷ b "<usx version=\"3.0\"></usx>\n" breaks-at 26 in-line 2
+    ∷ framed (b "<para>\n</char>") breaks-at 26 in-line 2
+    ∷ framed (b "<para>\n") breaks-at 26 in-line 2
+    ∷ framed (b "<verse sid=\"a\" />\n<verse eid=\"b\" />") breaks-at 37 in-line 2
+    ∷ framed (b "<verse sid=\"a\" />\n") breaks-at 43 in-line 2
+    ∷ []
+
+abbrev EachSpot : List Spot → Type 0
+EachSpot [] = Unit {0}
+EachSpot (r ∷ rs) =
+    (placeOf (answerOf (r .text)) (r .text) ≡ r .place) × (lineOf (r .text) (r .place) ≡ r .line) × EachSpot rs
+
+pub places : EachSpot spots
+unfolding plain escape keyByte ok run which elementAt pairAt pairsAt pairsFrom closeHead openHead textHead headAt tailAt ended tagged headed next tokensAt tokensFrom tokens notedBy noted markOn view rise broke push pop growIn grow turn missed chapterTo verseTo isShut isMilestone pairUp stepOn foldOn noneOpen oneTree pairedOff verdictOf settle answerOf same begins isBroken brokenAt brokenFrom placeOf lineEnd lineEnds lineOf
+places = (refl, refl, (refl, refl, (refl, refl, (refl, refl, (refl, refl, (refl, refl, (refl, refl, (refl, refl, tt))))))))

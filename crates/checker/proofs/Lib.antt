@@ -10,3 +10,4 @@ pub mod Answers
 pub mod Accepts
 pub mod Example
 pub mod Joined
+pub mod Places

@@ -14,7 +14,7 @@ use Rattle.parts.proofs.Laws.{begins-fits}
 use Rattle.tags.specs.Form.{Token, Read, bad, got, next, onto, moreTokens, tokensAt, tokensFrom, opening, closing, tokens}
 use Rattle.tags.proofs.Tokens.{Shorter, next-shorter, tokens-by}
 use Rattle.checker.specs.Rules.{View, words, opened, closed, single, view, rise, grow, Turned, begun, ended, wrong, turn, Pairs, missed, chapterTo, verseTo, isShut, isMilestone, pairUp}
-use Rattle.checker.specs.Check.{Run, stepOn, foldOn, atStart, verdictOf, settle, answerOf, viewIn, sight, brief, sightIn, stackOf, runIn}
+use Rattle.checker.specs.Check.{Run, stepOn, foldOn, atStart, verdictOf, settle, answerOf, viewIn, sight, brief, sightIn, stackOf, heldIn, runIn, stateAtStart}
 use Rattle.checker.specs.declared.Tag.{Tag}
 use Rattle.checker.specs.declared.Next.the-variants.{Bad, Token as TokenV}
 use Rattle.checker.specs.declared.State.{State}
@@ -71,6 +71,11 @@ pub record Going (x a : List ℕ) (s : State) (at : ℕ) : Type 0 where
   pub little : s .marks .verses ≤ at
   pub same : settle (runIn x s a) (tokensFrom (drop at x)) ≡ settle atStart (tokensFrom x)
 
+pub going-start : (x a : List ℕ) (s : State) → length a ≡ 160 → s ≡ stateAtStart → Going x a s 0
+unfolding heldIn stackOf
+going-start x a s l e =
+    rw e (record { long = l; low = omega arith; deep = omega arith; few = omega arith; little = omega arith; same = refl })
+
 module _ (x : List ℕ) (at : ℕ) (h : at < length x) where
   here : drop at x ≡ getD x at 0 ∷ drop (suc at) x
   here = drop-cons x at 0 h
@@ -87,7 +92,7 @@ module _ (x : List ℕ) (at : ℕ) (h : at < length x) where
       go (got t l) i = absurd (let no-way : _≡_ {A = ℕ} 0 1 = cc in omega arith)
 
   module _ (tag : Tag) (e : ℕ) (is : sightIn x (TokenV tag e) ≡ brief (next (drop at x))) where
-    got-one : (t : Token) × (next (drop at x) ≡ got t (drop e x)) × (view t ≡ viewIn x tag)
+    pub got-one : (t : Token) × (next (drop at x) ≡ got t (drop e x)) × (view t ≡ viewIn x tag)
     unfolding sightIn brief
     got-one = go (next (drop at x)) refl
       where

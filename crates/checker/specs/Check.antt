@@ -159,3 +159,13 @@ pairsIn s m =
 abbrev pub runIn : List ℕ → State → List ℕ → Run
 runIn s z a =
     record { height = z .height; high = z .high; trunk = trunkOf (z .tree) a; pairs = pairsIn s (z .marks) }
+
+-- the code's state at the start of a text
+abbrev pub stateAtStart : State
+stateAtStart =
+    record {
+      height = pos 0;
+      high = false;
+      tree = record { depth = 0; seen = false; done = false; broken = false };
+      marks = record { chapter = Shut; verse = Shut; chapters = 0; verses = 0; wrong = false };
+    }

@@ -3,3 +3,4 @@ pub mod Check
 pub mod Meaning
 pub mod Words
 pub mod Pairing
+pub mod Place

@@ -128,6 +128,11 @@ unfoldable pub isShut : Held → Bool
 isShut shut = true
 isShut (held i) = false
 
+-- whether an end of that identifier belongs to what is open
+unfoldable pub isHeld : Held → List ℕ → Bool
+isHeld shut i = false
+isHeld (held j) i = same j i
+
 unfoldable pub isMilestone : ℕ → Bool
 isMilestone n = eqb n 3 || eqb n 4
 

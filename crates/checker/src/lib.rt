@@ -1,6 +1,6 @@
 // The checker of finished text: one pass over the bytes, a state folded over the tokens, no heap.
 ghost use mathlib.Core.Path.{_≡_};
-ghost use Prim.Native.Nat.{ℕ, _+_, _≤_, _<_, _^_};
+ghost use Prim.Native.Nat.{ℕ, suc, _+_, _-_, _≤_, _<_, _^_};
 ghost use mathlib.Core.List.{List};
 ghost use mathlib.Core.Bool.{_||_};
 ghost use lib.ListN.{length, drop};
@@ -9,8 +9,9 @@ ghost use lib.Signed.{mag, ltZ};
 ghost use mir.Syntax.{w64};
 ghost use mir.Val.{SFits};
 ghost use Rattle.tags.specs.Form.{Pair, pairsFrom, tagged, next, tokensFrom};
-ghost use Rattle.checker.specs.Rules.{bare, notedBy, noted, markOn, single as singleV, rise, broke, push, pop, grow, turn, missed, chapterTo, verseTo, isShut, isMilestone, pairUp};
-ghost use Rattle.checker.specs.Check.{bytesOf, markIn, viewIn, brief, sightIn, stackOf, trunkOf, heldIn, turnIn, pairsIn, runIn, stepOn, atStart, oneTree, pairedOff, verdictOf, settle, answerOf};
+ghost use Rattle.checker.specs.Rules.{bare, notedBy, noted, markOn, single as singleV, rise, broke, push, pop, grow, turn, missed, chapterTo, verseTo, isShut, isHeld, isMilestone, pairUp};
+ghost use Rattle.checker.specs.Check.{bytesOf, markIn, viewIn, brief, sightIn, stackOf, trunkOf, heldIn, turnIn, pairsIn, runIn, stepOn, atStart, stateAtStart, oneTree, pairedOff, verdictOf, settle, answerOf};
+ghost use Rattle.checker.specs.Place.{isBroken, brokenFrom, placeOf, lineEnd, lineEnds, lineOf};
 use parts::begins_with;
 use parts::from;
 use parts::part;
@@ -329,6 +330,16 @@ fn amiss(m: Marks) -> Marks
     }
 }
 
+// Whether an end of that identifier belongs to what is open.
+fn closes(text: &[u8], open: Open, id: Part) -> bool
+    ensures { λ r. ⌜ r ≡ isHeld (heldIn (now (text .entry)) «open») (bytesOf (now (text .entry)) id) ⌝ }
+{
+    match open {
+        Open::Shut => false,
+        Open::At(q) => same(part_of(text, q), part_of(text, id)),
+    }
+}
+
 fn turned(text: &[u8], open: Open, form: Form) -> Turn
     ensures { λ r. ⌜ turnIn (now (text .entry)) r ≡ turn (heldIn (now (text .entry)) «open») (markIn (now (text .entry)) form) ⌝ }
 {
@@ -337,15 +348,12 @@ fn turned(text: &[u8], open: Open, form: Form) -> Turn
             Open::Shut => Turn::Begun(p),
             Open::At(_) => Turn::Wrong,
         },
-        Form::End(p) => match open {
-            Open::Shut => Turn::Wrong,
-            Open::At(q) => {
-                if same(part_of(text, q), part_of(text, p)) {
-                    return Turn::Ended;
-                }
-                Turn::Wrong
+        Form::End(p) => {
+            if closes(text, open, p) {
+                return Turn::Ended;
             }
-        },
+            Turn::Wrong
+        }
         Form::Bare => Turn::Wrong,
         Form::Plain => Turn::Wrong,
         Form::Other => Turn::Wrong,
@@ -460,6 +468,28 @@ fn paired(text: &[u8], m: Marks, tag: Tag) -> Marks
 
 // ---- the whole
 
+fn at_start() -> State
+    ensures { λ r. ⌜ r ≡ stateAtStart ⌝ }
+{
+    State {
+        height: 0,
+        high: false,
+        tree: Tree {
+            depth: 0,
+            seen: false,
+            done: false,
+            broken: false,
+        },
+        marks: Marks {
+            chapter: Open::Shut,
+            verse: Open::Shut,
+            chapters: 0,
+            verses: 0,
+            wrong: false,
+        },
+    }
+}
+
 fn step(text: &[u8], s: State, stack: &mut [u8], tag: Tag) -> State
     requires { ⌜ (length (now stack) ≡ 160) × (mag (s .height) + 1 < 2 ^ 63) × (s .tree .depth ≤ 160) × (s .marks .chapters + 1 < 2 ^ 64) × (s .marks .verses + 1 < 2 ^ 64) ⌝ }
     ensures { λ r. ⌜ runIn (now (text .entry)) r (now (stack .exit)) ≡ stepOn (runIn (now (text .entry)) s (now (stack .entry))) (viewIn (now (text .entry)) tag) ⌝ }
@@ -529,23 +559,7 @@ fn walk(text: &[u8]) -> Verdict
     ensures { λ r. ⌜ r ≡ settle atStart (tokensFrom (now (text .entry))) ⌝ }
 {
     let mut stack = [0u8; 160];
-    let mut s = State {
-        height: 0,
-        high: false,
-        tree: Tree {
-            depth: 0,
-            seen: false,
-            done: false,
-            broken: false,
-        },
-        marks: Marks {
-            chapter: Open::Shut,
-            verse: Open::Shut,
-            chapters: 0,
-            verses: 0,
-            wrong: false,
-        },
-    };
+    let mut s = at_start();
     let mut at = 0;
     while at < text.len() {
         match next_at(text, at) {
@@ -571,4 +585,84 @@ pub fn check(text: &[u8]) -> Verdict
         }
     }
     Verdict::NotTags
+}
+
+// ---- where the first rule broke, for people
+
+// Whether the rule of an answer is broken.
+fn is_broken(answer: Verdict, s: State) -> bool
+    ensures { λ r. ⌜ ((x a : List ℕ) → r ≡ isBroken answer (runIn x s a)) ⌝ }
+{
+    let t = s.tree;
+    let m = s.marks;
+    match answer {
+        Verdict::Accepted {
+            chapters: _,
+            verses: _,
+        } => false,
+        Verdict::NotTags => false,
+        Verdict::TooHigh => s.high,
+        Verdict::NoTree => t.broken,
+        Verdict::BadMarks => m.wrong,
+    }
+}
+
+// The start of the first token that cannot be read or breaks the rule of an answer, or else the end.
+fn broken_at(text: &[u8], answer: Verdict) -> usize
+    ensures { λ r. ⌜ r ≡ length (now (text .entry)) - length (brokenFrom answer atStart (now (text .entry))) ⌝ }
+{
+    let mut stack = [0u8; 160];
+    let mut s = at_start();
+    let mut at = 0;
+    while at < text.len() {
+        match next_at(text, at) {
+            Next::Bad => {
+                return at;
+            }
+            Next::Token(tag, end) => {
+                s = step(text, s, &mut stack, tag);
+                if is_broken(answer, s) {
+                    return at;
+                }
+                at = end;
+            }
+        }
+    }
+    text.len()
+}
+
+// How many bytes stand before the place where a text breaks the rule of its answer.
+pub fn place(text: &[u8], answer: Verdict) -> usize
+    ensures { λ r. ⌜ r ≡ placeOf answer (now (text .entry)) ⌝ }
+{
+    if begins_with(text, b"<usx version=\"3.0\">") {
+        return broken_at(text, answer);
+    }
+    0
+}
+
+fn line_end(c: u8) -> usize
+    ensures { λ r. ⌜ r ≡ lineEnd c ⌝ }
+{
+    if c == b'\n' { 1 } else { 0 }
+}
+
+fn line_ends(s: &[u8]) -> usize
+    ensures count { λ r. ⌜ r ≡ lineEnds (now (s .entry)) ⌝ }
+    ensures fits { λ r. ⌜ r ≤ length (now (s .entry)) ⌝ }
+{
+    let mut n = 0;
+    let mut i = 0;
+    while i < s.len() {
+        n += line_end(s[i]);
+        i += 1;
+    }
+    n
+}
+
+// The line that a place stands in, from 1.
+pub fn line_of(text: &[u8], at: usize) -> usize
+    ensures { λ r. ⌜ r ≡ lineOf (now (text .entry)) at ⌝ }
+{
+    line_ends(part(text, 0, at)) + 1
 }

@@ -1,5 +1,4 @@
-use Rattle.checker.specs.Check.{heldIn, stackOf}
-use Rattle.checker.proofs.Whole.{Going, going-bad, going-on, going-turn, going-end}
+use Rattle.checker.proofs.Whole.{Going, going-start, going-bad, going-on, going-turn, going-end}
 use borrow.Author.Needs.{needs}
 use lib.ListN.{length}
 use mathlib.Core.Path.{refl, sym}
@@ -14,9 +13,11 @@ Inv-loop text stack₀ s₀ at₀ stack s at = Going text stack s at
 abbrev μ-loop : tie.MeasureT-loop
 μ-loop text stack₀ s₀ at₀ stack s at = length text - at
 
+at-start-requires : tie.Need-at-start-requires Inv-loop μ-loop
+at-start-requires c κs = search needs
+
 loop-holds : tie.Need-loop-holds Inv-loop μ-loop
-unfolding heldIn stackOf
-loop-holds c = record { long = refl; low = omega arith; deep = omega arith; few = omega arith; little = omega arith; same = refl }
+loop-holds c = going-start _ _ _ refl (c .at-start .ensures)
 
 next-at-requires : tie.Need-next-at-requires Inv-loop μ-loop
 next-at-requires c κs = search needs
@@ -34,7 +35,7 @@ slice-aggregate-step : tie.Need-slice-aggregate-step Inv-loop μ-loop
 slice-aggregate-step c = sym (c .before .before .before .before .before .before .loop .inv .long)
 
 step-requires : tie.Need-step-requires Inv-loop μ-loop
-step-requires c κs = omega (arith, c .before .before .before .before .before .before .before .before .good)
+step-requires c κs = omega (arith, c .before .before .before .before .before .before .before .before .before .good)
 
 loop-less : tie.Need-loop-less Inv-loop μ-loop
 loop-less c = omega (arith, going-on _ _ (c .before .before .before .before .before .before .before .loop-test .taken) _ _ (rw (c .before .before .before .before .tag .given .1) at (c .before .before .before .before .before .before .next-at .ensures)))
@@ -57,6 +58,7 @@ walk-spec =
     (tie.spec
     Inv-loop
     μ-loop
+    at-start-requires
     loop-holds
     next-at-requires
     enum-told
