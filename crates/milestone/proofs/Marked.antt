@@ -39,7 +39,6 @@ use Rattle.sink.proofs.Idents.{shown-decimal}
 
 -- ---- runs
 
--- a value between the quotes of its attribute
 module _ (p : Page) {q r z : Page} where
   pub chapter-head : (n : ℕ) → q ≡ paint p (b "<chapter number=\"") → r ≡ paint q (decimal n) → z ≡ paint r (b "\" style=\"c\"")
       → z ≡ paint p (b "<chapter number=\"" ++ (decimal n ++ b "\" style=\"c\""))
@@ -164,12 +163,6 @@ emitted-by : (source : Bytes) (sink : Sink) (out last : Bytes) (v : Window) (m :
 unfolding emit
 emitted-by source sink out last v m e ep es = desk-made ep es
 
-ended-bytes : (is js : List Item) (i : Item) → render is ++ (render js ++ itemBytes i) ≡ render (is ++ (js ++ (i ∷ [])))
-unfolding render
-ended-bytes is js i =
-    sym (render-append is (js ++ (i ∷ []))
-    ∙ ap (λ (z : Bytes). render is ++ z) (render-append js (i ∷ []) ∙ ap (λ (z : Bytes). render js ++ z) (append-nil (itemBytes i))))
-
 one-bytes : (is : List Item) (i : Item) → render is ++ itemBytes i ≡ render (is ++ (i ∷ []))
 unfolding render
 one-bytes is i = sym (render-append is (i ∷ []) ∙ ap (λ (z : Bytes). render is ++ z) (append-nil (itemBytes i)))
@@ -187,47 +180,67 @@ module _ (source : Bytes) (m : Marks) where
   unfolding stateIn after
   book-state code rest = refl
 
+-- what is open ends, the verse first
+pub ends-put : (source : Bytes) (m : Marks) (p q : Page) {r : Page} → q ≡ paint p (render (endOf 4 (verseIn source (m .verse))))
+    → r ≡ paint q (render (endOf 3 (chapterIn source (m .chapter)))) → r ≡ paint p (render (lastEnds (stateIn source m)))
+unfolding lastEnds stateIn
+ends-put source m p q eq er =
+    let ends : List Item = endOf 4 (verseIn source (m .verse)) in
+    let shuts : List Item = endOf 3 (chapterIn source (m .chapter)) in
+    paint-two p (render ends) (render shuts) eq er ∙ ap (paint p) (sym (render-append ends shuts))
+
+chapter-items : (s : State) (n : ℕ) (alt published : Option Bytes)
+    → render (lastEnds s) ++ itemBytes (empty 3 (chapterAttrs (s .book) n alt published)) ≡ render (itemsOf s (chapterEvent n alt published))
+unfolding lastEnds itemsOf
+chapter-items s n alt published =
+    let tag : Item = empty 3 (chapterAttrs (s .book) n alt published) in
+    one-bytes (lastEnds s) tag ∙ ap render (append-assoc (endOf 4 (s .verse)) (endOf 3 (s .chapter)) (tag ∷ []))
+
+-- what was painted through the window of a sink, from a source
+through : (source : Bytes) (sink : Sink) (out : Bytes) {w : Window} {s : Bytes} {q : Page} (f : Bytes → Bytes) → w ≡ windowIn sink → s ≡ source → q ≡ paint (pageOf w out) (f s)
+    → q ≡ paint (pageOf (windowIn sink) out) (f source)
+through source sink out {w} {s} f ew es eq =
+    eq ∙ ap (λ (u : Window). paint (pageOf u out) (f s)) ew ∙ ap (λ (z : Bytes). paint (pageOf (windowIn sink) out) (f z)) es
+
 module _ (c : Sections) (file : Bytes) (sink : Sink) (out : Bytes) {last : Bytes} {v : Window} where
-  pub chapter-emitted : (n : ℕ) (alt published : Step) {s : Bytes} → s ≡ tapeIn c file .source → {w : Window} → w ≡ windowIn sink
-      → (q r : Page) → q ≡ paint (pageOf w out) (render (endOf 4 (verseIn s (sink .marks .verse)))) → r ≡ paint q (render (endOf 3 (chapterIn s (sink .marks .chapter))))
-      → pageOf v last ≡ paint r (itemBytes (empty 3 (chapterAttrs (bytesOf (tapeIn c file .source) (sink .marks .book)) n (numberOf (tapeIn c file) alt) (numberOf (tapeIn c file) published))))
+  pub chapter-emitted : (n : ℕ) (alt published : Step) {w : Window} {s : Bytes} → w ≡ windowIn sink → s ≡ tapeIn c file .source
+      → (q : Page) → q ≡ paint (pageOf w out) (render (lastEnds (stateIn s (sink .marks))))
+      → pageOf v last ≡ paint q (itemBytes (empty 3 (chapterAttrs (bytesOf (tapeIn c file .source) (sink .marks .book)) n (numberOf (tapeIn c file) alt) (numberOf (tapeIn c file) published))))
       → {m : Marks} → m ≡ nextChapter (sink .marks) n
       → deskIn (tapeIn c file .source) (record { at = v .at; from = v .from; marks = m }) last
       ≡ emit (deskIn (tapeIn c file .source) sink out) (chapterEvent n (numberOf (tapeIn c file) alt) (numberOf (tapeIn c file) published))
-  unfolding stateIn itemsOf
-  chapter-emitted n alt published {s} es {w} ew q r eq er ev {m} em =
+  unfolding stateIn
+  chapter-emitted n alt published ew es q eq ev {m} em =
       let source : Bytes = tapeIn c file .source in
-      let ends : List Item = endOf 4 (verseIn source (sink .marks .verse)) in
-      let shuts : List Item = endOf 3 (chapterIn source (sink .marks .chapter)) in
-      let tag : Item = empty 3 (chapterAttrs (bytesOf source (sink .marks .book)) n (numberOf (tapeIn c file) alt) (numberOf (tapeIn c file) published)) in
-      let e : Event = chapterEvent n (numberOf (tapeIn c file) alt) (numberOf (tapeIn c file) published) in
+      let state : State = stateIn source (sink .marks) in
+      let other : Option Bytes = numberOf (tapeIn c file) alt in
+      let shown : Option Bytes = numberOf (tapeIn c file) published in
       let p : Page = pageOf (windowIn sink) out in
-      let first : q ≡ paint p (render ends) =
-      eq ∙ ap (λ (u : Window). paint (pageOf u out) (render (endOf 4 (verseIn s (sink .marks .verse))))) ew ∙ ap (λ (z : Bytes). paint p (render (endOf 4 (verseIn z (sink .marks .verse))))) es in
-      let second : r ≡ paint q (render shuts) = er ∙ ap (λ (z : Bytes). paint q (render (endOf 3 (chapterIn z (sink .marks .chapter))))) es in
-      emitted-by source sink out last v m e
-      (paint-three p (render ends) (render shuts) (itemBytes tag) first second ev ∙ ap (paint p) (ended-bytes ends shuts tag))
-      (ap (stateIn source) em ∙ chapter-state source (sink .marks) n (numberOf (tapeIn c file) alt) (numberOf (tapeIn c file) published))
+      let first : q ≡ paint p (render (lastEnds state)) = through source sink out (λ (z : Bytes). render (lastEnds (stateIn z (sink .marks)))) ew es eq in
+      emitted-by source sink out last v m (chapterEvent n other shown)
+      (paint-two p (render (lastEnds state)) (itemBytes (empty 3 (chapterAttrs (state .book) n other shown))) first ev ∙ ap (paint p) (chapter-items state n other shown))
+      (ap (stateIn source) em ∙ chapter-state source (sink .marks) n other shown)
 
-  pub verse-emitted : (k : ℕ) (alt published : Step) {label : Part} → IsLabel (tapeIn c file) k label → {w : Window} → w ≡ windowIn sink → {s : Bytes} → s ≡ tapeIn c file .source
+  pub verse-emitted : (k : ℕ) (alt published : Step) {label : Part} → IsLabel (tapeIn c file) k label → {w : Window} {s : Bytes} → w ≡ windowIn sink → s ≡ tapeIn c file .source
       → (q : Page) → q ≡ paint (pageOf w out) (render (endOf 4 (verseIn s (sink .marks .verse))))
       → pageOf v last ≡ paint q (itemBytes (empty 4 (verseAttrs (bytesOf (tapeIn c file .source) (sink .marks .book)) (sink .marks .number) (bytesOf (tapeIn c file .source) label) (numberOf (tapeIn c file) alt) (numberOf (tapeIn c file) published))))
       → {m : Marks} → m ≡ nextVerse (sink .marks) label
       → deskIn (tapeIn c file .source) (record { at = v .at; from = v .from; marks = m }) last
       ≡ emit (deskIn (tapeIn c file .source) sink out) (verseEvent (labelOf (tapeIn c file) k) (numberOf (tapeIn c file) alt) (numberOf (tapeIn c file) published))
   unfolding stateIn itemsOf bytesOf
-  verse-emitted k alt published {label} is {w} ew {s} es q eq ev {m} em =
+  verse-emitted k alt published {label} is ew es q eq ev {m} em =
       let source : Bytes = tapeIn c file .source in
-      let ends : List Item = endOf 4 (verseIn source (sink .marks .verse)) in
       let name : Bytes = part source (label .start) (label .len) in
-      let tag : Item = empty 4 (verseAttrs (bytesOf source (sink .marks .book)) (sink .marks .number) name (numberOf (tapeIn c file) alt) (numberOf (tapeIn c file) published)) in
+      let other : Option Bytes = numberOf (tapeIn c file) alt in
+      let shown : Option Bytes = numberOf (tapeIn c file) published in
+      let ends : List Item = endOf 4 (verseIn source (sink .marks .verse)) in
+      let tag : Item = empty 4 (verseAttrs (bytesOf source (sink .marks .book)) (sink .marks .number) name other shown) in
       let p : Page = pageOf (windowIn sink) out in
-      let first : q ≡ paint p (render ends) =
-      eq ∙ ap (λ (u : Window). paint (pageOf u out) (render (endOf 4 (verseIn s (sink .marks .verse))))) ew ∙ ap (λ (z : Bytes). paint p (render (endOf 4 (verseIn z (sink .marks .verse))))) es in
-      emitted-by source sink out last v m (verseEvent name (numberOf (tapeIn c file) alt) (numberOf (tapeIn c file) published))
+      let first : q ≡ paint p (render ends) = through source sink out (λ (z : Bytes). render (endOf 4 (verseIn z (sink .marks .verse)))) ew es eq in
+      emitted-by source sink out last v m (verseEvent name other shown)
       (paint-two p (render ends) (itemBytes tag) first ev ∙ ap (paint p) (one-bytes ends tag))
-      (ap (stateIn source) em ∙ verse-state source (sink .marks) label (numberOf (tapeIn c file) alt) (numberOf (tapeIn c file) published))
-      ∙ ap (λ (z : Bytes). emit (deskIn source sink out) (verseEvent z (numberOf (tapeIn c file) alt) (numberOf (tapeIn c file) published))) (is .bytes)
+      (ap (stateIn source) em ∙ verse-state source (sink .marks) label other shown)
+      ∙ ap (λ (z : Bytes). emit (deskIn source sink out) (verseEvent z other shown)) (is .bytes)
 
   pub book-emitted : (k : ℕ) {p : Part} → IsCode (tapeIn c file) k p → {s code : Bytes} → s ≡ tapeIn c file .source → code ≡ part s (p .start) (p .len) → {w : Window} → w ≡ windowIn sink
       → {rest : Bytes} → rest ≡ remainder (textOf (tapeIn c file) (firstText (tapeIn c file) k))
@@ -249,18 +262,11 @@ module _ (c : Sections) (file : Bytes) (sink : Sink) (out : Bytes) {last : Bytes
       (ap (stateIn source) em ∙ book-state source (sink .marks) p (bookRest (tapeIn c file) k))
       ∙ ap (λ (z : Bytes). emit (deskIn source sink out) (bookEvent z (bookRest (tapeIn c file) k))) (is .bytes)
 
-  pub ends-laid : {s : Bytes} → s ≡ tapeIn c file .source → {w : Window} → w ≡ windowIn sink
-      → (q : Page) → q ≡ paint (pageOf w out) (render (endOf 4 (verseIn s (sink .marks .verse)))) → pageOf v last ≡ paint q (render (endOf 3 (chapterIn s (sink .marks .chapter))))
+  pub ends-laid : {w : Window} {s : Bytes} → w ≡ windowIn sink → s ≡ tapeIn c file .source → pageOf v last ≡ paint (pageOf w out) (render (lastEnds (stateIn s (sink .marks))))
       → {r : Sink} → r ≡ overBy sink v
       → deskIn (tapeIn c file .source) r last ≡ lay (deskIn (tapeIn c file .source) sink out) (lastEnds (stateIn (tapeIn c file .source) (sink .marks)))
-  unfolding stateIn lay lastEnds
-  ends-laid {s} es {w} ew q eq ev {r} er =
+  unfolding lay
+  ends-laid ew es ev er =
       let source : Bytes = tapeIn c file .source in
-      let ends : List Item = endOf 4 (verseIn source (sink .marks .verse)) in
-      let shuts : List Item = endOf 3 (chapterIn source (sink .marks .chapter)) in
-      let p : Page = pageOf (windowIn sink) out in
-      let first : q ≡ paint p (render ends) =
-      eq ∙ ap (λ (u : Window). paint (pageOf u out) (render (endOf 4 (verseIn s (sink .marks .verse))))) ew ∙ ap (λ (z : Bytes). paint p (render (endOf 4 (verseIn z (sink .marks .verse))))) es in
-      let second : pageOf v last ≡ paint q (render shuts) = ev ∙ ap (λ (z : Bytes). paint q (render (endOf 3 (chapterIn z (sink .marks .chapter))))) es in
       ap (λ (u : Sink). deskIn source u last) er
-      ∙ desk-made (paint-two p (render ends) (render shuts) first second ∙ ap (paint p) (sym (render-append ends shuts))) refl
+      ∙ desk-made (through source sink out (λ (z : Bytes). render (lastEnds (stateIn z (sink .marks)))) ew es ev) refl

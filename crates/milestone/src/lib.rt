@@ -17,7 +17,7 @@ ghost use Rattle.events.specs.Event.{perhaps, chapter as chapterEvent, verse as
 ghost use Rattle.events.specs.Pairing.{chapterId, verseId, chapterAttrs, verseAttrs, bookItems, lastEnds};
 ghost use Rattle.events.specs.Emit.{emit, lay};
 ghost use Rattle.sink.specs.Desk.{bytesOf, stateIn, deskIn, shownAs};
-
+use marks::Marks;
 use sink::Sink;
 use sink::end_chapter;
 use sink::end_verse;
@@ -121,6 +121,16 @@ fn put_verse(
     put_verse_tail(d, out, file, tape, published)
 }
 
+// The ends of what is open, the verse's first.
+fn put_ends(w: Window, out: &mut [u8], source: &[u8], m: Marks) -> Window
+    ensures { λ r. ⌜ pageOf r (now (out .exit)) ≡ paint (pageOf w (now (out .entry))) (render (lastEnds (stateIn (now (source .entry)) m))) ⌝ }
+{
+    let verse = m.verse;
+    let a = end_verse(w, out, source, verse);
+    let chapter = m.chapter;
+    end_chapter(a, out, source, chapter)
+}
+
 // A chapter ends what is open and opens itself.
 pub fn chapter(
     file: &[u8],
@@ -134,12 +144,8 @@ pub fn chapter(
     ensures { λ r. ⌜ deskIn (tapeIn tape (now (file .entry)) .source) r (now (out .exit)) ≡ emit (deskIn (tapeIn tape (now (file .entry)) .source) sink (now (out .entry))) (chapterEvent number (numberOf (tapeIn tape (now (file .entry))) alt) (numberOf (tapeIn tape (now (file .entry))) published)) ⌝ }
 {
     let m = sink.marks;
-    let source = tape::source(file, tape);
-    let verse = m.verse;
-    let a = end_verse(sink.window(), out, source, verse);
-    let chapter = m.chapter;
-    let c = end_chapter(a, out, source, chapter);
-    let d = put_chapter(c, out, file, tape, m.book, number, alt, published);
+    let a = put_ends(sink.window(), out, tape::source(file, tape), m);
+    let d = put_chapter(a, out, file, tape, m.book, number, alt, published);
     let marks = marks::next_chapter(m, number);
     Sink {
         at: d.at,
@@ -162,8 +168,8 @@ pub fn verse(
 {
     let m = sink.marks;
     let label = render::verse_label(file, tape, c);
-    let verse = m.verse;
-    let a = end_verse(sink.window(), out, tape::source(file, tape), verse);
+    let held = m.verse;
+    let a = end_verse(sink.window(), out, tape::source(file, tape), held);
     let d = put_verse(a, out, file, tape, m.book, m.number, label, alt, published);
     let marks = marks::next_verse(m, label);
     Sink {
@@ -224,10 +230,6 @@ pub fn last_ends(file: &[u8], tape: Sections, sink: Sink, out: &mut [u8]) -> Sin
     ensures { λ r. ⌜ deskIn (tapeIn tape (now (file .entry)) .source) r (now (out .exit)) ≡ lay (deskIn (tapeIn tape (now (file .entry)) .source) sink (now (out .entry))) (lastEnds (stateIn (tapeIn tape (now (file .entry)) .source) (sink .marks))) ⌝ }
 {
     let m = sink.marks;
-    let source = tape::source(file, tape);
-    let verse = m.verse;
-    let a = end_verse(sink.window(), out, source, verse);
-    let chapter = m.chapter;
-    let c = end_chapter(a, out, source, chapter);
-    sink.over(c)
+    let w = put_ends(sink.window(), out, tape::source(file, tape), m);
+    sink.over(w)
 }
