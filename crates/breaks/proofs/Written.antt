@@ -1,0 +1,147 @@
+-- Texts as events: whole, and segment by segment.
+use mathlib.Core.Path.{_≡_, refl, sym, ap, _∙_}
+use mathlib.Core.Bool.{Bool, true, false, cond}
+use mathlib.Core.List.{List, [], _∷_, _++_, map}
+use Prim.Native.Nat.{ℕ, _+_, _-_, _≤_, _<_}
+use native.Mathlib.Omega.{arith}
+use lib.ListN.{length, take, drop, length-drop}
+use lib.Seq.{drop-drop, take-all}
+use lib.Dec.{ltb}
+use borrow.Author.Tests.{lt-ltb, le-ltb, ltb-true, ltb-false}
+use Rattle.parts.specs.Bytes.{Bytes, b, begins, find}
+use Rattle.parts.proofs.Laws.{first-le}
+use Rattle.chars.specs.Escape.{escape}
+use Rattle.words.specs.Words.{trim}
+use Rattle.words.specs.declared.Set.the-variants.{Unicode}
+use Rattle.texts.specs.Text.{bodyOf, written, hasBreak, splitBreaks, segments}
+use Rattle.texts.specs.declared.Normalized.{Normalized}
+use Rattle.texts.proofs.Segments.{split-last, split-next, segments-bodies}
+use Rattle.window.specs.Page.{Page, pageOf, paint}
+use Rattle.window.specs.declared.Window.{Window}
+use Rattle.tags.specs.Items.{Item, text, empty, bytesOf, attrsBytes}
+use Rattle.tags.specs.Names.{nameOf}
+use Rattle.events.specs.Event.{Event, item}
+use Rattle.events.specs.Walk.{unbroken, breaks, segmented, broken}
+use Rattle.events.specs.Emit.{Desk, emit, emitAll}
+use Rattle.sink.specs.Desk.{windowIn, overBy, deskIn, putOn}
+use Rattle.sink.specs.declared.Sink.{Sink}
+use Rattle.sink.proofs.Chains.{item-on, desk-item}
+use Rattle.breaks.specs.Broken.{segment, breaksFrom}
+
+-- ---- whole
+
+module _ (s : Bytes) (n : Normalized) (sink : Sink) (out : Bytes) where
+  pub unbroken-shows : n .shows ≡ true → {w v : Window} {r : Sink} {last : Bytes} → w ≡ windowIn sink → pageOf v last ≡ paint (pageOf w out) (escape false (written s n)) → r ≡ overBy sink v
+      → (source : Bytes) → deskIn source r last ≡ emitAll (deskIn source sink out) (unbroken s n)
+  unfolding unbroken emitAll bytesOf written
+  unbroken-shows h ew ev er source = rw h (desk-item sink out (text (written s n)) ew ev er source)
+
+  pub unbroken-hidden : n .shows ≡ false → (source : Bytes) → deskIn source sink out ≡ emitAll (deskIn source sink out) (unbroken s n)
+  unfolding unbroken emitAll
+  unbroken-hidden h source = rw h
+
+  module _ {x : Bool} (ex : x ≡ hasBreak (bodyOf s)) (r : Sink) (last : Bytes) where
+    pub broken-split : x ≡ true → ((source : Bytes) → deskIn source r last ≡ emitAll (deskIn source sink out) (segmented (segments s)))
+        → (source : Bytes) → deskIn source r last ≡ emitAll (deskIn source sink out) (broken s n)
+    unfolding broken
+    broken-split h e source = rw (sym ex ∙ h) (e source)
+
+    pub broken-whole : x ≡ false → ((source : Bytes) → deskIn source r last ≡ emitAll (deskIn source sink out) (unbroken s n))
+        → (source : Bytes) → deskIn source r last ≡ emitAll (deskIn source sink out) (broken s n)
+    unfolding broken
+    broken-whole h e source = rw (sym ex ∙ h) (e source)
+
+-- ---- segment by segment
+
+pub segment-put : (s : Bytes) (sink : Sink) (out : Bytes) {w v : Window} {r : Sink} {last : Bytes} → w ≡ windowIn sink → pageOf v last ≡ paint (pageOf w out) (escape false (trim Unicode (bodyOf s))) → r ≡ overBy sink v
+    → (source : Bytes) → deskIn source r last ≡ emit (deskIn source sink out) (item (text (segment s)))
+unfolding segment bytesOf
+segment-put s sink out ew ev er source = desk-item sink out (text (trim Unicode (bodyOf s))) ew ev er source
+
+bodies : (s : Bytes) → segments s ≡ map segment (splitBreaks s)
+unfolding segment
+bodies s = segments-bodies s
+
+break-on : (d : Desk) → putOn d (b "<optbreak />") ≡ emit d (item (empty 15 []))
+unfolding bytesOf attrsBytes nameOf
+break-on d = item-on d (empty 15 [])
+
+-- the pieces of a text by its first `//`
+module _ (s : Bytes) {n : ℕ} (en : n ≡ find (47 ∷ 47 ∷ []) s) where
+  pieces-from : (x : Bool) → ltb n (length s) ≡ x → splitBreaks s ≡ take n s ∷ cond x (splitBreaks (drop (n + 2) s)) []
+  pieces-from true e = split-next s en (ltb-true n (length s) e)
+  pieces-from false e =
+      let past : length s ≤ n = ltb-false n (length s) e in
+      split-last s en past ∙ ap (λ (z : Bytes). z ∷ []) (sym (take-all n s past))
+
+  later : (x : Bool) → breaks (map segment (cond x (splitBreaks (drop (n + 2) s)) [])) ≡ cond x (breaks (map segment (splitBreaks (drop (n + 2) s)))) []
+  unfolding breaks
+  later true = refl
+  later false = refl
+
+  -- the first segment and those behind it
+  first-rest : segmented (segments s) ≡ item (text (segment (take n s))) ∷ breaksFrom s n
+  unfolding segmented breaksFrom
+  first-rest =
+      ap segmented (bodies s ∙ ap (map segment) (pieces-from (ltb n (length s)) refl))
+      ∙ ap (λ (es : List Event). item (text (segment (take n s))) ∷ es) (later (ltb n (length s)))
+
+  next-rest : breaks (map segment (splitBreaks s)) ≡ item (empty 15 []) ∷ item (text (segment (take n s))) ∷ breaksFrom s n
+  unfolding breaks breaksFrom
+  next-rest =
+      ap (λ (ps : List Bytes). breaks (map segment ps)) (pieces-from (ltb n (length s)) refl)
+      ∙ ap (λ (es : List Event). item (empty 15 []) ∷ item (text (segment (take n s))) ∷ es) (later (ltb n (length s)))
+
+-- behind a `//`: what follows it in the rest is what follows it in the text
+shifted : (s : Bytes) (at n : ℕ) → at < length s → breaksFrom (drop (at + 2) s) n ≡ breaksFrom s (at + 2 + n)
+unfolding breaksFrom
+shifted s at n h = go (ltb n (length (drop (at + 2) s))) refl
+  where
+    go : (x : Bool) → ltb n (length (drop (at + 2) s)) ≡ x
+        → cond (ltb n (length (drop (at + 2) s))) (breaks (map segment (splitBreaks (drop (n + 2) (drop (at + 2) s))))) []
+        ≡ cond (ltb (at + 2 + n) (length s)) (breaks (map segment (splitBreaks (drop (at + 2 + n + 2) s)))) []
+    go true e =
+        let lt : n < length (drop (at + 2) s) = ltb-true n (length (drop (at + 2) s)) e in
+        let far : ltb (at + 2 + n) (length s) ≡ true = lt-ltb (at + 2 + n) (length s) (omega (arith, length-drop (at + 2) s)) in
+        let sum : at + 2 + (n + 2) ≡ at + 2 + n + 2 = omega arith in
+        rw (e, far, drop-drop (n + 2) (at + 2) s, sum)
+    go false e =
+        let le : length (drop (at + 2) s) ≤ n = ltb-false n (length (drop (at + 2) s)) e in
+        let far : ltb (at + 2 + n) (length s) ≡ false = le-ltb (at + 2 + n) (length s) (omega (arith, length-drop (at + 2) s)) in
+        rw (e, far)
+
+pub split-sum : (s : Bytes) (at : ℕ) {rest : Bytes} {n : ℕ} → at < length s → rest ≡ drop (at + 2) s → n ≡ find (47 ∷ 47 ∷ []) rest → at + 2 + n ≤ length s + 1
+split-sum s at {rest} {n} h er en = omega (arith, first-le (begins (47 ∷ 47 ∷ [])) rest, length-drop (at + 2) s, ap length er)
+
+from-here : (s : Bytes) (at : ℕ) → at < length s → breaksFrom s at ≡ breaks (map segment (splitBreaks (drop (at + 2) s)))
+unfolding breaksFrom
+from-here s at h = rw (lt-ltb at (length s) h)
+
+-- a turn: the break, and the segment behind it
+pub segments-turn : (s : Bytes) (at : ℕ) (sink : Sink) (out : Bytes) → at < length s → {rest : Bytes} → rest ≡ drop (at + 2) s → {n : ℕ} → n ≡ find (47 ∷ 47 ∷ []) rest
+    → (w : Sink) (mid : Bytes) → ((source : Bytes) → deskIn source w mid ≡ putOn (deskIn source sink out) (b "<optbreak />"))
+    → {p : Bytes} → p ≡ take n rest → (r : Sink) (last : Bytes) → ((source : Bytes) → deskIn source r last ≡ emit (deskIn source w mid) (item (text (segment p))))
+    → (source : Bytes) → emitAll (deskIn source r last) (breaksFrom s (at + 2 + n)) ≡ emitAll (deskIn source sink out) (breaksFrom s at)
+unfolding emitAll
+segments-turn s at sink out h {rest} er {n} en w mid ew {p} ep r last ev source =
+    ap (λ (d : Desk). emitAll d (breaksFrom s (at + 2 + n))) (ev source ∙ ap (λ (d : Desk). emit d (item (text (segment p)))) (ew source ∙ break-on (deskIn source sink out)) ∙ ap (λ (q : Bytes). emit (emit (deskIn source sink out) (item (empty 15 []))) (item (text (segment q)))) ep)
+    ∙ ap (λ (es : List Event). emitAll (emit (emit (deskIn source sink out) (item (empty 15 []))) (item (text (segment (take n rest))))) es) (sym (ap (λ (q : Bytes). breaksFrom q n) er ∙ shifted s at n h))
+    ∙ ap (emitAll (deskIn source sink out)) (sym (from-here s at h ∙ ap (λ (q : Bytes). breaks (map segment (splitBreaks q))) (sym er) ∙ next-rest rest en))
+
+-- a turn behind others
+pub segments-on : (s : Bytes) (z : Bytes → Desk) (v : Sink) (out : Bytes) (at : ℕ) (r : Sink) (last : Bytes) (n : ℕ)
+    → ((source : Bytes) → emitAll (deskIn source v out) (breaksFrom s at) ≡ z source)
+    → ((source : Bytes) → emitAll (deskIn source r last) (breaksFrom s n) ≡ emitAll (deskIn source v out) (breaksFrom s at))
+    → (source : Bytes) → emitAll (deskIn source r last) (breaksFrom s n) ≡ z source
+segments-on s z v out at r last n inv e source = e source ∙ inv source
+
+-- no break is left
+pub segments-end : (s : Bytes) (at₀ : ℕ) (sink : Sink) (out : Bytes) → at₀ ≡ find (47 ∷ 47 ∷ []) s → {p : Bytes} → p ≡ take at₀ s → (v₀ : Sink) (out₀ : Bytes)
+    → ((source : Bytes) → deskIn source v₀ out₀ ≡ emit (deskIn source sink out) (item (text (segment p))))
+    → (at : ℕ) (v : Sink) (last : Bytes) → ((source : Bytes) → emitAll (deskIn source v last) (breaksFrom s at) ≡ emitAll (deskIn source v₀ out₀) (breaksFrom s at₀)) → length s ≤ at
+    → (source : Bytes) → deskIn source v last ≡ emitAll (deskIn source sink out) (segmented (segments s))
+unfolding emitAll breaksFrom
+segments-end s at₀ sink out en {p} ep v₀ out₀ e₀ at v last inv h source =
+    rw (le-ltb at (length s) h) at (inv source)
+    ∙ ap (λ (d : Desk). emitAll d (breaksFrom s at₀)) (e₀ source ∙ ap (λ (q : Bytes). emit (deskIn source sink out) (item (text (segment q)))) ep)
+    ∙ ap (emitAll (deskIn source sink out)) (sym (first-rest s en))

@@ -1,0 +1,70 @@
+use native.Mathlib.Omega.{arith}
+use Rattle.breaks.proofs.Written.{split-sum, segments-turn}
+use borrow.Author.Needs.{needs}
+use Rattle.breaks.proofs.next_segment.Statement.{statement}
+use Rattle.breaks.proofs.next_segment.Tie as tie
+use Rattle.breaks.proofs.next_segment.Reads as reads
+use Rattle.breaks.proofs.next_segment.Lts as lts
+use Rattle.breaks.proofs.put_segment.Reads as put-segment-reads
+use Rattle.parts.proofs.find_pair.Reads as find-pair-reads
+use Rattle.parts.proofs.from.Reads as from-reads
+use Rattle.parts.proofs.part.Reads as part-reads
+use Rattle.sink.proofs.literal.Reads as literal-reads
+
+-- src/lib.rt:50:17
+add-start : tie.Need-add-start
+add-start c = search needs
+
+-- src/lib.rt:51:9
+from-requires : tie.Need-from-requires
+from-requires c κs = search needs
+
+-- src/lib.rt:52:9
+find-pair-requires : tie.Need-find-pair-requires
+find-pair-requires c κs = search needs
+
+-- src/lib.rt:53:16
+add-next : tie.Need-add-next
+add-next c = omega (arith, split-sum _ _ (c .before .before .before .before .pre) (c .before .from .ensures) (c .find-pair .ensures))
+
+-- src/lib.rt:54:32
+slice-aggregate-literal : tie.Need-slice-aggregate-literal
+slice-aggregate-literal c = search needs
+
+-- src/lib.rt:54:9
+literal-requires : tie.Need-literal-requires
+literal-requires c κs = search needs
+
+-- src/lib.rt:56:27
+part-requires : tie.Need-part-requires
+part-requires c κs = search needs
+
+-- src/lib.rt:56:15
+put-segment-requires : tie.Need-put-segment-requires
+put-segment-requires c κs = search needs
+
+-- src/lib.rt:45:1
+same-length : tie.Need-same-length
+same-length c = search needs
+
+-- src/lib.rt:45:1
+returns : tie.Need-returns
+returns c = (
+  segments-turn _ _ _ _ (c .before .before .before .before .before .before .before .before .before .before .before .before .before .before .pre) (c .before .before .before .before .before .before .before .before .before .before .before .from .ensures) (c .before .before .before .before .before .before .before .before .before .before .find-pair .ensures) _ _ (c .before .before .before .before .before .before .before .literal .ensures) (c .before .before .before .before .part .ensures) _ _ (c .before .before .put-segment .ensures),
+  omega arith,
+)
+
+pub next-segment-spec : {M : Type 1} → statement M
+next-segment-spec =
+    tie.close
+    (tie.spec
+    add-start
+    from-requires
+    find-pair-requires
+    add-next
+    slice-aggregate-literal
+    literal-requires
+    part-requires
+    put-segment-requires
+    same-length
+    returns)

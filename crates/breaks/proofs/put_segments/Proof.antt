@@ -1,0 +1,76 @@
+use mathlib.Core.Path.{_≡_, refl}
+use Prim.Native.Nat.{_-_}
+use native.Mathlib.Omega.{arith}
+use lib.ListN.{length}
+use Rattle.parts.specs.Bytes.{Bytes}
+use Rattle.events.specs.Emit.{emitAll}
+use Rattle.sink.specs.Desk.{deskIn}
+use Rattle.breaks.specs.Broken.{breaksFrom}
+use Rattle.breaks.proofs.Written.{segments-on, segments-end}
+use borrow.Author.Needs.{needs}
+use Rattle.breaks.proofs.put_segments.Statement.{statement}
+use Rattle.breaks.proofs.put_segments.Tie as tie
+use Rattle.breaks.proofs.put_segments.Reads as reads
+use Rattle.breaks.proofs.put_segments.Lts as lts
+use Rattle.breaks.proofs.next_segment.Reads as next-segment-reads
+use Rattle.breaks.proofs.put_segment.Reads as put-segment-reads
+use Rattle.parts.proofs.find_pair.Reads as find-pair-reads
+use Rattle.parts.proofs.part.Reads as part-reads
+
+abbrev Inv-loop : tie.InvT-loop
+Inv-loop s out₀ at₀ v₀ out at v = ((source : Bytes) → emitAll (deskIn source v out) (breaksFrom s at) ≡ emitAll (deskIn source v₀ out₀) (breaksFrom s at₀)) × (length out ≡ length out₀)
+
+abbrev μ-loop : tie.MeasureT-loop
+μ-loop s out₀ at₀ v₀ out at v = length s - at
+
+-- src/lib.rt:63:9
+find-pair-requires : tie.Need-find-pair-requires Inv-loop μ-loop
+find-pair-requires c κs = search needs
+
+-- src/lib.rt:64:29
+part-requires : tie.Need-part-requires Inv-loop μ-loop
+part-requires c κs = search needs
+
+-- src/lib.rt:64:9
+put-segment-requires : tie.Need-put-segment-requires Inv-loop μ-loop
+put-segment-requires c κs = search needs
+
+-- src/lib.rt:65:5
+loop-holds : tie.Need-loop-holds Inv-loop μ-loop
+loop-holds c = (λ source. refl, refl)
+
+-- src/lib.rt:66:13
+next-segment-requires : tie.Need-next-segment-requires Inv-loop μ-loop
+next-segment-requires c κs = search needs
+
+-- src/lib.rt:65:5
+loop-less : tie.Need-loop-less Inv-loop μ-loop
+loop-less c = omega arith
+
+-- src/lib.rt:65:5
+loop-again : tie.Need-loop-again Inv-loop μ-loop
+loop-again c = (segments-on _ _ _ _ _ _ _ _ (c .before .before .before .before .before .before .loop .inv .0) (c .before .before .before .next-segment .ensures .0), search needs)
+
+-- src/lib.rt:60:1
+same-length : tie.Need-same-length Inv-loop μ-loop
+same-length c = search needs
+
+-- src/lib.rt:60:1
+returns : tie.Need-returns Inv-loop μ-loop
+returns c = segments-end _ _ _ _ (c .before .before .before .before .before .before .before .find-pair .ensures) (c .before .before .before .before .before .before .part .ensures) _ _ (c .before .before .before .before .put-segment .ensures) _ _ _ (c .before .loop .inv .0) (c .loop-test .left)
+
+pub put-segments-spec : {M : Type 1} → statement M
+put-segments-spec =
+    tie.close
+    (tie.spec
+    Inv-loop
+    μ-loop
+    find-pair-requires
+    part-requires
+    put-segment-requires
+    loop-holds
+    next-segment-requires
+    loop-less
+    loop-again
+    same-length
+    returns)

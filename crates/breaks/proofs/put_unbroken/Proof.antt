@@ -1,0 +1,38 @@
+use Rattle.breaks.proofs.Written.{unbroken-shows, unbroken-hidden}
+use borrow.Author.Needs.{needs}
+use Rattle.breaks.proofs.put_unbroken.Statement.{statement}
+use Rattle.breaks.proofs.put_unbroken.Tie as tie
+use Rattle.breaks.proofs.put_unbroken.Reads as reads
+use Rattle.breaks.proofs.put_unbroken.Lts as lts
+use Rattle.prose.proofs.put_written.Reads as put-written-reads
+use Rattle.sink.proofs.Sink.over.Reads as over-reads
+use Rattle.sink.proofs.Sink.window.Reads as window-reads
+
+-- src/lib.rt:21:36
+window-requires : tie.Need-window-requires
+window-requires c κs = search needs
+
+-- src/lib.rt:21:13
+put-written-requires : tie.Need-put-written-requires
+put-written-requires c κs = search needs
+
+-- src/lib.rt:22:9
+over-requires : tie.Need-over-requires
+over-requires c κs = search needs
+
+-- src/lib.rt:17:1
+same-length : tie.Need-same-length
+same-length c = search needs
+
+-- src/lib.rt:17:1
+returns : tie.Need-returns
+returns c = search unbroken-shows
+
+-- src/lib.rt:17:1
+returns-2 : tie.Need-returns-2
+returns-2 c = search unbroken-hidden
+
+pub put-unbroken-spec : {M : Type 1} → statement M
+put-unbroken-spec =
+    tie.close
+    (tie.spec window-requires put-written-requires over-requires same-length returns returns-2)
