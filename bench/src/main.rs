@@ -4,6 +4,7 @@
 
 mod admit;
 mod api;
+mod body;
 mod escape;
 mod measure;
 mod number;
@@ -12,6 +13,7 @@ mod utf8;
 fn main() {
     measure::print(&utf8::rows());
     measure::print(&escape::rows());
+    measure::print(&body::rows());
     measure::print(&number::rows());
     admit::print();
 }
