@@ -1,7 +1,6 @@
 // Normalized text written through the window, without a copy of it.
 ghost use mathlib.Core.Path.{_≡_};
 ghost use mathlib.Core.Bool.{false};
-ghost use mathlib.Core.List.{_++_};
 ghost use lib.ListN.{length, drop};
 ghost use Rattle.chars.specs.Escape.{escape};
 ghost use Rattle.words.specs.Words.{words, joined, trim};
