@@ -6,6 +6,7 @@ mod raw {
         pub fn bench_escape_xml_attr(out: *mut u8, room: usize, at: usize, from: usize, s: *const u8, len: usize) -> usize;
         pub fn bench_admit(file: *const u8, len: usize) -> u32;
         pub fn bench_check(text: *const u8, len: usize) -> u32;
+        pub fn bench_body(out: *mut u8, room: usize, at: usize, from: usize, s: *const u8, len: usize) -> usize;
         pub fn bench_is_utf8(s: *const u8, len: usize) -> usize;
         pub fn bench_put_number(out: *mut u8, room: usize, at: usize, from: usize, n: u32) -> usize;
     }
@@ -19,6 +20,11 @@ pub fn escape_xml(out: &mut [u8], at: usize, from: usize, s: &[u8]) -> usize {
 /// The same for an attribute's value.
 pub fn escape_xml_attr(out: &mut [u8], at: usize, from: usize, s: &[u8]) -> usize {
     unsafe { raw::bench_escape_xml_attr(out.as_mut_ptr(), out.len(), at, from, s.as_ptr(), s.len()) }
+}
+
+/// The same for the body of a text.
+pub fn body(out: &mut [u8], at: usize, from: usize, s: &[u8]) -> usize {
+    unsafe { raw::bench_body(out.as_mut_ptr(), out.len(), at, from, s.as_ptr(), s.len()) }
 }
 
 /// The same for a number in decimal digits.

@@ -6,7 +6,7 @@ use std::fmt::{self, Write};
 use std::hint::black_box;
 
 /// `escape_xml_with` of usfm3, serialize/usx.rs, as it stands.
-fn escape_xml_with<W: Write>(s: &str, attr: bool, out: &mut W) -> fmt::Result {
+pub fn escape_xml_with<W: Write>(s: &str, attr: bool, out: &mut W) -> fmt::Result {
     let mut start = 0;
     for (i, &b) in s.as_bytes().iter().enumerate() {
         let esc = match b {
@@ -24,7 +24,7 @@ fn escape_xml_with<W: Write>(s: &str, attr: bool, out: &mut W) -> fmt::Result {
 }
 
 /// Counts what it is given.
-struct Count(usize);
+pub struct Count(pub usize);
 
 impl Write for Count {
     fn write_str(&mut self, s: &str) -> fmt::Result {
@@ -33,7 +33,7 @@ impl Write for Count {
     }
 }
 
-const SIZE: usize = 4 << 20;
+pub const SIZE: usize = 4 << 20;
 
 /// Words, with a byte that has a name after `every` bytes on average.
 fn text(every: usize) -> String {

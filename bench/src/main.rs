@@ -4,6 +4,7 @@
 
 mod admit;
 mod api;
+mod body;
 mod check;
 mod escape;
 mod measure;
@@ -15,6 +16,7 @@ fn main() {
     measure::print("theirs", &check::rows(&args));
     measure::print("Rust", &utf8::rows());
     measure::print("Rust", &escape::rows());
+    measure::print("Rust", &body::rows());
     measure::print("Rust", &number::rows());
     admit::print();
 }

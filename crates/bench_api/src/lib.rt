@@ -4,6 +4,7 @@ ghost use mathlib.Core.Bool.{true, false, cond};
 ghost use Rattle.chars.specs.Utf8.{isUtf8};
 ghost use Rattle.chars.specs.Escape.{escape};
 ghost use Rattle.chars.specs.Decimal.{decimal};
+ghost use Rattle.texts.specs.Text.{bodyOf};
 ghost use Rattle.window.specs.Page.{Page, paint};
 ghost use Rattle.admit.specs.Refusal.{Refusal};
 ghost use Rattle.checker.specs.Check.{answerOf, numberOf};
@@ -38,6 +39,16 @@ pub extern "C" fn bench_put_number(out: &mut [u8], at: usize, from: usize, n: u3
     ensures buffer { λ _. ⌜ now (out .exit) ≡ paint (record { at = at; from = from; buf = now (out .entry) }) (decimal n) .buf ⌝ }
 {
     let w = window::put_number(Window { at, from }, out, n);
+    w.at
+}
+
+// The same for the body of a text.
+#[no_mangle]
+pub extern "C" fn bench_body(out: &mut [u8], at: usize, from: usize, s: &[u8]) -> usize
+    ensures count { λ r. ⌜ r ≡ paint (record { at = at; from = from; buf = now (out .entry) }) (escape false (bodyOf (now (s .entry)))) .at ⌝ }
+    ensures buffer { λ _. ⌜ now (out .exit) ≡ paint (record { at = at; from = from; buf = now (out .entry) }) (escape false (bodyOf (now (s .entry)))) .buf ⌝ }
+{
+    let w = prose::put_body(Window { at, from }, out, s);
     w.at
 }
 

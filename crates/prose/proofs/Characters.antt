@@ -7,10 +7,10 @@ use native.Mathlib.Omega.{arith}
 use lib.ListN.{length, getD, take, drop, length-append, take-append-drop, List·getD-append}
 use lib.Seq.{take-append-seam}
 use lib.Dec.{leb, ltb}
-use borrow.Author.Tests.{le-leb, lt-leb, leb-true, ltb-true, ltb-false}
+use borrow.Author.Tests.{le-leb, leb-true, ltb-true, ltb-false}
 use Rattle.parts.specs.Bytes.{Bytes}
-use Rattle.parts.proofs.Laws.{and-true, and-false}
-use Rattle.chars.specs.Range.{inAny, within}
+use Rattle.parts.proofs.Laws.{and-true}
+use Rattle.chars.specs.Range.{within}
 use Rattle.chars.specs.Space.{isAsciiWhite}
 use Rattle.chars.specs.Utf8.{tail, table37, fits, rowLen, seqLen, step}
 use Rattle.chars.proofs.Characters.{seq-take, seq-append, seq-inner, step-seq, step-byte}
@@ -23,7 +23,7 @@ use Rattle.texts.specs.Text.{hardSpaces, bodyOf}
 use Rattle.texts.proofs.Texts.{by-tilde, hard-tilde, hard-other, hard-space, hard-append, hard-long}
 use Rattle.texts.proofs.Told.{told, more as moreOf, lead, told-nil, told-words, told-solid, told-white, more-solid}
 use Rattle.prose.specs.Body.{restOf}
-use Rattle.prose.proofs.Rest.{rest-more, rest-nil, rest-tilde, rest-white}
+use Rattle.prose.proofs.Rest.{solid-above, rest-more, rest-nil, rest-tilde, rest-white}
 
 -- ---- a body, or how one goes on behind a solid byte
 
@@ -71,8 +71,7 @@ High [] = Unit {0}
 High (x ∷ c) = (128 ≤ x) × High c
 
 pub high-solid : (x : ℕ) → 128 ≤ x → isAsciiWhite x ≡ false
-unfolding isAsciiWhite inAny within
-high-solid x h = rw (lt-leb x 10 (omega arith), lt-leb x 13 (omega arith), lt-leb x 32 (omega arith), and-false (leb 9 x), and-false (leb 12 x), and-false (leb 32 x))
+high-solid x h = solid-above x (omega arith)
 
 pub hard-high : (c : Bytes) → High c → hardSpaces c ≡ c
 unfolding hardSpaces

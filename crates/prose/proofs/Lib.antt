@@ -1,5 +1,6 @@
 pub mod Rest
 pub mod Tests
+pub mod Blocks
 pub mod Turns
 pub mod Characters
 pub mod Edges

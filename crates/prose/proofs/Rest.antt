@@ -5,10 +5,10 @@ use mathlib.Core.List.{[], _∷_, _++_, flatten}
 use Prim.Native.Nat.{ℕ, suc, _+_, _-_, _≤_, _<_}
 use native.Mathlib.Omega.{arith}
 use lib.ListN.{length, take, drop, length-drop}
-use lib.Dec.{eqb}
-use borrow.Author.Tests.{eqb-true, eqb-false, not-false}
+use lib.Dec.{eqb, leb}
+use borrow.Author.Tests.{eqb-true, eqb-false, lt-leb, not-true, not-false}
 use Rattle.parts.specs.Bytes.{Bytes, firstAt}
-use Rattle.parts.proofs.Laws.{first-le}
+use Rattle.parts.proofs.Laws.{and-false, first-le}
 use Rattle.chars.specs.Range.{inAny, within}
 use Rattle.chars.specs.Space.{isAsciiWhite}
 use Rattle.chars.specs.Utf8.{cutAt}
@@ -19,7 +19,7 @@ use Rattle.texts.specs.Text.{hardSpaces, bodyOf}
 use Rattle.texts.proofs.Texts.{hard-tilde, hard-other, hard-space}
 use Rattle.texts.proofs.Breaks.{ascii-chars}
 use Rattle.texts.proofs.Told.{told, more, lead, told-nil, more-nil, told-words, told-solid, told-white, more-solid, more-lead}
-use Rattle.prose.specs.Body.{restOf, plain, startsPlain, differs, sharedLen, marked, gapWhite, gapOf}
+use Rattle.prose.specs.Body.{restOf, plain, startsSolid, differs, sharedLen, marked, gapWhite, gapOf}
 use Rattle.prose.specs.declared.Gap.{Gap}
 use Rattle.prose.specs.declared.Mark.the-variants.{Nothing, Space, Hard}
 
@@ -46,6 +46,11 @@ plain-both x e = go (isAsciiWhite x) (eqb x 126) refl refl e
     go true z ea ez e = absurd (let no-way : _≡_ {A = ℕ} 0 1 = cc in omega arith)
     go false true ea ez e = absurd (let no-way : _≡_ {A = ℕ} 0 1 = cc in omega arith)
     go false false ea ez e = (ea, eqb-false x 126 ez)
+
+-- no byte above the space is white space
+pub solid-above : (x : ℕ) → 32 < x → isAsciiWhite x ≡ false
+unfolding isAsciiWhite inAny within
+solid-above x h = rw (lt-leb x 10 (omega arith), lt-leb x 13 (omega arith), lt-leb x 32 (omega arith), and-false (leb 9 x), and-false (leb 12 x), and-false (leb 32 x))
 
 pub rest-plain : (x : ℕ) (s : Bytes) → plain x ≡ true → restOf (x ∷ s) ≡ x ∷ restOf s
 rest-plain x s e =
@@ -186,7 +191,7 @@ gap-some [] h e = absurd (omega arith)
 gap-some (x ∷ s) h e = go (eqb x 126) (isAsciiWhite x) refl e
   where
     go : (y z : Bool) → isAsciiWhite x ≡ z
-        → _≡_ {A = ℕ} (elim (not (not (z || y) || (eqb x 32 && startsPlain s))) as (λ b. ℕ) [ true ↦ 0 | false ↦ suc (firstAt differs s) ]) 0
+        → _≡_ {A = ℕ} (elim (not (not (z || y) || (eqb x 32 && startsSolid s))) as (λ b. ℕ) [ true ↦ 0 | false ↦ suc (firstAt differs s) ]) 0
         → 0 < cond {A = Gap} y (record { mark = Hard; len = 1 }) (cond z (gapWhite (x ∷ s)) (record { mark = Nothing; len = 0 })) .len
     go true z ez e = omega arith
     go false true ez e = white-some x s ez
@@ -196,24 +201,24 @@ space-white : isAsciiWhite 32 ≡ true
 unfolding isAsciiWhite inAny within
 space-white = refl
 
--- a space before a plain byte is the body's too
-rest-space : (s : Bytes) → startsPlain s ≡ true → restOf (32 ∷ s) ≡ 32 ∷ restOf s
-unfolding startsPlain
+-- a space before a solid byte is the body's too
+rest-space : (s : Bytes) → startsSolid s ≡ true → restOf (32 ∷ s) ≡ 32 ∷ restOf s
+unfolding startsSolid
 rest-space [] e = absurd (let no-way : _≡_ {A = ℕ} 0 1 = cc in omega arith)
 rest-space (y ∷ s) e =
-    let h = plain-both y e in
+    let h : isAsciiWhite y ≡ false = not-true (isAsciiWhite y) e in
     rest-white 32 (y ∷ s) space-white
-    ∙ ap (λ (t : Bytes). hardSpaces (lead t)) (told-solid y s (h .0))
+    ∙ ap (λ (t : Bytes). hardSpaces (lead t)) (told-solid y s h)
     ∙ hard-space (y ∷ more s)
-    ∙ ap (λ (t : Bytes). 32 ∷ t) (ap hardSpaces (sym (more-solid y s (h .0))) ∙ sym (rest-more (y ∷ s)))
+    ∙ ap (λ (t : Bytes). 32 ∷ t) (ap hardSpaces (sym (more-solid y s h)) ∙ sym (rest-more (y ∷ s)))
 
 rest-same : (x : ℕ) (s : Bytes) → differs (x ∷ s) ≡ false → restOf (x ∷ s) ≡ x ∷ restOf s
 unfolding differs
 rest-same x s e = go (plain x) refl (eqb x 32) refl e
   where
-    go : (y : Bool) → plain x ≡ y → (z : Bool) → eqb x 32 ≡ z → not (y || (z && startsPlain s)) ≡ false → restOf (x ∷ s) ≡ x ∷ restOf s
+    go : (y : Bool) → plain x ≡ y → (z : Bool) → eqb x 32 ≡ z → not (y || (z && startsSolid s)) ≡ false → restOf (x ∷ s) ≡ x ∷ restOf s
     go true ey z ez e = rest-plain x s ey
-    go false ey true ez e = let q : x ≡ 32 = eqb-true x 32 ez in rw q (rest-space s (not-false (startsPlain s) e))
+    go false ey true ez e = let q : x ≡ 32 = eqb-true x 32 ez in rw q (rest-space s (not-false (startsSolid s) e))
     go false ey false ez e = absurd (let no-way : _≡_ {A = ℕ} 0 1 = cc in omega arith)
 
 pub shared-rest : (t : Bytes) → restOf t ≡ take (sharedLen t) t ++ restOf (drop (sharedLen t) t)

@@ -1,47 +1,49 @@
 -- What the tests on bytes answer.
-use mathlib.Core.Path.{_≡_, refl, ap}
-use mathlib.Core.Bool.{Bool, true, false, not}
+use mathlib.Core.Path.{_≡_, refl, sym, ap}
+use mathlib.Core.Bool.{Bool, true, false, not, or-false}
 use mathlib.Core.List.{[], _∷_}
 use Prim.Native.Nat.{ℕ, _+_, _-_, _≤_, _<_}
+use native.Mathlib.Nat.{zero-add}
 use native.Mathlib.Omega.{arith}
 use lib.ListN.{length, getD, take, drop}
 use lib.Seq.{take-all}
 use lib.Dec.{eqb}
 use borrow.Author.Tests.{eq-eqb, ne-eqb}
 use Rattle.parts.specs.Bytes.{Bytes, firstAt}
-use Rattle.parts.proofs.Laws.{first-turn, first-stop, first-end}
+use Rattle.parts.proofs.Laws.{drop-part, first-turn, first-stop, first-end}
 use Rattle.chars.specs.Space.{isAsciiWhite}
 use Rattle.words.specs.Words.{whiteLen}
 use Rattle.words.specs.declared.Set.the-variants.{Ascii}
-use Rattle.prose.specs.Body.{plain, startsPlain, differs, sharedLen, gapWhite, gapOf}
+use Rattle.prose.specs.Body.{plain, startsSolid, differs, sharedLen, SharedTo, gapWhite, gapOf}
 use Rattle.prose.specs.declared.Mark.the-variants.{Nothing, Space, Hard}
 use Rattle.prose.specs.declared.Gap.{Gap}
+use Rattle.prose.proofs.Rest.{solid-above, shared-le}
 
-module _ (x : ℕ) {t : Bool} (et : t ≡ isAsciiWhite x) where
-  pub plain-white : t ≡ true → false ≡ plain x
+module _ (x : ℕ) where
+  pub plain-above : 32 < x → not (eqb x 126) ≡ plain x
   unfolding plain
-  plain-white h = rw (← et, h)
+  plain-above h = rw (solid-above x h)
 
-  pub plain-solid : t ≡ false → not (eqb x 126) ≡ plain x
+  pub plain-below : {t : Bool} → x ≤ 32 → t ≡ isAsciiWhite x → not t ≡ plain x
   unfolding plain
-  plain-solid h = rw (← et, h)
+  plain-below {t} h et = rw (← et, ne-eqb x 126 (λ e. omega arith)) (ap not (sym (or-false t)))
 
 module _ (s : Bytes) where
-  pub starts-none : length s ≡ 0 → false ≡ startsPlain s
-  unfolding startsPlain
+  pub starts-none : length s ≡ 0 → false ≡ startsSolid s
+  unfolding startsSolid
   starts-none h = go s h
     where
-      go : (s : Bytes) → length s ≡ 0 → false ≡ startsPlain s
+      go : (s : Bytes) → length s ≡ 0 → false ≡ startsSolid s
       go [] h = refl
       go (x ∷ s) h = absurd (omega arith)
 
-  pub starts-some : {r : Bool} → (length s ≡ 0 → ⊥) → r ≡ plain (getD s 0 0) → r ≡ startsPlain s
-  unfolding startsPlain
-  starts-some {r} h e = go s h e
+  pub starts-some : {t : Bool} → (length s ≡ 0 → ⊥) → t ≡ isAsciiWhite (getD s 0 0) → not t ≡ startsSolid s
+  unfolding startsSolid
+  starts-some {t} h e = go s h e
     where
-      go : (s : Bytes) → (length s ≡ 0 → ⊥) → r ≡ plain (getD s 0 0) → r ≡ startsPlain s
+      go : (s : Bytes) → (length s ≡ 0 → ⊥) → t ≡ isAsciiWhite (getD s 0 0) → not t ≡ startsSolid s
       go [] h e = absurd (h refl)
-      go (x ∷ s) h e = e
+      go (x ∷ s) h e = rw e
 
   pub differs-none : length s ≡ 0 → true ≡ differs s
   unfolding differs
@@ -60,15 +62,15 @@ module _ (s : Bytes) where
         go [] h et = absurd (h refl)
         go (x ∷ s) h et = rw (← et, e)
 
-    pub differs-space : {y : Bool} → t ≡ false → getD s 0 0 ≡ 32 → y ≡ startsPlain (take (length s - 1) (drop 1 s)) → not y ≡ differs s
+    pub differs-space : {y : Bool} → t ≡ false → getD s 0 0 ≡ 32 → y ≡ startsSolid (take (length s - 1) (drop 1 s)) → not y ≡ differs s
     unfolding differs
     differs-space {y} e x32 ey = go s h et x32 ey
       where
-        go : (s : Bytes) → (length s ≡ 0 → ⊥) → t ≡ plain (getD s 0 0) → getD s 0 0 ≡ 32 → y ≡ startsPlain (take (length s - 1) (drop 1 s)) → not y ≡ differs s
+        go : (s : Bytes) → (length s ≡ 0 → ⊥) → t ≡ plain (getD s 0 0) → getD s 0 0 ≡ 32 → y ≡ startsSolid (take (length s - 1) (drop 1 s)) → not y ≡ differs s
         go [] h et x32 ey = absurd (h refl)
         go (x ∷ s) h et x32 ey =
             let all : take (length (x ∷ s) - 1) s ≡ s = take-all (length (x ∷ s) - 1) s (omega arith) in
-            rw (← et, e, eq-eqb x 32 x32, ey) (ap (λ (z : Bytes). not (startsPlain z)) all)
+            rw (← et, e, eq-eqb x 32 x32, ey) (ap (λ (z : Bytes). not (startsSolid z)) all)
 
     pub differs-else : t ≡ false → (getD s 0 0 ≡ 32 → ⊥) → true ≡ differs s
     unfolding differs
@@ -94,6 +96,15 @@ module _ (s : Bytes) where
     pub shared-end : length s ≤ i → i + sharedLen (drop i s) ≡ sharedLen s → i ≡ sharedLen s
     unfolding sharedLen
     shared-end h inv = first-end differs s i (firstAt differs s) h inv
+
+  pub shared-start : SharedTo s 0
+  shared-start = record { within = omega arith; rest = zero-add (sharedLen s) }
+
+  pub shared-on : {i n : ℕ} → SharedTo s i → n ≡ sharedLen (take (length s - i) (drop i s)) → i + n ≡ sharedLen s
+  shared-on {i} z e = omega (arith, e, ap sharedLen (drop-part s i), z .rest)
+
+  pub shared-fits : {i n : ℕ} → SharedTo s i → n ≡ sharedLen (take (length s - i) (drop i s)) → i + n ≤ length s
+  shared-fits z e = omega (arith, shared-on z e, shared-le s)
 
   -- ---- the gap
 

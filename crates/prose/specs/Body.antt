@@ -1,9 +1,10 @@
 -- A body as it is written: runs that it shares with its text, and the marks between them.
-use Prim.Native.Nat.{ℕ}
+use Prim.Native.Nat.{ℕ, _+_, _≤_}
+use mathlib.Core.Path.{_≡_}
 use mathlib.Core.Bool.{Bool, false, true, cond, not, _&&_, _||_}
 use mathlib.Core.List.{[], _∷_}
 use lib.ListN.{length, drop}
-use lib.Dec.{eqb}
+use lib.Dec.{eqb, ltb}
 use Rattle.parts.specs.Bytes.{Bytes, firstAt}
 use Rattle.chars.specs.Space.{isAsciiWhite}
 use Rattle.words.specs.Words.{whiteLen}
@@ -21,18 +22,34 @@ restOf s = drop 1 (bodyOf (65 ∷ s))
 unfoldable pub plain : ℕ → Bool
 plain x = not (isAsciiWhite x || eqb x 126)
 
-unfoldable pub startsPlain : Bytes → Bool
-startsPlain [] = false
-startsPlain (x ∷ s) = plain x
+-- whether a text begins with a byte that is no white space
+unfoldable pub startsSolid : Bytes → Bool
+startsSolid [] = false
+startsSolid (x ∷ s) = not (isAsciiWhite x)
 
--- where the run ends that a text shares with its body behind a solid byte: plain bytes, and a space before one
+-- where the run ends that a text shares with its body behind a solid byte: plain bytes, and a space before a solid one
 unfoldable pub differs : Bytes → Bool
 differs [] = true
-differs (x ∷ s) = not (plain x || (eqb x 32 && startsPlain s))
+differs (x ∷ s) = not (plain x || (eqb x 32 && startsSolid s))
 
 -- how many bytes that run has
 unfoldable pub sharedLen : Bytes → ℕ
 sharedLen s = firstAt differs s
+
+-- whether a byte before another may end such a run: no other does
+unfoldable pub odd : ℕ → ℕ → Bool
+odd x y = ltb x 32 || (eqb x 126 || (eqb x 32 && ltb y 33))
+
+-- whether one of a text's bytes may, but for the last
+unfoldable pub anyOdd : Bytes → Bool
+anyOdd [] = false
+anyOdd (x ∷ []) = false
+anyOdd (x ∷ y ∷ s) = odd x y || anyOdd (y ∷ s)
+
+-- a place of a text up to which such a run reaches
+pub record SharedTo (s : Bytes) (i : ℕ) : Type 0 where
+  pub within : i ≤ length s
+  pub rest : i + sharedLen (drop i s) ≡ sharedLen s
 
 -- what is written for a mark: nothing, a space, U+00A0
 unfoldable pub marked : Mark → Bytes

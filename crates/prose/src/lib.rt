@@ -1,13 +1,12 @@
 // Normalized text written through the window, without a copy of it.
 ghost use mathlib.Core.Path.{_≡_};
 ghost use mathlib.Core.Bool.{false};
-ghost use mathlib.Core.List.{_++_};
 ghost use lib.ListN.{length, drop};
 ghost use Rattle.chars.specs.Escape.{escape};
 ghost use Rattle.words.specs.Words.{words, joined, trim};
 ghost use Rattle.texts.specs.Text.{bodyOf, spaced, written, spaceIf};
 ghost use Rattle.window.specs.Page.{pageOf, paint};
-ghost use Rattle.prose.specs.Body.{restOf, plain, startsPlain, differs, sharedLen, marked, gapWhite, gapOf};
+ghost use Rattle.prose.specs.Body.{restOf, plain, startsSolid, differs, sharedLen, odd, anyOdd, SharedTo, marked, gapWhite, gapOf};
 ghost use Rattle.prose.specs.Edge.{softLen, coreEnd, coreOf, frontOf};
 use texts::Normalized;
 use window::Window;
@@ -36,19 +35,19 @@ struct Front {
 fn is_plain(x: u8) -> bool
     ensures { λ r. ⌜ r ≡ plain x ⌝ }
 {
-    if chars::is_ascii_white(x) {
-        return false;
+    if b' ' < x {
+        return x != b'~';
     }
-    x != b'~'
+    !chars::is_ascii_white(x)
 }
 
-fn starts_plain(s: &[u8]) -> bool
-    ensures { λ r. ⌜ r ≡ startsPlain (now (s .entry)) ⌝ }
+fn starts_solid(s: &[u8]) -> bool
+    ensures { λ r. ⌜ r ≡ startsSolid (now (s .entry)) ⌝ }
 {
     if s.len() == 0 {
         return false;
     }
-    is_plain(s[0])
+    !chars::is_ascii_white(s[0])
 }
 
 // Whether a body differs from its text here, behind a solid byte.
@@ -63,13 +62,48 @@ fn differs_here(s: &[u8]) -> bool
         return false;
     }
     if x == b' ' {
-        return !starts_plain(&s[1..]);
+        return !starts_solid(&s[1..]);
     }
     true
 }
 
-// How many bytes a body shares with its text, behind a solid byte.
-fn shared_len(s: &[u8]) -> usize
+// Whether a byte before another may be where they part; with no branch, so that the bytes of a block are tested at once.
+fn is_odd(x: u8, y: u8) -> bool
+    ensures { λ r. ⌜ r ≡ odd x y ⌝ }
+{
+    (x < 32) | ((x == b'~') | ((x == b' ') & (y < 33)))
+}
+
+// Whether one of a text's bytes may, but for the last.
+fn any_odd(s: &[u8]) -> bool
+    ensures { λ r. ⌜ r ≡ anyOdd (now (s .entry)) ⌝ }
+{
+    let mut found = false;
+    let mut i = 1;
+    while i < s.len() {
+        found = found | is_odd(s[i - 1], s[i]);
+        i += 1;
+    }
+    found
+}
+
+// Where the whole blocks end that a body shares with its text.
+fn shared_blocks(s: &[u8]) -> usize
+    ensures { λ r. ⌜ SharedTo (now (s .entry)) r ⌝ }
+{
+    let mut i = 0;
+    while 17 <= s.len() - i {
+        let e = i + 17;
+        if any_odd(&s[i..e]) {
+            return i;
+        }
+        i += 16;
+    }
+    i
+}
+
+// How many bytes a body shares with its text, behind a solid byte, one by one.
+fn shared_each(s: &[u8]) -> usize
     ensures { λ r. ⌜ r ≡ sharedLen (now (s .entry)) ⌝ }
 {
     let mut i = 0;
@@ -80,6 +114,14 @@ fn shared_len(s: &[u8]) -> usize
         i += 1;
     }
     i
+}
+
+// The same by blocks, and the last ones singly.
+fn shared_len(s: &[u8]) -> usize
+    ensures { λ r. ⌜ r ≡ sharedLen (now (s .entry)) ⌝ }
+{
+    let i = shared_blocks(s);
+    i + shared_each(&s[i..])
 }
 
 // White space: one space, and at the end nothing.

@@ -15,17 +15,17 @@ is-plain-requires c κs = search needs
 returns-2 : tie.Need-returns-2
 returns-2 c = search differs-plain
 
-sub-starts-plain : tie.Need-sub-starts-plain
-sub-starts-plain c = search needs
+sub-starts-solid : tie.Need-sub-starts-solid
+sub-starts-solid c = search needs
 
-part-starts-plain-start : tie.Need-part-starts-plain-start
-part-starts-plain-start c = search needs
+part-starts-solid-start : tie.Need-part-starts-solid-start
+part-starts-solid-start c = search needs
 
-part-starts-plain-end : tie.Need-part-starts-plain-end
-part-starts-plain-end c = search needs
+part-starts-solid-end : tie.Need-part-starts-solid-end
+part-starts-solid-end c = search needs
 
-starts-plain-requires : tie.Need-starts-plain-requires
-starts-plain-requires c κs = search needs
+starts-solid-requires : tie.Need-starts-solid-requires
+starts-solid-requires c κs = search needs
 
 returns-3 : tie.Need-returns-3
 returns-3 c = search differs-space
@@ -41,9 +41,9 @@ differs-here-spec =
     shared-slice-read-x
     is-plain-requires
     returns-2
-    sub-starts-plain
-    part-starts-plain-start
-    part-starts-plain-end
-    starts-plain-requires
+    sub-starts-solid
+    part-starts-solid-start
+    part-starts-solid-end
+    starts-solid-requires
     returns-3
     returns-4)

@@ -1,54 +1,38 @@
-use Prim.Native.Nat.{_+_, _-_, _≤_}
-use mathlib.Core.Path.{_≡_}
 use native.Mathlib.Omega.{arith}
 use borrow.Author.Needs.{needs}
-use lib.ListN.{length, drop}
-use Rattle.prose.specs.Body.{sharedLen}
-use Rattle.prose.proofs.Tests.{shared-turn, shared-stop, shared-end}
+use Rattle.prose.proofs.Tests.{shared-on, shared-fits}
 use Rattle.prose.proofs.shared_len.Statement.{statement}
 use Rattle.prose.proofs.shared_len.Tie as tie
 
-abbrev Inv-loop : tie.InvT-loop
-Inv-loop s i₀ i = (i ≤ length s) × (i + sharedLen (drop i s) ≡ sharedLen s)
+shared-blocks-requires : tie.Need-shared-blocks-requires
+shared-blocks-requires c κs = search needs
 
-abbrev μ-loop : tie.MeasureT-loop
-μ-loop s i₀ i = length s - i
+sub-shared-each : tie.Need-sub-shared-each
+sub-shared-each c = search needs
 
-loop-holds : tie.Need-loop-holds Inv-loop μ-loop
-loop-holds c = omega arith
+part-shared-each-start : tie.Need-part-shared-each-start
+part-shared-each-start c = search needs
 
-from-requires : tie.Need-from-requires Inv-loop μ-loop
-from-requires c κs = search needs
+part-shared-each-end : tie.Need-part-shared-each-end
+part-shared-each-end c = search needs
 
-differs-here-requires : tie.Need-differs-here-requires Inv-loop μ-loop
-differs-here-requires c κs = search needs
+shared-each-requires : tie.Need-shared-each-requires
+shared-each-requires c κs = search needs
 
-returns : tie.Need-returns Inv-loop μ-loop
-returns c = search shared-stop
+add-result : tie.Need-add-result
+add-result c = omega (arith, shared-fits _ (c .before .before .shared-blocks .ensures) (c .shared-each .ensures))
 
-add-i : tie.Need-add-i Inv-loop μ-loop
-add-i c = omega arith
-
-loop-less : tie.Need-loop-less Inv-loop μ-loop
-loop-less c = omega arith
-
-loop-again : tie.Need-loop-again Inv-loop μ-loop
-loop-again c = (omega arith, search shared-turn)
-
-returns-2 : tie.Need-returns-2 Inv-loop μ-loop
-returns-2 c = search shared-end
+returns : tie.Need-returns
+returns c = shared-on _ (c .before .before .shared-blocks .ensures) (c .shared-each .ensures)
 
 pub shared-len-spec : {M : Type 1} → statement M
 shared-len-spec =
     tie.close
     (tie.spec
-    Inv-loop
-    μ-loop
-    loop-holds
-    from-requires
-    differs-here-requires
-    returns
-    add-i
-    loop-less
-    loop-again
-    returns-2)
+    shared-blocks-requires
+    sub-shared-each
+    part-shared-each-start
+    part-shared-each-end
+    shared-each-requires
+    add-result
+    returns)
