@@ -21,7 +21,7 @@ fn bare(s: &[u8]) -> &[u8]
 }
 
 // Whether a code point ends a name.
-fn ends_name(code: u32) -> bool
+pub fn ends_name(code: u32) -> bool
     ensures { λ r. ⌜ r ≡ endsName code ⌝ }
 {
     if chars::is_white(code) {
