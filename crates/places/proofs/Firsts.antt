@@ -8,7 +8,7 @@ use lib.ListN.{length, getD, take, drop, length-drop, drop-of-length-le}
 use lib.Seq.{drop-drop, drop-cons, getD-drop}
 use lib.Dec.{ltb}
 use borrow.Author.Tests.{lt-ltb, le-ltb, ltb-true, ltb-false}
-use Rattle.parts.specs.Bytes.{Bytes}
+use Rattle.parts.specs.Bytes.{Bytes, firstAt}
 use Rattle.chars.specs.Range.{within, inAny}
 use Rattle.chars.specs.Utf8.{fits, rowLen, table37, seqLen, step, isSequence, point, codeOf, firstChar}
 use Rattle.chars.specs.Space.{isWhite, whiteSpace}
@@ -17,7 +17,7 @@ use Rattle.chars.proofs.Characters.{step-le}
 use Rattle.words.specs.Words.{white}
 use Rattle.words.specs.declared.Set.the-variants.{Unicode}
 use Rattle.tape.specs.Name.{endsName}
-use Rattle.places.specs.Seek.{endsAt, whiteAt, solidAt, gapAt, passesAt, firstAt, nextFrom, Sought, Dull}
+use Rattle.places.specs.Seek.{endsAt, whiteAt, solidAt, gapAt, passesAt, nextFrom, Sought, Dull}
 use Rattle.places.specs.declared.Test.{Test}
 use Rattle.places.specs.declared.Test.the-variants.{Ender, Gap}
 use Rattle.places.proofs.Dulls.{dull-first, ends-white-not}
@@ -125,19 +125,19 @@ module _ (p : Bytes → Bool) where
   first-le [] = omega arith
   first-le (x ∷ u) = go (p (x ∷ u)) (first-le u)
     where
-      go : (t : Bool) → firstAt p u ≤ length u → cond t 0 (suc (firstAt p u)) ≤ suc (length u)
+      go : (t : Bool) → firstAt p u ≤ length u → elim t as (λ z. ℕ) [ true ↦ 0 | false ↦ suc (firstAt p u) ] ≤ suc (length u)
       go true h = omega arith
       go false h = omega arith
 
   pub first-hit : (u : Bytes) → p u ≡ true → firstAt p u ≡ 0
   unfolding firstAt
   first-hit [] e = refl
-  first-hit (x ∷ u) e = rw e
+  first-hit (x ∷ u) e = rw (e, firstAt)
 
   pub first-miss : (u : Bytes) → 0 < length u → p u ≡ false → firstAt p u ≡ suc (firstAt p (drop 1 u))
   unfolding firstAt
   first-miss [] h e = absurd (omega arith)
-  first-miss (x ∷ u) h e = rw e
+  first-miss (x ∷ u) h e = rw (e, firstAt)
 
   -- places that do not pass are passed over
   pub first-skip : (w : ℕ) (u : Bytes) → w ≤ length u → ((j : ℕ) → j < w → p (drop j u) ≡ false) → firstAt p u ≡ w + firstAt p (drop w u)

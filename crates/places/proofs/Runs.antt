@@ -8,18 +8,19 @@ use lib.ListN.{length, getD, take, drop, length-drop, length-append}
 use lib.Seq.{drop-drop, length-take-le, getD-drop}
 use lib.Dec.{ltb}
 use borrow.Author.Tests.{lt-ltb, le-ltb, ltb-true, ltb-false, leb-true, not-false}
-use Rattle.parts.specs.Bytes.{Bytes}
+use Rattle.parts.specs.Bytes.{Bytes, firstAt}
 use Rattle.parts.proofs.Laws.{and-true as both-true}
 use Rattle.chars.specs.Range.{within}
 use Rattle.chars.specs.Utf8.{tail, seqLen, step, cutAt, cut, characters, codeOf}
 use Rattle.chars.proofs.Characters.{seq-inner, step-seq, step-byte, step-some, step-le, cut-nil, cut-first, cut-induct}
 use Rattle.words.specs.Words.{takeWhile, white}
 use Rattle.words.specs.declared.Set.the-variants.{Unicode}
-use Rattle.tape.specs.Name.{inName, nameLen}
-use Rattle.places.specs.Seek.{endsAt, whiteAt, solidAt, gapAt, passesAt, firstAt, nextFrom, Right, toWord, Dull}
+use Rattle.tape.specs.Name.{endsName, inName, nameLen}
+use Rattle.places.specs.Seek.{endsAt, whiteAt, solidAt, gapAt, passesAt, nextFrom, Right, toWord, Dull}
 use Rattle.places.specs.declared.Test.{Test}
 use Rattle.places.specs.declared.Test.the-variants.{Ender, Gap}
-use Rattle.places.proofs.Firsts.{dull-passes, first-hit, first-skip}
+use Rattle.places.proofs.Firsts.{dull-passes, first-le, first-hit, first-skip}
+use Rattle.places.proofs.Dulls.{ends-white-not}
 
 -- ---- places inside a character
 
@@ -67,6 +68,10 @@ gap-test : (u : Bytes) → passesAt Gap u ≡ gapAt u
 unfolding passesAt
 gap-test u = refl
 
+ends-code : (u : Bytes) → endsName (codeOf (take (step u) u)) ≡ endsAt u
+unfolding endsAt
+ends-code u = refl
+
 -- ---- names
 
 name-nil : firstAt (passesAt Ender) [] ≡ nameLen []
@@ -96,6 +101,18 @@ name-first u = cut-induct step-some (λ v. firstAt (passesAt Ender) v ≡ nameLe
         go true e = first-hit (passesAt Ender) v (ender-is v ∙ e) ∙ sym (name-none v h e)
         go false e =
             char-skip Ender v h (ender-is v ∙ e) ∙ ap (λ (n : ℕ). step v + n) q ∙ sym (name-step v h e)
+
+pub name-le : (u : Bytes) → nameLen u ≤ length u
+name-le u = omega (arith, name-first u, first-le (passesAt Ender) u)
+
+-- a name begins with no white space
+pub name-solid : (u : Bytes) → 0 < length u → 0 < nameLen u → whiteAt u ≡ false
+unfolding whiteAt white
+name-solid u h l = ends-white-not (codeOf (take (step u) u)) (go (endsAt u) refl)
+  where
+    go : (t : Bool) → endsAt u ≡ t → endsName (codeOf (take (step u) u)) ≡ false
+    go true e = absurd (omega (arith, name-none u h e))
+    go false e = ends-code u ∙ e
 
 -- ---- words
 

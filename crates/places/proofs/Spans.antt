@@ -7,21 +7,22 @@ use Prim.Native.Nat.{ℕ, zero, suc, _+_, _-_, _≤_, _<_}
 use native.Mathlib.Nat.{lt-of-not-le}
 use native.Mathlib.Omega.{arith}
 use lib.ListN.{length, getD, take, drop, length-drop, length-append, take-append-drop, List·getD-eq-default}
-use lib.Seq.{drop-drop, length-take-le, getD-drop, getD-append-add}
+use lib.Seq.{take-nil, drop-drop, length-take-le, getD-drop, getD-append-add}
 use lib.Dec.{eqb, ltb}
 use borrow.Author.Tests.{lt-ltb, le-ltb, ltb-true, ltb-false, eqb-true, not-true}
-use Rattle.parts.specs.Bytes.{Bytes, part}
-use Rattle.parts.proofs.Laws.{and-true as both-true}
-use Rattle.chars.specs.Range.{within}
-use Rattle.chars.specs.Utf8.{tail, seqLen, step, cutAt, cut, characters, isBoundary}
+use Rattle.parts.specs.Bytes.{Bytes, part, begins}
+use Rattle.parts.proofs.Laws.{and-true as both-true, begins-fits, begins-split}
+use Rattle.chars.specs.Range.{within, inAny}
+use Rattle.chars.specs.Utf8.{tail, fits, rowLen, table37, seqLen, step, isSequence, point, codeOf, cutAt, cut, characters, isBoundary}
+use Rattle.chars.specs.Space.{isWhite, whiteSpace}
 use Rattle.chars.proofs.Characters.{seq-inner, step-some, step-le, cut-first, cut-whole, characters-flatten}
 use Rattle.words.specs.Words.{stepOf, charsOf, white, takeWhile, onto, pieces, nonempty, words}
 use Rattle.words.specs.declared.Set.the-variants.{Unicode}
 use Rattle.words.proofs.Rows.{Row, none, more, row-cut, row-whole, row-join, flatten-append}
 use Rattle.words.proofs.Steps.{size-steady}
-use Rattle.tape.specs.Name.{inName, nameLen}
+use Rattle.tape.specs.Name.{strip, bare, inName, nameLen}
 use Rattle.places.specs.Seek.{whiteAt, solidAt, toWord}
-use Rattle.places.proofs.Runs.{characters-first}
+use Rattle.places.proofs.Runs.{characters-first, name-le, name-solid}
 
 -- ---- a text that no character before it reaches into
 
@@ -287,3 +288,87 @@ module _ (s : Bytes) (at m : ℕ) (fits : at + m ≤ length s) (end : isBoundary
 
       w : (far < length (flatten (characters (part s at m)))) ↔ (near < length (flatten (characters (part s at m))))
       w = to-within false (characters (part s at m)) (filled-characters (part s at m)) (characters (drop (at + m) s))
+
+-- ---- a text and what stands behind its `\` and `+`
+
+drop-take : (j n : ℕ) (s : Bytes) → drop j (take n s) ≡ take (n - j) (drop j s)
+drop-take zero n s = let e : n ≡ n - 0 = omega arith in ap (λ (i : ℕ). take i s) e
+drop-take (suc j) zero s = let e : 0 ≡ 0 - suc j = omega arith in ap (λ (i : ℕ). take i (drop (suc j) s)) e
+drop-take (suc j) (suc n) [] = sym (take-nil (suc n - suc j))
+drop-take (suc j) (suc n) (x ∷ s) = let e : n - j ≡ suc n - suc j = omega arith in drop-take j n s ∙ ap (λ (i : ℕ). take i (drop j s)) e
+
+-- how a text without a byte in front comes of it
+record Front (s t : Bytes) : Type 0 where
+  cut : ℕ
+  small : cut ≤ 1
+  fits : cut ≤ length s
+  same : t ≡ drop cut s
+
+strip-front : (x : ℕ) (s : Bytes) → Front s (strip x s)
+unfolding strip
+strip-front x s = go (begins (x ∷ []) s) refl
+  where
+    go : (t : Bool) → begins (x ∷ []) s ≡ t → Front s (cond t (drop 1 s) s)
+    go true e = record { cut = 1; small = omega arith; fits = begins-fits (x ∷ []) s e; same = refl }
+    go false e = record { cut = 0; small = omega arith; fits = omega arith; same = refl }
+
+module _ (s : Bytes) where
+  front-of : (j : ℕ) × ((bare s ≡ drop j s) × ((j ≤ 2) × (j ≤ length s)))
+  unfolding bare
+  front-of =
+      let a = strip-front 92 s in
+      let c = strip-front 43 (strip 92 s) in
+      let l : length (strip 92 s) ≡ length s - a .cut = ap length (a .same) ∙ length-drop (a .cut) s in
+      (a .cut + c .cut, (c .same ∙ ap (drop (c .cut)) (a .same) ∙ drop-drop (c .cut) (a .cut) s, (omega (arith, a .small, c .small), omega (arith, l, a .fits, c .fits))))
+
+  bare-len : length (bare s) ≡ length s - front-of .0
+  bare-len = ap length (front-of .1 .0) ∙ length-drop (front-of .0) s
+
+  pub bare-le : length (bare s) ≤ length s
+  bare-le = omega (arith, bare-len)
+
+  pub bare-most : length s - length (bare s) ≤ 2
+  bare-most = omega (arith, bare-len, front-of .1 .1 .0)
+
+  pub bare-drop : bare s ≡ drop (length s - length (bare s)) s
+  bare-drop =
+      let e : front-of .0 ≡ length s - length (bare s) = omega (arith, bare-len, front-of .1 .1 .1) in front-of .1 .0 ∙ ap (λ (n : ℕ). drop n s) e
+
+-- the bare part of a span is a span
+pub bare-span : (s : Bytes) (a n : ℕ) → a + n ≤ length s → (j : ℕ) → j ≡ n - length (bare (part s a n)) → bare (part s a n) ≡ part s (a + j) (n - j)
+bare-span s a n h j e =
+    let l : length (part s a n) ≡ n = length-take-le n (drop a s) (omega (arith, length-drop a s)) in
+    let f : length (part s a n) - length (bare (part s a n)) ≡ j = omega (arith, l) in
+    bare-drop (part s a n)
+    ∙ ap (λ (i : ℕ). drop i (part s a n)) f
+    ∙ drop-take j n (drop a s)
+    ∙ ap (take (n - j)) (drop-drop j a s)
+
+-- ---- the first character of a text with a name
+
+solid-slash : (r : Bytes) → solidAt (92 ∷ r) ≡ true
+unfolding solidAt whiteAt white step codeOf isSequence seqLen rowLen table37 fits point isWhite whiteSpace inAny within
+solid-slash r = rw (lt-ltb 0 (length (92 ∷ r)) (omega arith))
+
+solid-plus : (r : Bytes) → solidAt (43 ∷ r) ≡ true
+unfolding solidAt whiteAt white step codeOf isSequence seqLen rowLen table37 fits point isWhite whiteSpace inAny within
+solid-plus r = rw (lt-ltb 0 (length (43 ∷ r)) (omega arith))
+
+solid-name : (s : Bytes) → 0 < nameLen s → solidAt s ≡ true
+unfolding solidAt
+solid-name s h =
+    let l : 0 < length s = omega (arith, name-le s) in
+    rw (lt-ltb 0 (length s) l, name-solid s l h)
+
+-- a text whose bare part begins with a name begins with no white space
+pub solid-bare : (s : Bytes) → 0 < nameLen (bare s) → solidAt s ≡ true
+unfolding bare strip
+solid-bare s h = go (begins (92 ∷ []) s) refl h
+  where
+    plus : (t : Bool) → begins (43 ∷ []) s ≡ t → 0 < nameLen (cond t (drop 1 s) s) → solidAt s ≡ true
+    plus true e l = rw (begins-split (43 ∷ []) s e) (solid-plus (drop 1 s))
+    plus false e l = solid-name s l
+
+    go : (t : Bool) → begins (92 ∷ []) s ≡ t → 0 < nameLen (strip 43 (cond t (drop 1 s) s)) → solidAt s ≡ true
+    go true e l = rw (begins-split (92 ∷ []) s e) (solid-slash (drop 1 s))
+    go false e l = plus (begins (43 ∷ []) s) refl l

@@ -1,11 +1,11 @@
 -- The first place of a text that passes a test, and tables of such places.
 use mathlib.Core.Path.{_≡_}
-use mathlib.Core.Bool.{Bool, true, false, cond, not, _&&_}
+use mathlib.Core.Bool.{Bool, cond, not, _&&_}
 use mathlib.Core.List.{List, [], _∷_}
-use Prim.Native.Nat.{ℕ, zero, suc, _+_, _*_, _≤_, _<_, min}
+use Prim.Native.Nat.{ℕ, _+_, _*_, _≤_, _<_, min}
 use lib.ListN.{length, getD, take, drop}
 use lib.Dec.{ltb}
-use Rattle.parts.specs.Bytes.{Bytes}
+use Rattle.parts.specs.Bytes.{Bytes, firstAt}
 use Rattle.chars.specs.Utf8.{step, codeOf}
 use Rattle.words.specs.Words.{white}
 use Rattle.words.specs.declared.Set.the-variants.{Unicode}
@@ -36,11 +36,6 @@ passesAt Ender u = endsAt u
 passesAt Gap u = gapAt u
 
 -- ---- places
-
--- how many bytes stand before the first place that passes a test
-unfoldable pub firstAt : (Bytes → Bool) → Bytes → ℕ
-firstAt p [] = 0
-firstAt p (x ∷ s) = cond (p (x ∷ s)) 0 (suc (firstAt p s))
 
 -- the first place at or behind i that passes a test; the text's length where there is none
 unfoldable pub nextFrom : Test → Bytes → ℕ → ℕ

@@ -14,7 +14,7 @@ fn strip(s: &[u8], x: u8) -> &[u8]
 }
 
 // A text behind an optional `\` and an optional `+`.
-fn bare(s: &[u8]) -> &[u8]
+pub fn bare(s: &[u8]) -> &[u8]
     ensures { λ r. ⌜ now r ≡ bareOf (now (s .entry)) ⌝ }
 {
     strip(strip(s, b'\\'), b'+')
