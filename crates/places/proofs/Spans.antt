@@ -327,9 +327,6 @@ module _ (s : Bytes) where
   pub bare-le : length (bare s) ≤ length s
   bare-le = omega (arith, bare-len)
 
-  pub bare-most : length s - length (bare s) ≤ 2
-  bare-most = omega (arith, bare-len, front-of .1 .1 .0)
-
   pub bare-drop : bare s ≡ drop (length s - length (bare s)) s
   bare-drop =
       let e : front-of .0 ≡ length s - length (bare s) = omega (arith, bare-len, front-of .1 .1 .1) in front-of .1 .0 ∙ ap (λ (n : ℕ). drop n s) e
