@@ -1,132 +1,142 @@
--- The table of white space against the ranges of its definition.
-use mathlib.Core.Path.{_≡_, refl, sym, _∙_}
-use mathlib.Core.Bool.{Bool, true, false, cond, _&&_, _||_, or-false, or-assoc}
-use mathlib.Core.List.{List, [], _∷_, _++_}
-use Prim.Native.Nat.{ℕ, zero, suc, _+_, _-_, _≤_, _<_}
+-- White space by comparisons, against the ranges of its definition.
+use mathlib.Core.Path.{_≡_, refl, sym, ap, _∙_}
+use mathlib.Core.Bool.{Bool, true, false, cond, _&&_, _||_, or-false, and-true}
+use Prim.Native.Nat.{ℕ, _≤_, _<_}
 use native.Mathlib.Omega.{arith}
-use lib.ListN.{length, getD, drop, drop-of-length-le}
-use lib.Dec.{leb, eqb}
-use borrow.Author.Tests.{ne-eqb, le-leb, lt-leb, eqb-false, leb-true, leb-false}
-use Rattle.parts.proofs.Laws.{and-true as both-true, drop-at}
+use lib.Dec.{leb, eqb, ltb}
+use borrow.Author.Tests.{ne-eqb, le-leb}
 use Rattle.chars.specs.Range.{Range, _to_, within, inAny}
 use Rattle.chars.specs.Space.{whiteSpace, isWhite}
+use Rattle.chars.proofs.Laws.{below, beyond, inside, one-point}
 
-abbrev pub table : List ℕ
-table =
-    9 ∷ 10 ∷ 11 ∷ 12 ∷ 13 ∷ 32 ∷ 133 ∷ 160 ∷ 5760 ∷ 8192 ∷ 8193 ∷ 8194 ∷ 8195 ∷ 8196 ∷ 8197 ∷ 8198 ∷ 8199 ∷ 8200 ∷ 8201 ∷ 8202 ∷ 8232
-    ∷ 8233 ∷ 8239 ∷ 8287 ∷ 12288 ∷ []
+module _ (c : ℕ) where
+  -- a number up to the end of a range lies in it where it is not below
+  up-to : (l h : ℕ) → c ≤ h → within (l to h) c ≡ leb l c
+  unfolding within
+  up-to l h n = rw (le-leb c h n) (and-true (leb l c))
 
--- ---- membership
+  -- a range of one number that another is not
+  apart : (n : ℕ) → (c ≡ n → ⊥) → within (n to n) c ≡ false
+  apart n h = sym (one-point n c) ∙ ne-eqb c n h
 
-unfoldable pub member : ℕ → List ℕ → Bool
-member c [] = false
-member c (x ∷ xs) = eqb x c || member c xs
+  -- ---- below 2000
 
--- the search: up to the first entry that is not less than the number
-unfoldable pub found : ℕ → List ℕ → Bool
-found c [] = false
-found c (x ∷ xs) = cond (leb c x) (eqb x c) (found c xs)
+  pub low-control : c ≤ 13 → c < 8192 → leb 9 c ≡ isWhite c
+  unfolding isWhite whiteSpace inAny
+  low-control h l =
+      sym (
+      simp (
+        up-to 9 13 h,
+        below 32 32 c (omega arith),
+        below 133 133 c (omega arith),
+        below 160 160 c (omega arith),
+        below 5760 5760 c (omega arith),
+        below 8192 8202 c (omega arith),
+        below 8232 8233 c (omega arith),
+        below 8239 8239 c (omega arith),
+        below 8287 8287 c (omega arith),
+        below 12288 12288 c (omega arith),
+        or-false,
+      )
+      )
 
--- a list that rises, from a limit on
-unfoldable pub rising : ℕ → List ℕ → Bool
-rising l [] = true
-rising l (x ∷ xs) = leb l x && rising (suc x) xs
+  pub low-space : c ≡ 32 → c < 8192 → true ≡ isWhite c
+  unfolding isWhite whiteSpace inAny within
+  low-space e l = rw e
 
-member-low : (c l : ℕ) (xs : List ℕ) → c < l → rising l xs ≡ true → member c xs ≡ false
-unfolding member rising
-member-low c l [] h e = refl
-member-low c l (x ∷ xs) h e =
-    let k = both-true (leb l x) (rising (suc x) xs) e in
-    let m : l ≤ x = leb-true l x (k .0) in
-    rw (ne-eqb x c (λ (q : x ≡ c). omega arith), member-low c (suc x) xs (omega arith) (k .1))
+  pub low-next-line : c ≡ 133 → c < 8192 → true ≡ isWhite c
+  unfolding isWhite whiteSpace inAny within
+  low-next-line e l = rw e
 
-found-member : (c l : ℕ) (xs : List ℕ) → rising l xs ≡ true → found c xs ≡ member c xs
-unfolding member found rising
-found-member c l [] e = refl
-found-member c l (x ∷ xs) e =
-    let k = both-true (leb l x) (rising (suc x) xs) e in
-    go (leb c x) refl (k .1) (found-member c (suc x) xs (k .1))
-  where
-    go : (t : Bool) → leb c x ≡ t → rising (suc x) xs ≡ true → found c xs ≡ member c xs → cond t (eqb x c) (found c xs) ≡ eqb x c || member c xs
-    go true f r h = let g = leb-true c x f in rw (member-low c (suc x) xs (omega arith) r) (sym (or-false (eqb x c)))
-    go false f r h = let g = leb-false c x f in rw (ne-eqb x c (λ (q : x ≡ c). omega arith)) h
+  pub low-no-break : c ≡ 160 → c < 8192 → true ≡ isWhite c
+  unfolding isWhite whiteSpace inAny within
+  low-no-break e l = rw e
 
-member-append : (c : ℕ) (xs ys : List ℕ) → member c (xs ++ ys) ≡ member c xs || member c ys
-unfolding member
-member-append c [] ys = refl
-member-append c (x ∷ xs) ys = rw (member-append c xs ys) (sym (or-assoc (eqb x c) (member c xs) (member c ys)))
+  pub low-other : 13 < c → (c ≡ 32 → ⊥) → (c ≡ 133 → ⊥) → (c ≡ 160 → ⊥) → c < 8192 → eqb c 5760 ≡ isWhite c
+  unfolding isWhite whiteSpace inAny
+  low-other g s n b l =
+      one-point 5760 c
+      ∙ sym (
+      simp (
+        beyond 9 13 c g,
+        apart 32 s,
+        apart 133 n,
+        apart 160 b,
+        below 8192 8202 c l,
+        below 8232 8233 c (omega arith),
+        below 8239 8239 c (omega arith),
+        below 8287 8287 c (omega arith),
+        below 12288 12288 c (omega arith),
+        or-false,
+      )
+      )
 
--- ---- ranges spread out
+  -- ---- from 2000 on
 
-unfoldable pub span : ℕ → ℕ → List ℕ
-span l zero = []
-span l (suc n) = l ∷ span (suc l) n
+  pub high-quad : c ≤ 8202 → 8192 ≤ c → true ≡ isWhite c
+  unfolding isWhite whiteSpace inAny
+  high-quad h g =
+      sym (
+      simp (
+        beyond 9 13 c (omega arith),
+        beyond 32 32 c (omega arith),
+        beyond 133 133 c (omega arith),
+        beyond 160 160 c (omega arith),
+        beyond 5760 5760 c (omega arith),
+        inside 8192 8202 c g h,
+      )
+      )
 
-unfoldable pub points : List Range → List ℕ
-points [] = []
-points (r ∷ rs) = span (r .low) (suc (r .high) - r .low) ++ points rs
+  pub high-line : 8202 < c → c ≤ 8233 → 8192 ≤ c → leb 8232 c ≡ isWhite c
+  unfolding isWhite whiteSpace inAny
+  high-line k h g =
+      sym (
+      simp (
+        beyond 9 13 c (omega arith),
+        beyond 32 32 c (omega arith),
+        beyond 133 133 c (omega arith),
+        beyond 160 160 c (omega arith),
+        beyond 5760 5760 c (omega arith),
+        beyond 8192 8202 c k,
+        up-to 8232 8233 h,
+        below 8239 8239 c (omega arith),
+        below 8287 8287 c (omega arith),
+        below 12288 12288 c (omega arith),
+        or-false,
+      )
+      )
 
-span-in : (c l n : ℕ) → l ≤ c → c < l + n → member c (span l n) ≡ true
-unfolding member span
-span-in c l zero h k = absurd (omega arith)
-span-in c l (suc n) h k = go (eqb l c) refl (λ p q. span-in c (suc l) n p q)
-  where
-    go : (t : Bool) → eqb l c ≡ t → (suc l ≤ c → c < suc l + n → member c (span (suc l) n) ≡ true) → t || member c (span (suc l) n) ≡ true
-    go true e f = refl
-    go false e f = let q = eqb-false l c e in f (omega arith) (omega arith)
+  pub high-narrow : c ≡ 8239 → 8192 ≤ c → true ≡ isWhite c
+  unfolding isWhite whiteSpace inAny within
+  high-narrow e g = rw e
 
-span-low : (c l n : ℕ) → c < l → member c (span l n) ≡ false
-unfolding member span
-span-low c l zero h = refl
-span-low c l (suc n) h = rw (ne-eqb l c (λ (q : l ≡ c). omega arith)) (span-low c (suc l) n (omega arith))
+  pub high-medium : c ≡ 8287 → 8192 ≤ c → true ≡ isWhite c
+  unfolding isWhite whiteSpace inAny within
+  high-medium e g = rw e
 
-span-high : (c l n : ℕ) → l + n ≤ c → member c (span l n) ≡ false
-unfolding member span
-span-high c l zero h = refl
-span-high c l (suc n) h = rw (ne-eqb l c (λ (q : l ≡ c). omega arith)) (span-high c (suc l) n (omega arith))
+  pub high-other : 8233 < c → (c ≡ 8239 → ⊥) → (c ≡ 8287 → ⊥) → 8192 ≤ c → eqb c 12288 ≡ isWhite c
+  unfolding isWhite whiteSpace inAny
+  high-other k n m g =
+      one-point 12288 c
+      ∙ sym (
+      simp (
+        beyond 9 13 c (omega arith),
+        beyond 32 32 c (omega arith),
+        beyond 133 133 c (omega arith),
+        beyond 160 160 c (omega arith),
+        beyond 5760 5760 c (omega arith),
+        beyond 8192 8202 c (omega arith),
+        beyond 8232 8233 c k,
+        apart 8239 n,
+        apart 8287 m,
+        or-false,
+      )
+      )
 
-span-within : (c : ℕ) (r : Range) → member c (span (r .low) (suc (r .high) - r .low)) ≡ within r c
-unfolding within
-span-within c r = go (leb (r .low) c) refl (leb c (r .high)) refl
-  where
-    go : (t : Bool) → leb (r .low) c ≡ t → (u : Bool) → leb c (r .high) ≡ u
-        → member c (span (r .low) (suc (r .high) - r .low)) ≡ t && u
-    go true e true f =
-        let g = leb-true (r .low) c e in
-        let h = leb-true c (r .high) f in span-in c (r .low) _ g (omega arith)
-    go true e false f =
-        let g = leb-true (r .low) c e in
-        let h = leb-false c (r .high) f in span-high c (r .low) _ (omega arith)
-    go false e u f = let g = leb-false (r .low) c e in span-low c (r .low) _ g
+  -- ---- both
 
-member-points : (c : ℕ) (rs : List Range) → member c (points rs) ≡ inAny rs c
-unfolding points inAny member
-member-points c [] = refl
-member-points c (r ∷ rs) = member-append c (span (r .low) (suc (r .high) - r .low)) (points rs) ∙ rw (span-within c r, member-points c rs)
+  pub white-low : {r : Bool} → c < 8192 → (c < 8192 → r ≡ isWhite c) → r ≡ isWhite c
+  white-low h f = f h
 
--- ---- the table
-
-spread : points whiteSpace ≡ table
-unfolding points span whiteSpace
-spread = refl
-
-table-rises : rising 0 table ≡ true
-unfolding rising
-table-rises = refl
-
-pub white-start : (c : ℕ) → found c table ≡ isWhite c
-unfolding isWhite
-white-start c = found-member c 0 table table-rises ∙ rw (← spread) (member-points c whiteSpace)
-
-module _ (c : ℕ) (xs : List ℕ) (i : ℕ) {t : Bool} (h : i < length xs) where
-  pub white-stop : c ≤ getD xs i 0 → found c (drop i xs) ≡ t → eqb (getD xs i 0) c ≡ t
-  unfolding found
-  white-stop l inv = sym (rw (drop-at xs i h, le-leb c (getD xs i 0) l)) ∙ inv
-
-  pub white-turn : getD xs i 0 < c → found c (drop i xs) ≡ t → found c (drop (i + 1) xs) ≡ t
-  unfolding found
-  white-turn l inv = sym (rw (drop-at xs i h, lt-leb c (getD xs i 0) l)) ∙ inv
-
-pub white-end : (c : ℕ) (xs : List ℕ) (i : ℕ) {t : Bool} → length xs ≤ i → found c (drop i xs) ≡ t → false ≡ t
-unfolding found
-white-end c xs i h inv = sym (rw (drop-of-length-le xs h)) ∙ inv
+  pub white-high : {r : Bool} → 8192 ≤ c → (8192 ≤ c → r ≡ isWhite c) → r ≡ isWhite c
+  white-high h f = f h

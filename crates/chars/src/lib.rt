@@ -2,7 +2,7 @@
 ghost use mathlib.Core.Path.{_≡_};
 ghost use mathlib.Core.Bool.{cond};
 ghost use mathlib.Core.List.{[], _∷_};
-ghost use Prim.Native.Nat.{_-_, _≤_};
+ghost use Prim.Native.Nat.{_-_, _≤_, _<_};
 ghost use lib.ListN.{getD, drop};
 ghost use Rattle.chars.specs.Range.{_to_, within};
 ghost use Rattle.chars.specs.Utf8.{seqLen, point, firstChar, isUtf8 as isUtf8Of, isBoundary};
@@ -15,35 +15,6 @@ pub struct Char {
     pub code: u32,
     pub width: usize,
 }
-
-// The 25 code points that Unicode marks White_Space, in order.
-const WHITE: [u32; 25] = [
-    0x09,
-    0x0A,
-    0x0B,
-    0x0C,
-    0x0D,
-    0x20,
-    0x85,
-    0xA0,
-    0x1680,
-    0x2000,
-    0x2001,
-    0x2002,
-    0x2003,
-    0x2004,
-    0x2005,
-    0x2006,
-    0x2007,
-    0x2008,
-    0x2009,
-    0x200A,
-    0x2028,
-    0x2029,
-    0x202F,
-    0x205F,
-    0x3000,
-];
 
 // Whether a byte lies in a range.
 fn lies(x: u8, low: u8, high: u8) -> bool
@@ -239,19 +210,53 @@ pub fn is_boundary(s: &[u8], at: usize) -> bool
     at == s.len()
 }
 
-// Whether a code point is Unicode white space.
+// Whether a code point below 2000 is Unicode white space.
+fn white_low(code: u32) -> bool
+    ensures { λ r. ⌜ (code < 8192 → r ≡ isWhite code) ⌝ }
+{
+    if code <= 0x0D {
+        return 0x09 <= code;
+    }
+    if code == 0x20 {
+        return true;
+    }
+    if code == 0x85 {
+        return true;
+    }
+    if code == 0xA0 {
+        return true;
+    }
+    code == 0x1680
+}
+
+// Whether a code point from 2000 on is Unicode white space.
+fn white_high(code: u32) -> bool
+    ensures { λ r. ⌜ (8192 ≤ code → r ≡ isWhite code) ⌝ }
+{
+    if code <= 0x200A {
+        return true;
+    }
+    if code <= 0x2029 {
+        return 0x2028 <= code;
+    }
+    if code == 0x202F {
+        return true;
+    }
+    if code == 0x205F {
+        return true;
+    }
+    code == 0x3000
+}
+
+// Whether a code point is Unicode white space: one of 25.
 pub fn is_white(code: u32) -> bool
     ensures { λ r. ⌜ r ≡ isWhite code ⌝ }
 {
-    let mut i = 0;
-    while i < WHITE.len() {
-        let w = WHITE[i];
-        if code <= w {
-            return w == code;
-        }
-        i += 1;
+    if code < 0x2000 {
+        white_low(code)
+    } else {
+        white_high(code)
     }
-    false
 }
 
 // Whether a byte is ASCII white space.

@@ -11,7 +11,7 @@ use borrow.Author.Tests.{lt-ltb, le-ltb, ltb-true, ltb-false, eqb-true, eqb-fals
 use Rattle.parts.specs.Bytes.{Bytes}
 use Rattle.places.specs.Seek.{nextFrom, edgeOf, Right, RightFrom, Sought}
 use Rattle.places.specs.declared.Test.{Test}
-use Rattle.places.proofs.Firsts.{next-le, sought-all, sought-hit, sought-none}
+use Rattle.places.proofs.Firsts.{next-le, next-same, sought-all, sought-hit, sought-none}
 
 -- ---- filling
 
@@ -70,6 +70,12 @@ module _ {test : Test} {s : Bytes} {table : List ℕ} {b : ℕ} where
   fill-done f z h = record { block = λ j l k. f .right h .block j (omega arith) k }
 
 -- ---- asking
+
+module _ {test : Test} {s : Bytes} {table : List ℕ} {i b : ℕ} (eb : b ≡ i / 64) where
+  pub ask-own : {p : ℕ} → b < length table → p ≡ getD table b 0 → i ≤ p → Right test s table → i ≤ length s → p ≡ nextFrom test s i
+  ask-own {p} k ep l t h =
+      let q : p ≡ nextFrom test s (edgeOf s b) = ep ∙ t .block b (omega arith) k in
+      q ∙ sym (next-same test s (edgeOf s b) i (omega arith) (omega arith))
 
 module _ {test : Test} {s : Bytes} {table : List ℕ} {i b end p : ℕ} (eb : b ≡ i / 64 + 1) (ee : end ≡ edgeOf s b) (q : Sought test s i end p) where
   pub ask-near : p < end → Right test s table → i ≤ length s → p ≡ nextFrom test s i

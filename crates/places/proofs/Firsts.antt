@@ -150,6 +150,17 @@ module _ (p : Bytes → Bool) where
         first-skip w u (omega arith) (λ j k. f (suc j) (omega arith)),
       )
 
+  -- from a place before the first that passes
+  pub first-from : (d : ℕ) (u : Bytes) → d ≤ firstAt p u → d + firstAt p (drop d u) ≡ firstAt p u
+  unfolding firstAt
+  first-from zero u h = omega arith
+  first-from (suc d) [] h = absurd (omega arith)
+  first-from (suc d) (x ∷ u) h = go (p (x ∷ u)) refl
+    where
+      go : (t : Bool) → p (x ∷ u) ≡ t → suc d + firstAt p (drop d u) ≡ firstAt p (x ∷ u)
+      go true e = absurd (omega (arith, first-hit (x ∷ u) e))
+      go false e = let m = first-miss (x ∷ u) (omega arith) e in omega (arith, m, first-from d u (omega (arith, m)))
+
 module _ (test : Test) (s : Bytes) (i : ℕ) where
   pub next-hit : passesAt test (drop i s) ≡ true → nextFrom test s i ≡ i
   unfolding nextFrom
@@ -171,6 +182,17 @@ module _ (test : Test) (s : Bytes) (i : ℕ) where
   pub next-le : i ≤ length s → nextFrom test s i ≤ length s
   unfolding nextFrom
   next-le h = omega (arith, first-le (passesAt test) (drop i s), length-drop i s)
+
+-- what stands behind an earlier place, and behind i, is the first behind i
+pub next-same : (test : Test) (s : Bytes) (e i : ℕ) → e ≤ i → i ≤ nextFrom test s e → nextFrom test s i ≡ nextFrom test s e
+unfolding nextFrom
+next-same test s e i h l =
+    let f = first-from (passesAt test) (i - e) (drop e s) (omega arith) in
+    let q : drop (i - e) (drop e s) ≡ drop i s = drop-drop (i - e) e s ∙ ap (λ (n : ℕ). drop n s) (same-place h) in
+    omega (arith, f, ap (firstAt (passesAt test)) q)
+  where
+    same-place : e ≤ i → e + (i - e) ≡ i
+    same-place k = omega arith
 
 -- ---- a search
 

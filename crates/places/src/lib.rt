@@ -147,8 +147,8 @@ pub fn fill(table: &mut [u32], s: &[u8], test: Test)
     }
 }
 
-// The first place at or behind i that passes; the text's length where there is none.
-pub fn next(table: &[u32], s: &[u8], test: Test, i: usize) -> usize
+// The first place at or behind i that passes: looked for in i's block, and then in the table.
+fn next_near(table: &[u32], s: &[u8], test: Test, i: usize) -> usize
     ensures { λ r. ⌜ (Right test (now (s .entry)) (now (table .entry)) → i ≤ length (now (s .entry)) → r ≡ nextFrom test (now (s .entry)) i) ⌝ }
 {
     let b = i / 64 + 1;
@@ -163,6 +163,21 @@ pub fn next(table: &[u32], s: &[u8], test: Test, i: usize) -> usize
         }
     }
     look(s, test, end, s.len())
+}
+
+// The first place at or behind i that passes; the text's length where there is none. What stands behind the start of i's block
+// serves where it stands behind i.
+pub fn next(table: &[u32], s: &[u8], test: Test, i: usize) -> usize
+    ensures { λ r. ⌜ (Right test (now (s .entry)) (now (table .entry)) → i ≤ length (now (s .entry)) → r ≡ nextFrom test (now (s .entry)) i) ⌝ }
+{
+    let own = i / 64;
+    if own < table.len() {
+        let p = long(table[own]);
+        if i <= p {
+            return p;
+        }
+    }
+    next_near(table, s, test, i)
 }
 
 // Whether the name at a place is longer than so many bytes.

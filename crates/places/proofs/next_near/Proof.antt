@@ -1,7 +1,7 @@
 use Rattle.places.proofs.Blocks.{ask-near, ask-table, ask-far}
 use borrow.Author.Needs.{needs}
-use Rattle.places.proofs.next.Statement.{statement}
-use Rattle.places.proofs.next.Tie as tie
+use Rattle.places.proofs.next_near.Statement.{statement}
+use Rattle.places.proofs.next_near.Tie as tie
 
 add-b : tie.Need-add-b
 add-b c = search needs
@@ -33,8 +33,8 @@ look-requires-2 c κs = search needs
 returns-3 : tie.Need-returns-3
 returns-3 c = search ask-far
 
-pub next-spec : {M : Type 1} → statement M
-next-spec =
+pub next-near-spec : {M : Type 1} → statement M
+next-near-spec =
     tie.close
     (tie.spec
     add-b
