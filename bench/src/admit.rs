@@ -115,8 +115,11 @@ fn glued() {
     row("glued: each from another place, last ones first", &verses(2, &text(SOURCE, "", "xé", " y"), |k| 3 * (NODES - k)), false);
     let edge = |k: usize| (k % 65535 * 64).div_ceil(3) * 3;
     row("glued: each a block before its answer, three-byte characters", &verses(1, &text(SOURCE, "", "\u{2E80}", " y"), edge), false);
-    let lines = text(SOURCE, "", &format!("é{}", "\u{3000}".repeat(20) + "  "), "");
-    row("glued: a word and wide blanks in each block", &verses(1, &lines, |k| k % 65535 * 64), false);
+    // In a block of 64 bytes what stands before the Verse is of no use, and the rest is read.
+    let wide = format!("a é{}", "\u{3000}".repeat(20));
+    row("glued: a word and wide blanks in each block", &verses(1, &text(SOURCE, "", &wide, ""), |k| k % 65535 * 64 + 2), false);
+    let three = format!(" {}", "\u{2E80}".repeat(21));
+    row("glued: a blank and three-byte characters in each block", &verses(1, &text(SOURCE, "", &three, ""), |k| k % 65535 * 64 + 1), false);
     row("glued: words far apart", &verses(2, &text(SOURCE, "", &format!("xé{} ", "x".repeat(4092)), ""), |k| k % 1023 * 4096), true);
 }
 

@@ -155,11 +155,11 @@ module _ (p : Bytes → Bool) where
   unfolding firstAt
   first-from zero u h = omega arith
   first-from (suc d) [] h = absurd (omega arith)
-  first-from (suc d) (x ∷ u) h = go (p (x ∷ u)) refl
+  first-from (suc d) (x ∷ u) h = go (p (x ∷ u)) refl (first-from d u)
     where
-      go : (t : Bool) → p (x ∷ u) ≡ t → suc d + firstAt p (drop d u) ≡ firstAt p (x ∷ u)
-      go true e = absurd (omega (arith, first-hit (x ∷ u) e))
-      go false e = let m = first-miss (x ∷ u) (omega arith) e in omega (arith, m, first-from d u (omega (arith, m)))
+      go : (t : Bool) → p (x ∷ u) ≡ t → (d ≤ firstAt p u → d + firstAt p (drop d u) ≡ firstAt p u) → suc d + firstAt p (drop d u) ≡ firstAt p (x ∷ u)
+      go true e f = absurd (omega (arith, first-hit (x ∷ u) e))
+      go false e f = let m = first-miss (x ∷ u) (omega arith) e in omega (arith, m, f (omega (arith, m)))
 
 module _ (test : Test) (s : Bytes) (i : ℕ) where
   pub next-hit : passesAt test (drop i s) ≡ true → nextFrom test s i ≡ i
