@@ -57,11 +57,11 @@ fn book(filler: &str) -> Vec<u8> {
     file(&nodes, &[(0, 1, 3, 0), (1, 1, 2, 0)], b"pv", &source)
 }
 
-/// Verses that all span one text, of an entry whose name is so long.
-fn verses(count: usize, base: u16, text: &[u8]) -> Vec<u8> {
-    let mut nodes = vec![Node(0, 9, (count + 1) as u32, 0, 0)];
-    nodes.extend((0..count).map(|_| Node(7, 0, 0, 0, text.len() as u32)));
-    file(&nodes, &[(0, base, 2, 0)], &vec![b'v'; base.into()], text)
+/// Verses from given places up to the end of one source, of an entry whose name is so long.
+fn verses(base: u16, source: &[u8], start: impl Fn(usize) -> usize) -> Vec<u8> {
+    let mut nodes = vec![Node(0, 9, NODES as u32, 0, 0)];
+    nodes.extend((1..NODES).map(|k| Node(7, 0, 0, start(k) as u32, (source.len() - start(k)) as u32)));
+    file(&nodes, &[(0, base, 2, 0)], &vec![b'v'; base.into()], source)
 }
 
 fn best(runs: usize, f: &mut dyn FnMut() -> u32) -> (f64, u32) {
@@ -88,11 +88,39 @@ fn row(name: &str, f: &[u8], runs: usize, rust: bool) {
     println!();
 }
 
-fn long_word(front: &str, len: usize, back: &str) -> Vec<u8> {
+/// So many bytes: a front, a filler as often as it goes, and a back.
+fn text(len: usize, front: &str, filler: &str, back: &str) -> Vec<u8> {
     let mut s = front.as_bytes().to_vec();
+    while s.len() + filler.len() + back.len() <= len {
+        s.extend(filler.as_bytes());
+    }
     s.resize(len - back.len(), b'x');
     s.extend(back.as_bytes());
     s
+}
+
+/// Files whose every Verse's number would be cut inside a character. The Rust reads each text anew: the longer ones are not for it.
+fn glued() {
+    let row = |name: &str, f: &[u8], rust: bool| row(name, f, if rust { 1 } else { 3 }, rust);
+    let first = |_: usize| 0;
+    row("glued: a word of 1 KiB, then another", &verses(2, &text(1024, "\\vé", "x", " y"), first), true);
+    row("glued: a word of 16 KiB, then another", &verses(2, &text(16384, "\\vé", "x", " y"), first), false);
+    row("glued: a word of 4 MiB, then another", &verses(2, &text(SOURCE, "\\vé", "x", " y"), first), false);
+    row("glued: one word of 4 MiB", &verses(2, &text(SOURCE, "\\vé", "x", ""), first), true);
+    row("glued: a word, 4 MiB of blanks, another", &verses(2, &text(SOURCE, "\\vé", " ", " y"), first), false);
+    row("glued: the same, wide blanks", &verses(2, &text(SOURCE, "\\vé", "\u{3000}", " y"), first), false);
+    row("glued: a name of 16 KiB before the cut, 4 MiB", &verses(16384, &text(SOURCE, "v", "é", " y"), first), false);
+    row("glued: a name that ends before the cut", &verses(16384, &text(SOURCE, &"v".repeat(16380), "*éé", " y"), first), false);
+    row("glued: each from another place", &verses(2, &text(SOURCE, "", "xé", " y"), |k| 3 * k), false);
+    row("glued: each from another place, last ones first", &verses(2, &text(SOURCE, "", "xé", " y"), |k| 3 * (NODES - k)), false);
+    let edge = |k: usize| (k % 65535 * 64).div_ceil(3) * 3;
+    row("glued: each a block before its answer, three-byte characters", &verses(1, &text(SOURCE, "", "\u{2E80}", " y"), edge), false);
+    // In a block of 64 bytes what stands before the Verse is of no use, and the rest is read.
+    let wide = format!("a é{}", "\u{3000}".repeat(20));
+    row("glued: a word and wide blanks in each block", &verses(1, &text(SOURCE, "", &wide, ""), |k| k % 65535 * 64 + 2), false);
+    let three = format!(" {}", "\u{2E80}".repeat(21));
+    row("glued: a blank and three-byte characters in each block", &verses(1, &text(SOURCE, "", &three, ""), |k| k % 65535 * 64 + 1), false);
+    row("glued: words far apart", &verses(2, &text(SOURCE, "", &format!("xé{} ", "x".repeat(4092)), ""), |k| k % 1023 * 4096), true);
 }
 
 pub fn print() {
@@ -101,7 +129,6 @@ pub fn print() {
     for (f, _) in oracle::generate::limits() {
         row("limits", &f, 3, true);
     }
-    let all = NODES - 1;
-    row("verses over one word of 4 MiB, cut clear", &verses(all, 1, &long_word("\\v", SOURCE, "")), 3, false);
-    row("verses over one word of 1 KiB, second word at the end, cut", &verses(all, 2, &long_word("\\vé", 1024, " y")), 1, true);
+    row("verses over one word of 4 MiB, cut clear", &verses(1, &text(SOURCE, "\\v", "x", ""), |_| 0), 3, false);
+    glued();
 }

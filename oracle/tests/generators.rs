@@ -1,7 +1,7 @@
 //! Every generator makes what it is meant to make.
 
 use oracle::answer::{Answer, answer, answer_or_panic};
-use oracle::generate::{damaged, limits, links, random, small, structured};
+use oracle::generate::{damaged, glued, limits, links, random, small, structured};
 
 const SEED: u64 = 1;
 
@@ -50,6 +50,13 @@ fn damaged_tapes_get_the_number_meant() {
         seen[usize::from(got)] += 1;
     }
     assert!(seen.iter().all(|&count| count > 200), "{seen:?}");
+}
+
+#[test]
+fn glued_tapes_are_admitted_or_cut_inside_a_character() {
+    let mut seen = [0; 8];
+    (0..5_000).for_each(|number| seen[usize::from(answer_or_panic(&glued(SEED, number)).number())] += 1);
+    assert!(seen[0] > 500 && seen[5] > 500 && seen[0] + seen[5] == 5_000, "{seen:?}");
 }
 
 #[test]

@@ -1,16 +1,19 @@
 -- The parts of the rules that single functions decide.
 use mathlib.Core.Path.{_≡_}
 use mathlib.Core.Bool.{true}
-use mathlib.Core.Logic.{_↔_}
+use mathlib.Core.Logic.{_↔_, _⊎_}
+use mathlib.Core.List.{List}
 use Prim.Native.Nat.{ℕ, _+_, _≤_, _<_}
 use lib.ListN.{length, getD, drop}
 use Rattle.parts.specs.Bytes.{Bytes}
 use Rattle.chars.specs.Utf8.{isBoundary}
-use Rattle.tape.specs.File.{le32, entriesAt, namesAt, sourceAt, Tape, entryAt, infoAt}
+use Rattle.tape.specs.File.{le32, entriesAt, namesAt, sourceAt, Tape, nodeAt, entryAt, kindAt, infoAt}
 use Rattle.tape.specs.Name.{markerName}
 use Rattle.tape.specs.declared.Node.{Node}
 use Rattle.tape.specs.declared.Sections.{Sections}
-use Rattle.admit.specs.Rules.{GoodEntry, baseLen, LabelCut}
+use Rattle.places.specs.Seek.{Right}
+use Rattle.places.specs.declared.Test.the-variants.{Ender, Gap}
+use Rattle.admit.specs.Rules.{GoodEntry, baseLen, elementOf, LabelCut}
 
 -- 1: the offsets of a header are those of these counts
 pub record Offsets (file : Bytes) (c : Sections) : Type 0 where
@@ -43,6 +46,31 @@ pub record GoodSpan (source : Bytes) (n : Node) : Type 0 where
   pub start : isBoundary source (n .start) ≡ true
   pub end : isBoundary source (n .start + n .len) ≡ true
 
+-- 5: what is asked of a node but for its label
+pub record SoundNode (t : Tape) (k : ℕ) : Type 0 where
+  pub kind : kindAt t k ≤ 8
+  pub flags : nodeAt t k .flags .bits ≤ 3
+  pub root : (kindAt t k ≡ 0) ↔ (k ≡ 0)
+  pub inside : nodeAt t k .start + nodeAt t k .len ≤ length (t .source)
+  pub start : isBoundary (t .source) (nodeAt t k .start) ≡ true
+  pub end : isBoundary (t .source) (nodeAt t k .start + nodeAt t k .len) ≡ true
+  pub plain : (kindAt t k ≡ 6) ⊎ (kindAt t k ≡ 7) → elementOf (infoAt t k) ≡ 0
+
+abbrev pub SoundNodes : Tape → Type 0
+SoundNodes t = (k : ℕ) → k < length (t .nodes) → SoundNode t k
+
 -- 5: where a label is cut out of the marker name, the cut falls between characters
 abbrev pub GoodLabel : Tape → ℕ → Type 0
 GoodLabel t k = LabelCut t k → isBoundary (markerName t k) (baseLen (infoAt t k)) ≡ true
+
+-- 5: the label of a Verse
+abbrev pub GoodVerse : Tape → ℕ → Type 0
+GoodVerse t k = kindAt t k ≡ 7 → GoodLabel t k
+
+abbrev pub GoodVerses : Tape → Type 0
+GoodVerses t = (k : ℕ) → k < length (t .nodes) → GoodVerse t k
+
+-- tables of a source: of what ends a name, and of the gaps before words
+pub record Tables (source : Bytes) (enders gaps : List ℕ) : Type 0 where
+  pub names : Right Ender source enders
+  pub words : Right Gap source gaps

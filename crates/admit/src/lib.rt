@@ -1,5 +1,6 @@
 // Which tape files are admitted, and why the others are not: refusals 1 to 7, the lowest first.
 mod header;
+mod labels;
 mod names;
 mod nodes;
 

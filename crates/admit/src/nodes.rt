@@ -1,19 +1,17 @@
-// Refusal 5: the nodes.
+// Refusal 5: the nodes, their labels apart.
 ghost use mathlib.Core.Path.{_≡_};
 ghost use mathlib.Core.Bool.{true};
 ghost use mathlib.Core.Logic.{_↔_};
 ghost use Rattle.tape.specs.File.{tapeIn, infoAt};
-ghost use Rattle.tape.specs.Name.{strip as stripped};
-ghost use Rattle.admit.specs.Rules.{GoodNode, GoodNodes, baseLen, elementOf};
-ghost use Rattle.admit.specs.Pieces.{GoodShape, GoodSpan, GoodLabel};
+ghost use Rattle.admit.specs.Rules.{GoodNodes, elementOf};
+ghost use Rattle.admit.specs.Pieces.{GoodShape, GoodSpan, SoundNode, SoundNodes};
 use crate::header::long;
-use crate::names::short;
+use crate::labels::good_labels;
 use tape::Cursor;
 use tape::Info;
 use tape::Kind;
 use tape::Node;
 use tape::Sections;
-use words::Set;
 
 // Whether kind and flags are known, and Root is the node at index 0 and no other.
 fn good_shape(n: Node, k: u32) -> bool
@@ -56,16 +54,6 @@ fn element_of(known: Info) -> u8
     }
 }
 
-// How long the name of an entry is; unknown counts 0.
-fn base_len(known: Info) -> usize
-    ensures { λ r. ⌜ r ≡ baseLen known ⌝ }
-{
-    match known {
-        Info::Known(e) => short(e.len),
-        Info::Unknown => 0,
-    }
-}
-
 // Whether a node's entry stands for no element of its own.
 fn is_plain(file: &[u8], t: Sections, k: u32) -> bool
     ensures { λ r. ⌜ (r ≡ true) ↔ elementOf (infoAt (tapeIn t (now (file .entry))) k) ≡ 0 ⌝ }
@@ -74,38 +62,9 @@ fn is_plain(file: &[u8], t: Sections, k: u32) -> bool
     element_of(c.marker_info(file, t)) == 0
 }
 
-// A text without a byte that it may begin with.
-fn strip(s: &[u8], x: u8) -> &[u8]
-    ensures { λ r. ⌜ now r ≡ stripped x (now (s .entry)) ⌝ }
-{
-    if parts::begins_with(s, &[x]) {
-        parts::from(s, 1)
-    } else {
-        s
-    }
-}
-
-// Whether a label that is cut out of the marker name is cut between characters. Name and words are looked for only where the byte
-// behind the cut continues a character: there a label without a second word is refused, so a whole text is passed at most once.
-fn good_label(file: &[u8], t: Sections, k: u32) -> bool
-    ensures { λ r. ⌜ (r ≡ true) ↔ GoodLabel (tapeIn t (now (file .entry))) k ⌝ }
-{
-    let c = Cursor { at: k };
-    let base = base_len(c.marker_info(file, t));
-    let text = c.text(file, t);
-    if chars::is_boundary(strip(strip(text, b'\\'), b'+'), base) {
-        return true;
-    }
-    let name = c.marker_name(file, t);
-    if name.len() <= base {
-        return true;
-    }
-    words::nth_word(text, Set::Unicode, 1).len != 0
-}
-
-// What is asked of a node.
-fn good_node(file: &[u8], t: Sections, k: u32) -> bool
-    ensures { λ r. ⌜ (r ≡ true) ↔ GoodNode (tapeIn t (now (file .entry))) k ⌝ }
+// What is asked of a node but for its label.
+fn sound_node(file: &[u8], t: Sections, k: u32) -> bool
+    ensures { λ r. ⌜ (r ≡ true) ↔ SoundNode (tapeIn t (now (file .entry))) k ⌝ }
 {
     let n = tape::node_at(file, t, k);
     if !good_shape(n, k) {
@@ -117,26 +76,32 @@ fn good_node(file: &[u8], t: Sections, k: u32) -> bool
     if n.kind.code == Kind::CHAPTER {
         return is_plain(file, t, k);
     }
-    if n.kind.code != Kind::VERSE {
-        return true;
+    if n.kind.code == Kind::VERSE {
+        return is_plain(file, t, k);
     }
-    if !is_plain(file, t, k) {
-        return false;
+    true
+}
+
+fn sound_nodes(file: &[u8], t: Sections) -> bool
+    ensures { λ r. ⌜ (r ≡ true) ↔ SoundNodes (tapeIn t (now (file .entry))) ⌝ }
+{
+    let n = t.nodes;
+    let mut k: u32 = 0;
+    while k < n {
+        if !sound_node(file, t, k) {
+            return false;
+        }
+        k += 1;
     }
-    good_label(file, t, k)
+    true
 }
 
 // 5: every node is good.
 pub fn good_nodes(file: &[u8], t: Sections) -> bool
     ensures { λ r. ⌜ (r ≡ true) ↔ GoodNodes (tapeIn t (now (file .entry))) ⌝ }
 {
-    let n = t.nodes;
-    let mut k: u32 = 0;
-    while k < n {
-        if !good_node(file, t, k) {
-            return false;
-        }
-        k += 1;
+    if !sound_nodes(file, t) {
+        return false;
     }
-    true
+    good_labels(file, t)
 }

@@ -9,7 +9,7 @@ use lib.Dec.{leb, eqb}
 use borrow.Author.Tests.{ne-eqb, le-leb, lt-leb, eqb-false, leb-true, leb-false}
 use Rattle.parts.proofs.Laws.{and-true as both-true, drop-at}
 use Rattle.chars.specs.Range.{Range, _to_, within, inAny}
-use Rattle.chars.specs.Space.{whiteSpace, isWhite}
+use Rattle.chars.specs.Space.{whiteSpace, isWhite, found}
 
 abbrev pub table : List ℕ
 table =
@@ -21,11 +21,6 @@ table =
 unfoldable pub member : ℕ → List ℕ → Bool
 member c [] = false
 member c (x ∷ xs) = eqb x c || member c xs
-
--- the search: up to the first entry that is not less than the number
-unfoldable pub found : ℕ → List ℕ → Bool
-found c [] = false
-found c (x ∷ xs) = cond (leb c x) (eqb x c) (found c xs)
 
 -- a list that rises, from a limit on
 unfoldable pub rising : ℕ → List ℕ → Bool
@@ -130,3 +125,6 @@ module _ (c : ℕ) (xs : List ℕ) (i : ℕ) {t : Bool} (h : i < length xs) wher
 pub white-end : (c : ℕ) (xs : List ℕ) (i : ℕ) {t : Bool} → length xs ≤ i → found c (drop i xs) ≡ t → false ≡ t
 unfolding found
 white-end c xs i h inv = sym (rw (drop-of-length-le xs h)) ∙ inv
+
+pub white-listed : (c : ℕ) {r : Bool} → r ≡ found c table → r ≡ isWhite c
+white-listed c e = e ∙ white-start c

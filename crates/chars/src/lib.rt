@@ -6,7 +6,7 @@ ghost use Prim.Native.Nat.{_-_, _≤_};
 ghost use lib.ListN.{getD, drop};
 ghost use Rattle.chars.specs.Range.{_to_, within};
 ghost use Rattle.chars.specs.Utf8.{seqLen, point, firstChar, isUtf8 as isUtf8Of, isBoundary};
-ghost use Rattle.chars.specs.Space.{isWhite, isAsciiWhite};
+ghost use Rattle.chars.specs.Space.{isWhite, isAsciiWhite, found};
 use parts::byte_at;
 use parts::from;
 
@@ -239,19 +239,27 @@ pub fn is_boundary(s: &[u8], at: usize) -> bool
     at == s.len()
 }
 
-// Whether a code point is Unicode white space.
-pub fn is_white(code: u32) -> bool
-    ensures { λ r. ⌜ r ≡ isWhite code ⌝ }
+// Whether a rising table holds a number.
+fn listed(table: &[u32], code: u32) -> bool
+    ensures { λ r. ⌜ r ≡ found code (now (table .entry)) ⌝ }
 {
     let mut i = 0;
-    while i < WHITE.len() {
-        let w = WHITE[i];
+    while i < table.len() {
+        let w = table[i];
         if code <= w {
             return w == code;
         }
         i += 1;
     }
     false
+}
+
+// Whether a code point is Unicode white space. The table is copied once, where an index into a constant would copy it each time.
+pub fn is_white(code: u32) -> bool
+    ensures { λ r. ⌜ r ≡ isWhite code ⌝ }
+{
+    let table = WHITE;
+    listed(&table, code)
 }
 
 // Whether a byte is ASCII white space.

@@ -7,6 +7,8 @@ pub use kinds::Category;
 pub use kinds::Element;
 pub use kinds::Flags;
 pub use kinds::Kind;
+pub use name::bare;
+pub use name::ends_name;
 ghost use mathlib.Core.Path.{_≡_};
 ghost use lib.ListN.{getD};
 ghost use Rattle.parts.specs.Bytes.{part, same};

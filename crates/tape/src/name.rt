@@ -14,14 +14,14 @@ fn strip(s: &[u8], x: u8) -> &[u8]
 }
 
 // A text behind an optional `\` and an optional `+`.
-fn bare(s: &[u8]) -> &[u8]
+pub fn bare(s: &[u8]) -> &[u8]
     ensures { λ r. ⌜ now r ≡ bareOf (now (s .entry)) ⌝ }
 {
     strip(strip(s, b'\\'), b'+')
 }
 
 // Whether a code point ends a name.
-fn ends_name(code: u32) -> bool
+pub fn ends_name(code: u32) -> bool
     ensures { λ r. ⌜ r ≡ endsName code ⌝ }
 {
     if chars::is_white(code) {

@@ -9,6 +9,7 @@ use oracle::generate;
 const USAGE: &str = "usage: gen structured SEED COUNT [FIRST]
        gen random SEED COUNT [FIRST]
        gen damaged SEED COUNT [FIRST]
+       gen glued SEED COUNT [FIRST]
        gen small SIZE
        gen links SIZE
        gen limits";
@@ -41,6 +42,7 @@ fn tapes(args: &[String]) -> Option<Tapes> {
         "structured" => seeded(generate::structured),
         "random" => seeded(generate::random),
         "damaged" => seeded(|seed, i| generate::damaged(seed, i).file),
+        "glued" => seeded(generate::glued),
         "small" => Some(Box::new(generate::small(number(1)? as usize))),
         "links" => Some(Box::new(generate::links(number(1)? as usize))),
         "limits" => Some(Box::new(generate::limits().map(|t| t.0))),

@@ -1,6 +1,7 @@
 //! Generators of tape files. Each tape is determined by its mode, the seed and the tape's number.
 
 mod damaged;
+mod glued;
 mod limits;
 mod links;
 mod pool;
@@ -10,6 +11,7 @@ mod small;
 mod structured;
 
 pub use damaged::{Damaged, damaged};
+pub use glued::glued;
 pub use limits::limits;
 pub use links::links;
 pub use random::random;

@@ -1,49 +1,19 @@
-use Rattle.admit.proofs.NodesRule.{nodes-broken, nodes-kept, nodes-more}
-use Prim.Native.Nat.{ℕ, _-_, _<_}
-use Rattle.tape.specs.File.{tapeIn}
-use Rattle.admit.specs.Rules.{GoodNode}
-use borrow.Author.Count.{below-none}
+use Rattle.admit.proofs.NodesRule.{good-unsound, good-by-labels}
 use borrow.Author.Needs.{needs}
 use Rattle.admit.proofs.nodes.good_nodes.Statement.{statement}
 use Rattle.admit.proofs.nodes.good_nodes.Tie as tie
 
-abbrev Inv-loop : tie.InvT-loop
-Inv-loop file t n k₀ k = (i : ℕ) → i < k → GoodNode (tapeIn t file) i
+sound-nodes-requires : tie.Need-sound-nodes-requires
+sound-nodes-requires c κs = search needs
 
-abbrev μ-loop : tie.MeasureT-loop
-μ-loop file t n k₀ k = n - k
+returns : tie.Need-returns
+returns c = search good-unsound
 
-loop-holds : tie.Need-loop-holds Inv-loop μ-loop
-loop-holds c = below-none _
+good-labels-requires : tie.Need-good-labels-requires
+good-labels-requires c κs = search needs
 
-good-node-requires : tie.Need-good-node-requires Inv-loop μ-loop
-good-node-requires c κs = search needs
-
-returns : tie.Need-returns Inv-loop μ-loop
-returns c = search nodes-broken
-
-add-k : tie.Need-add-k Inv-loop μ-loop
-add-k c = search needs
-
-loop-less : tie.Need-loop-less Inv-loop μ-loop
-loop-less c = search needs
-
-loop-again : tie.Need-loop-again Inv-loop μ-loop
-loop-again c = search nodes-more
-
-returns-2 : tie.Need-returns-2 Inv-loop μ-loop
-returns-2 c = search nodes-kept
+returns-2 : tie.Need-returns-2
+returns-2 c = search good-by-labels
 
 pub good-nodes-spec : {M : Type 1} → statement M
-good-nodes-spec =
-    tie.close
-    (tie.spec
-    Inv-loop
-    μ-loop
-    loop-holds
-    good-node-requires
-    returns
-    add-k
-    loop-less
-    loop-again
-    returns-2)
+good-nodes-spec = tie.close (tie.spec sound-nodes-requires returns good-labels-requires returns-2)

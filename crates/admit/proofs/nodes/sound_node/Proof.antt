@@ -1,7 +1,7 @@
-use Rattle.admit.proofs.NodesRule.{node-shape, node-span, node-chapter, node-other, node-element, node-verse}
+use Rattle.admit.proofs.NodesRule.{node-chapter, node-other, node-shape, node-span, node-verse}
 use borrow.Author.Needs.{needs}
-use Rattle.admit.proofs.nodes.good_node.Statement.{statement}
-use Rattle.admit.proofs.nodes.good_node.Tie as tie
+use Rattle.admit.proofs.nodes.sound_node.Statement.{statement}
+use Rattle.admit.proofs.nodes.sound_node.Tie as tie
 
 node-at-requires : tie.Need-node-at-requires
 node-at-requires c κs = search needs
@@ -27,23 +27,17 @@ is-plain-requires c κs = search needs
 returns-3 : tie.Need-returns-3
 returns-3 c = search node-chapter
 
-returns-4 : tie.Need-returns-4
-returns-4 c = search node-other
-
 is-plain-requires-2 : tie.Need-is-plain-requires-2
 is-plain-requires-2 c κs = search needs
 
+returns-4 : tie.Need-returns-4
+returns-4 c = search node-verse
+
 returns-5 : tie.Need-returns-5
-returns-5 c = search node-element
+returns-5 c = search node-other
 
-good-label-requires : tie.Need-good-label-requires
-good-label-requires c κs = search needs
-
-returns-6 : tie.Need-returns-6
-returns-6 c = search node-verse
-
-pub good-node-spec : {M : Type 1} → statement M
-good-node-spec =
+pub sound-node-spec : {M : Type 1} → statement M
+sound-node-spec =
     tie.close
     (tie.spec
     node-at-requires
@@ -54,8 +48,6 @@ good-node-spec =
     returns-2
     is-plain-requires
     returns-3
-    returns-4
     is-plain-requires-2
-    returns-5
-    good-label-requires
-    returns-6)
+    returns-4
+    returns-5)

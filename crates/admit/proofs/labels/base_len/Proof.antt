@@ -1,7 +1,7 @@
-use Rattle.admit.proofs.NodesRule.{base-known, base-unknown}
+use Rattle.admit.proofs.LabelsRule.{base-known, base-unknown}
 use borrow.Author.Needs.{needs}
-use Rattle.admit.proofs.nodes.base_len.Statement.{statement}
-use Rattle.admit.proofs.nodes.base_len.Tie as tie
+use Rattle.admit.proofs.labels.base_len.Statement.{statement}
+use Rattle.admit.proofs.labels.base_len.Tie as tie
 
 enum-known-known : tie.Need-enum-known-known
 enum-known-known c = search needs

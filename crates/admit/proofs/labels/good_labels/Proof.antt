@@ -1,0 +1,19 @@
+use Rattle.admit.proofs.LabelsRule.{labels-clear}
+use borrow.Author.Needs.{needs}
+use Rattle.admit.proofs.labels.good_labels.Statement.{statement}
+use Rattle.admit.proofs.labels.good_labels.Tie as tie
+
+all-clear-requires : tie.Need-all-clear-requires
+all-clear-requires c κs = search needs
+
+returns : tie.Need-returns
+returns c = search labels-clear
+
+judged-requires : tie.Need-judged-requires
+judged-requires c κs = search needs
+
+returns-2 : tie.Need-returns-2
+returns-2 c = search needs
+
+pub good-labels-spec : {M : Type 1} → statement M
+good-labels-spec = tie.close (tie.spec all-clear-requires returns judged-requires returns-2)

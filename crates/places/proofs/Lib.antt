@@ -1,0 +1,5 @@
+pub mod Dulls
+pub mod Firsts
+pub mod Blocks
+pub mod Runs
+pub mod Spans
