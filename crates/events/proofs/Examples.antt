@@ -1,4 +1,4 @@
--- Document 01's examples 1 to 10 and 12: one table, each row by computation.
+-- Document 01's examples 1 to 12: one table, each row by computation.
 use mathlib.Core.Path.{refl}
 use mathlib.Core.List.{List, [], _∷_, _++_}
 use Prim.Native.Nat.{ℕ, zero, suc}
@@ -73,6 +73,8 @@ table =
     ∷ row (tapeOf (block p "\\p" (inline w "\\w" (attribute "|k=\"x")))) 300 0 81 (para "<char style=\"w\" k=\"x\"></char>") by refl
     -- 10
     ∷ row (tapeOf (verse v "\\v 1" ++ inline va "\\va" (words " 2") ++ inline va "\\va" (words " 3"))) 300 0 152 (usx "\n  <para style=\"p\"><verse number=\"1\" style=\"v\" altnumber=\"2\" sid=\" 1:1\" /><char style=\"va\">3</char></para><verse eid=\" 1:1\" />") by refl
+    -- 11: its text; the checker's answer to it stands in the checker's table
+    ∷ row (tapeOf (verse v "\\v 1\"" ++ words " x")) 300 0 127 (usx "\n  <para style=\"p\"><verse number=\"1&quot;\" style=\"v\" sid=\" 1:1&quot;\" />x</para><verse eid=\" 1:1\"\" />") by refl
     -- 12
     ∷ row (tapeOf (block tr "\\tr" (inline tc "\\tcr2" (words "a") ++ inline tc "\\thc1" (words "b") ++ inline tc "\\tc1" (words "c")))) 300 0 221 (usx "\n  <table>\n    <row style=\"tr\">\n      <cell style=\"tcr2\" align=\"end\">a</cell>\n      <cell style=\"thc1\" align=\"center\">b</cell>\n      <cell style=\"tc1\" align=\"start\">c</cell>\n    </row>\n  </table>") by refl
     ∷ []
