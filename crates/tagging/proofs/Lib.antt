@@ -1,1 +1,5 @@
 pub mod Roles
+pub mod Written
+pub mod Opens
+pub mod Closes
+pub mod Splits
