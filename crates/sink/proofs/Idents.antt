@@ -46,7 +46,7 @@ digit-plain x n m =
     let h = decimal-byte n x m in
     plain-rest true x (λ e. absurd (omega (arith, h))) (λ e. absurd (omega (arith, h))) (λ e. absurd (omega (arith, h))) (λ e. absurd (omega (arith, h)))
 
-shown-decimal : (raw : Bool) (n : ℕ) → shownAs raw (decimal n) ≡ decimal n
+pub shown-decimal : (raw : Bool) (n : ℕ) → shownAs raw (decimal n) ≡ decimal n
 unfolding shownAs
 shown-decimal true n = refl
 shown-decimal false n = escape-plain true (decimal n) (λ x m. digit-plain x n m)

@@ -56,13 +56,8 @@ pub fn end_chapter(w: Window, out: &mut [u8], source: &[u8], held: OpenChapter) 
         OpenChapter::NoChapter => w,
         OpenChapter::Chapter(code, number) => {
             let a = put_run(w, out, b"<chapter eid=\"");
-            let z = put_chapter_id(
-                a,
-                out,
-                parts::part(source, code.start, code.len),
-                number,
-                true,
-            );
+            let book = parts::part(source, code.start, code.len);
+            let z = put_chapter_id(a, out, book, number, true);
             put_run(z, out, b"\" />")
         }
     }

@@ -2,11 +2,11 @@
 mod ident;
 mod plain;
 
-use marks::Marks;
 pub use ident::end_chapter;
 pub use ident::end_verse;
 pub use ident::put_chapter_id;
 pub use ident::put_verse_id;
+use marks::Marks;
 pub use plain::line;
 pub use plain::literal;
 use window::Window;

@@ -1,0 +1,63 @@
+use Rattle.milestone.proofs.Marked.{book-emitted}
+use borrow.Author.Needs.{needs}
+use Rattle.milestone.proofs.book.Statement.{statement}
+use Rattle.milestone.proofs.book.Tie as tie
+use Rattle.milestone.proofs.book.Reads as reads
+use Rattle.milestone.proofs.book.Lts as lts
+use Rattle.marks.proofs.Marks.named_book.Reads as named-book-reads
+use Rattle.milestone.proofs.put_book.Reads as put-book-reads
+use Rattle.parts.proofs.part.Reads as part-reads
+use Rattle.render.proofs.book_code.Reads as book-code-reads
+use Rattle.render.proofs.book_rest.Reads as book-rest-reads
+use Rattle.sink.proofs.Sink.window.Reads as window-reads
+use Rattle.tape.proofs.source.Reads as source-reads
+
+-- src/lib.rt:208:9
+book-code-requires : tie.Need-book-code-requires
+book-code-requires c κs = search needs
+
+-- src/lib.rt:209:28
+source-requires : tie.Need-source-requires
+source-requires c κs = search needs
+
+-- src/lib.rt:209:9
+part-requires : tie.Need-part-requires
+part-requires c κs = search needs
+
+-- src/lib.rt:210:22
+window-requires : tie.Need-window-requires
+window-requires c κs = search needs
+
+-- src/lib.rt:210:48
+book-rest-requires : tie.Need-book-rest-requires
+book-rest-requires c κs = search needs
+
+-- src/lib.rt:210:9
+put-book-requires : tie.Need-put-book-requires
+put-book-requires c κs = search needs
+
+-- src/lib.rt:211:9
+named-book-requires : tie.Need-named-book-requires
+named-book-requires c κs = search needs
+
+-- src/lib.rt:204:1
+same-length : tie.Need-same-length
+same-length c = search needs
+
+-- src/lib.rt:204:1
+returns : tie.Need-returns
+returns c = search book-emitted
+
+pub book-spec : {M : Type 1} → statement M
+book-spec =
+    tie.close
+    (tie.spec
+    book-code-requires
+    source-requires
+    part-requires
+    window-requires
+    book-rest-requires
+    put-book-requires
+    named-book-requires
+    same-length
+    returns)

@@ -1,0 +1,48 @@
+use Rattle.milestone.proofs.Marked.{verse-sid}
+use borrow.Author.Needs.{needs}
+use Rattle.milestone.proofs.put_verse_sid.Statement.{statement}
+use Rattle.milestone.proofs.put_verse_sid.Tie as tie
+use Rattle.milestone.proofs.put_verse_sid.Reads as reads
+use Rattle.milestone.proofs.put_verse_sid.Lts as lts
+use Rattle.sink.proofs.put_verse_id.Reads as put-verse-id-reads
+use Rattle.window.proofs.put_run.Reads as put-run-reads
+
+-- src/lib.rt:88:29
+slice-aggregate-put-run : tie.Need-slice-aggregate-put-run
+slice-aggregate-put-run c = search needs
+
+-- src/lib.rt:88:9
+put-run-requires : tie.Need-put-run-requires
+put-run-requires c κs = search needs
+
+-- src/lib.rt:89:9
+put-verse-id-requires : tie.Need-put-verse-id-requires
+put-verse-id-requires c κs = search needs
+
+-- src/lib.rt:90:21
+slice-aggregate-put-run-2 : tie.Need-slice-aggregate-put-run-2
+slice-aggregate-put-run-2 c = search needs
+
+-- src/lib.rt:90:5
+put-run-requires-2 : tie.Need-put-run-requires-2
+put-run-requires-2 c κs = search needs
+
+-- src/lib.rt:85:1
+same-length : tie.Need-same-length
+same-length c = search needs
+
+-- src/lib.rt:85:1
+returns : tie.Need-returns
+returns c = search verse-sid
+
+pub put-verse-sid-spec : {M : Type 1} → statement M
+put-verse-sid-spec =
+    tie.close
+    (tie.spec
+    slice-aggregate-put-run
+    put-run-requires
+    put-verse-id-requires
+    slice-aggregate-put-run-2
+    put-run-requires-2
+    same-length
+    returns)
