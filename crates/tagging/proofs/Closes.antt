@@ -1,7 +1,6 @@
 -- What closes a marker.
-use mathlib.Core.Path.{_≡_, refl, sym, ap, _∙_}
-use mathlib.Core.List.{List, [], _∷_, _++_}
-use mathlib.Core.Option.{Option, none, some}
+use mathlib.Core.Path.{_≡_, _∙_}
+use mathlib.Core.List.{[], _∷_}
 use Prim.Native.Nat.{ℕ}
 use Rattle.parts.specs.Bytes.{Bytes, b}
 use Rattle.tape.specs.File.{Tape}
@@ -9,7 +8,7 @@ use Rattle.attrs.specs.Walk.{soughtOf}
 use Rattle.attrs.specs.declared.Value.{Value}
 use Rattle.attrs.specs.declared.Sought.{Sought}
 use Rattle.attrs.specs.declared.Sought.the-variants.{At as Found, Nowhere}
-use Rattle.tags.specs.Items.{close, bytesOf}
+use Rattle.tags.specs.Items.{close, bytesOf, render}
 use Rattle.tags.specs.Names.{nameOf}
 use Rattle.events.specs.Walk.{linkOf, char}
 use Rattle.events.specs.Emit.{Desk, emitAll}
@@ -18,7 +17,7 @@ use Rattle.sink.specs.declared.Sink.{Sink}
 use Rattle.tagging.specs.declared.role.Role.{Role}
 use Rattle.tagging.specs.declared.role.Role.the-variants.{UnknownBlock, UnknownInline, Unwritten, Figure, Ref, Id, Note, Ms, Char, Para}
 use Rattle.tagging.specs.Roles.{roleIn, closing, linkCloses}
-use Rattle.tagging.proofs.Written.{one-on, two-on}
+use Rattle.tagging.proofs.Written.{one-on, items-on}
 
 -- ---- a char
 
@@ -30,8 +29,8 @@ module _ (t : Tape) (k : ℕ) {link : Sought} (el : soughtOf (t .source) link �
 
   pub link-closed : {x : Value} → link ≡ Found x → ((source : Bytes) → deskIn source r last ≡ putOn (deskIn source sink out) (b "</ref></char>"))
       → deskIn (t .source) r last ≡ emitAll (deskIn (t .source) sink out) (closing t k char)
-  unfolding closing linkCloses soughtOf bytesOf nameOf
-  link-closed e put = rw (← el, e) (put (t .source) ∙ two-on (deskIn (t .source) sink out) (close 16) (close 6))
+  unfolding closing linkCloses soughtOf bytesOf nameOf render
+  link-closed e put = rw (← el, e) (put (t .source) ∙ items-on (deskIn (t .source) sink out) (close 16 ∷ close 6 ∷ []))
 
 -- ---- by role
 

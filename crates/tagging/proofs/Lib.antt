@@ -2,4 +2,5 @@ pub mod Roles
 pub mod Written
 pub mod Opens
 pub mod Closes
+pub mod Leaves
 pub mod Splits

@@ -1,8 +1,7 @@
 -- What a MarkerOpen is written as, from what was read.
-use mathlib.Core.Path.{_≡_, refl, sym, ap, _∙_}
+use mathlib.Core.Path.{_≡_, sym, ap, _∙_}
 use mathlib.Core.Bool.{Bool, true, false, not}
-use mathlib.Core.List.{List}
-use mathlib.Core.Option.{Option, none}
+use mathlib.Core.Option.{Option}
 use Prim.Native.Nat.{ℕ}
 use borrow.Author.Tests.{eq-eqb, ne-eqb, not-true, not-false}
 use Rattle.parts.specs.Bytes.{Bytes, b, same}
@@ -29,7 +28,7 @@ use Rattle.attrs.specs.declared.Sought.the-variants.{Nowhere}
 use Rattle.figure.specs.Figure.{legacyAt}
 use Rattle.events.specs.Walk.{Role as Written, roleOf, roleBy, roleOfShape, roleOfCategory, isRef, linkOf}
 use Rattle.tagging.specs.declared.role.Role.{Role}
-use Rattle.tagging.specs.declared.role.Role.the-variants.{UnknownBlock, UnknownInline, Unwritten, Figure, Ref, Id, Note, Ms, Char, Para}
+use Rattle.tagging.specs.declared.role.Role.the-variants.{Unwritten, Figure, Ref, Id, Note, Ms, Char, Para}
 use Rattle.tagging.specs.Roles.{roleIn, roleOfEntry, isWhole, canLink}
 
 -- ---- by category

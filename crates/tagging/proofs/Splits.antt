@@ -1,19 +1,18 @@
 -- A marker is what opens it, what stands inside and what closes it; or a leaf.
-use mathlib.Core.Path.{_≡_, refl, sym, ap, _∙_}
-use mathlib.Core.Bool.{Bool, true, false, not, cond}
+use mathlib.Core.Path.{_≡_, refl, ap}
+use mathlib.Core.Bool.{Bool, not, cond}
 use mathlib.Core.List.{List, [], _∷_, _++_, append-assoc}
 use mathlib.Core.Option.{Option, none, some}
 use Prim.Native.Nat.{ℕ}
 use Rattle.parts.specs.Bytes.{Bytes, b}
 use Rattle.tape.specs.File.{Tape}
-use Rattle.tape.specs.Tree.{firstChild}
 use Rattle.tape.specs.Name.{markerName}
 use Rattle.tape.specs.declared.Step.{Step}
 use Rattle.tape.specs.declared.Step.the-variants.{At, Done}
 use Rattle.render.specs.First.{found}
 use Rattle.attrs.specs.Attr.{attributesOf}
 use Rattle.figure.specs.Figure.{legacyAt}
-use Rattle.tags.specs.Items.{Attr, start, close}
+use Rattle.tags.specs.Items.{start, close}
 use Rattle.events.specs.Event.{Event, item, collected, element}
 use Rattle.events.specs.Walk.{style, styled, unclosed, linkOf, linked, figureAs, markerAs, Manner, asInline, Role, unknownBlock, unknownInline, unwritten, figure, ref, id, note, ms, char, para}
 use Rattle.tagging.specs.Roles.{isWhole, mannerOf, linkOpens, linkCloses, opening, closing, oldFigure, leafOf}

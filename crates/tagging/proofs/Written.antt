@@ -1,20 +1,20 @@
--- Tags as bytes, and the bytes of one event or two.
+-- Tags as bytes, and the bytes of events.
 use mathlib.Core.Path.{_≡_, refl, sym, ap, _∙_}
 use mathlib.Core.Bool.{true}
-use mathlib.Core.List.{List, [], _∷_, _++_, append-assoc, append-nil}
+use mathlib.Core.List.{List, [], _∷_, _++_, map, append-assoc, append-nil}
 use Prim.Native.Nat.{ℕ}
 use Rattle.parts.specs.Bytes.{Bytes, b}
 use Rattle.chars.specs.Escape.{escape, escaped as escapedByte}
 use Rattle.window.specs.Page.{Page, pageOf, paint}
 use Rattle.window.specs.declared.Window.{Window}
 use Rattle.window.proofs.Paint.{paint-append}
-use Rattle.tags.specs.Items.{Attr, Item, start, empty, valueOf, attrBytes, attrsBytes, bytesOf}
+use Rattle.tags.specs.Items.{Attr, Item, start, empty, valueOf, attrBytes, attrsBytes, bytesOf, render}
 use Rattle.tags.specs.Names.{nameOf}
-use Rattle.events.specs.Event.{Event, item, rawly, escaped}
+use Rattle.events.specs.Event.{item, rawly, escaped}
 use Rattle.events.specs.Emit.{Desk, emit, emitAll}
 use Rattle.sink.specs.Desk.{windowIn, overBy, deskIn, putOn}
 use Rattle.sink.specs.declared.Sink.{Sink}
-use Rattle.sink.proofs.Chains.{item-on, desk-item}
+use Rattle.sink.proofs.Chains.{item-on, desk-on, desk-item}
 
 -- ---- events
 
@@ -27,19 +27,27 @@ put-apart : (d : Desk) (x y : Bytes) → putOn d (x ++ y) ≡ putOn (putOn d x) 
 unfolding putOn
 put-apart d x y = ap (λ (p : Page). record { page = p; state = d .state }) (sym (paint-append (d .page) x y))
 
--- two items are the bytes of one and the bytes of the other
-pub two-on : (d : Desk) (i j : Item) → putOn d (bytesOf i ++ bytesOf j) ≡ emitAll d (item i ∷ item j ∷ [])
-unfolding emitAll
-two-on d i j =
-    put-apart d (bytesOf i) (bytesOf j)
-    ∙ ap (λ (e : Desk). putOn e (bytesOf j)) (item-on d i)
-    ∙ item-on (emit d (item i)) j
+put-none : (d : Desk) → putOn d [] ≡ d
+unfolding putOn paint
+put-none d = refl
+
+-- items are their bytes
+pub items-on : (d : Desk) (is : List Item) → putOn d (render is) ≡ emitAll d (map item is)
+unfolding emitAll render
+items-on d [] = put-none d
+items-on d (i ∷ is) =
+    put-apart d (bytesOf i) (render is) ∙ ap (λ (e : Desk). putOn e (render is)) (item-on d i) ∙ items-on (emit d (item i)) is
 
 -- what is painted through the window of a sink, as one event
 pub desk-one : (sink : Sink) {w v : Window} {r : Sink} (out : Bytes) {last : Bytes} (i : Item) → w ≡ windowIn sink → pageOf v last ≡ paint (pageOf w out) (bytesOf i) → r ≡ overBy sink v
     → (source : Bytes) → deskIn source r last ≡ emitAll (deskIn source sink out) (item i ∷ [])
 unfolding emitAll
 desk-one sink out i ew ev er source = desk-item sink out i ew ev er source
+
+-- and as several
+pub desk-items : (sink : Sink) {w v : Window} {r : Sink} (out : Bytes) {last : Bytes} (is : List Item) → w ≡ windowIn sink → pageOf v last ≡ paint (pageOf w out) (render is)
+    → r ≡ overBy sink v → (source : Bytes) → deskIn source r last ≡ emitAll (deskIn source sink out) (map item is)
+desk-items sink out is ew ev er source = desk-on sink out (render is) ew ev er source ∙ items-on (deskIn source sink out) is
 
 -- ---- attributes
 
@@ -113,3 +121,13 @@ pub note-bytes : (caller name : Bytes) (qs : List Attr)
     ≡ bytesOf (start 7 (escaped (b "caller") caller ∷ rawly (b "style") name ∷ qs))
 unfolding bytesOf nameOf attrsBytes attrBytes valueOf escaped rawly
 note-bytes caller name qs = simp append-assoc
+
+-- ---- the tags of a leaf
+
+pub empty-para-bytes : (name : Bytes) → b "<para style=\"" ++ (name ++ b "\" />") ≡ bytesOf (empty 5 (rawly (b "style") name ∷ []))
+unfolding nameOf attrsBytes
+empty-para-bytes name = sym (empty-styled 5 name [])
+
+pub ms-bytes : (name : Bytes) (qs : List Attr) → (b "<ms style=\"" ++ (name ++ b "\"")) ++ (attrsBytes qs ++ b " />") ≡ bytesOf (empty 8 (rawly (b "style") name ∷ qs))
+unfolding nameOf
+ms-bytes name qs = ap (λ (z : Bytes). b "<ms style=\"" ++ z) (append-assoc name (b "\"") (attrsBytes qs ++ b " />")) ∙ sym (empty-styled 8 name qs)

@@ -17,7 +17,7 @@ use Rattle.attrs.specs.Attr.{attributesOf}
 use Rattle.attrs.specs.Walk.{firstOf}
 use Rattle.figure.specs.Figure.{legacyAt, legacyPairs, captionOf}
 use Rattle.tags.specs.Items.{start, empty, close, text}
-use Rattle.events.specs.Event.{Event, item, book, rawly, escaped, perhaps, collected, element}
+use Rattle.events.specs.Event.{Event, item, book, escaped, perhaps, collected, element}
 use Rattle.events.specs.Walk.{style, styled, unclosed, Manner, asInline, asNote, Role, unknownBlock, unknownInline, unwritten, figure, ref, id, note, ms, char, para, roleOfCategory, isRef, linkOf}
 use Rattle.tagging.specs.declared.role.Role.{Role as Code}
 use Rattle.tagging.specs.declared.role.Role.the-variants.{UnknownBlock, UnknownInline, Unwritten, Figure, Ref, Id, Note, Ms, Char, Para}

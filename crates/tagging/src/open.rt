@@ -48,6 +48,13 @@ pub fn named(
     sink.over(z)
 }
 
+// The tag of a marker without an entry.
+fn unknown(file: &[u8], tape: Sections, c: Cursor, head: &[u8], sink: Sink, out: &mut [u8]) -> Sink
+    ensures { λ r. ⌜ ((source : Bytes) → deskIn source r (now (out .exit)) ≡ putOn (deskIn source sink (now (out .entry))) (now (head .entry) ++ (markerName (tapeIn tape (now (file .entry))) (c .at) ++ b "\" status=\"unknown\">"))) ⌝ }
+{
+    named(file, tape, c, head, b"\" status=\"unknown\">", sink, out)
+}
+
 // An opening tag up to its style.
 pub fn put_style(w: Window, out: &mut [u8], head: &[u8], name: &[u8]) -> Window
     ensures { λ r. ⌜ pageOf r (now (out .exit)) ≡ paint (pageOf w (now (out .entry))) (now (head .entry) ++ (now (name .entry) ++ b "\"")) ⌝ }
@@ -92,6 +99,7 @@ fn put_char(
     put_run(e, out, b">")
 }
 
+// A char as an event.
 fn open_char(file: &[u8], tape: Sections, c: Cursor, sink: Sink, out: &mut [u8]) -> Sink
     ensures { λ r. ⌜ deskIn (tapeIn tape (now (file .entry)) .source) r (now (out .exit)) ≡ emit (deskIn (tapeIn tape (now (file .entry)) .source) sink (now (out .entry))) (item (start 6 (style (tapeIn tape (now (file .entry))) (c .at) ∷ (unclosed (tapeIn tape (now (file .entry))) (c .at) ++ collected (attributesOf (tapeIn tape (now (file .entry))) (c .at) (markerName (tapeIn tape (now (file .entry))) (c .at))))))) ⌝ }
 {
@@ -121,6 +129,7 @@ fn open_link(file: &[u8], tape: Sections, link: Sought, sink: Sink, out: &mut [u
     }
 }
 
+// A char, and the `ref` around what it links.
 fn open_char_linked(file: &[u8], tape: Sections, c: Cursor, sink: Sink, out: &mut [u8]) -> Sink
     ensures { λ r. ⌜ deskIn (tapeIn tape (now (file .entry)) .source) r (now (out .exit)) ≡ emitAll (deskIn (tapeIn tape (now (file .entry)) .source) sink (now (out .entry))) (opening (tapeIn tape (now (file .entry))) (c .at) char) ⌝ }
 {
@@ -184,24 +193,8 @@ pub fn open_marker(
     ensures { λ r. ⌜ deskIn (tapeIn tape (now (file .entry)) .source) r (now (out .exit)) ≡ emitAll (deskIn (tapeIn tape (now (file .entry)) .source) sink (now (out .entry))) (opening (tapeIn tape (now (file .entry))) (c .at) (roleIn role)) ⌝ }
 {
     match role {
-        Role::UnknownBlock => named(
-            file,
-            tape,
-            c,
-            b"<para style=\"",
-            b"\" status=\"unknown\">",
-            sink,
-            out,
-        ),
-        Role::UnknownInline => named(
-            file,
-            tape,
-            c,
-            b"<char style=\"",
-            b"\" status=\"unknown\">",
-            sink,
-            out,
-        ),
+        Role::UnknownBlock => unknown(file, tape, c, b"<para style=\"", sink, out),
+        Role::UnknownInline => unknown(file, tape, c, b"<char style=\"", sink, out),
         Role::Unwritten => sink,
         Role::Figure => sink.over(put_figure(sink.window(), out, file, tape, c)),
         Role::Ref => sink.over(put_ref(sink.window(), out, file, tape, c)),

@@ -1,4 +1,4 @@
-// What a MarkerOpen is written as.
+// The roles of MarkerOpens, and what is linked.
 ghost use mathlib.Core.Path.{_≡_};
 ghost use Rattle.tape.specs.File.{tapeIn};
 ghost use Rattle.tape.specs.Tree.{children};
@@ -17,6 +17,7 @@ use tape::Kind;
 use tape::Sections;
 use tape::Step;
 
+// What a MarkerOpen is written as.
 pub enum Role {
     UnknownBlock,
     UnknownInline,
@@ -30,6 +31,7 @@ pub enum Role {
     Para,
 }
 
+// A marker without an entry.
 fn role_of_shape(shape: Shape) -> Role
     ensures { λ r. ⌜ roleIn r ≡ roleOfShape shape ⌝ }
 {
@@ -41,6 +43,7 @@ fn role_of_shape(shape: Shape) -> Role
     }
 }
 
+// What is left to the category.
 fn role_of_category(category: Category) -> Role
     ensures { λ r. ⌜ roleIn r ≡ roleOfCategory (category .code) ⌝ }
 {
@@ -86,6 +89,7 @@ fn role_known(file: &[u8], tape: Sections, c: Cursor, e: Entry) -> Role
     role_past_ref(e.category, name)
 }
 
+// By entry, name and category, or by shape.
 pub fn role_of(file: &[u8], tape: Sections, c: Cursor) -> Role
     ensures { λ r. ⌜ roleIn r ≡ roleOf (tapeIn tape (now (file .entry))) (c .at) ⌝ }
 {
@@ -95,6 +99,7 @@ pub fn role_of(file: &[u8], tape: Sections, c: Cursor) -> Role
     }
 }
 
+// Whether a step leads to a node.
 fn is_at(s: Step) -> bool
     ensures { λ r. ⌜ r ≡ found s ⌝ }
 {
@@ -122,6 +127,7 @@ pub fn is_whole(file: &[u8], tape: Sections, c: Cursor, role: Role) -> bool
     }
 }
 
+// Whether what stands inside is written as in a note.
 pub fn is_note(role: Role) -> bool
     ensures { λ r. ⌜ mannerOf (roleIn role) ≡ mannerBy r ⌝ }
 {
@@ -150,6 +156,7 @@ fn is_ref(file: &[u8], tape: Sections, c: Cursor) -> bool
     false
 }
 
+// Whether a child is a `ref`.
 fn has_ref(file: &[u8], tape: Sections, c: Cursor) -> bool
     ensures { λ r. ⌜ r ≡ any (isRef (tapeIn tape (now (file .entry)))) (children (tapeIn tape (now (file .entry))) (c .at)) ⌝ }
 {

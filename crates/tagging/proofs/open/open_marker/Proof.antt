@@ -6,26 +6,20 @@ use Rattle.tagging.proofs.open.open_marker.Tie as tie
 enum-told : tie.Need-enum-told
 enum-told c = search needs
 
-slice-aggregate-named : tie.Need-slice-aggregate-named
-slice-aggregate-named c = search needs
+slice-aggregate-unknown : tie.Need-slice-aggregate-unknown
+slice-aggregate-unknown c = search needs
 
-slice-aggregate-named-2 : tie.Need-slice-aggregate-named-2
-slice-aggregate-named-2 c = search needs
-
-named-requires : tie.Need-named-requires
-named-requires c κs = search needs
+unknown-requires : tie.Need-unknown-requires
+unknown-requires c κs = search needs
 
 enum-told-2 : tie.Need-enum-told-2
 enum-told-2 c = search needs
 
-slice-aggregate-named-3 : tie.Need-slice-aggregate-named-3
-slice-aggregate-named-3 c = search needs
+slice-aggregate-unknown-2 : tie.Need-slice-aggregate-unknown-2
+slice-aggregate-unknown-2 c = search needs
 
-slice-aggregate-named-4 : tie.Need-slice-aggregate-named-4
-slice-aggregate-named-4 c = search needs
-
-named-requires-2 : tie.Need-named-requires-2
-named-requires-2 c κs = search needs
+unknown-requires-2 : tie.Need-unknown-requires-2
+unknown-requires-2 c κs = search needs
 
 enum-told-3 : tie.Need-enum-told-3
 enum-told-3 c = search needs
@@ -84,14 +78,14 @@ open-char-linked-requires c κs = search needs
 enum-told-10 : tie.Need-enum-told-10
 enum-told-10 c = search needs
 
-slice-aggregate-named-5 : tie.Need-slice-aggregate-named-5
-slice-aggregate-named-5 c = search needs
+slice-aggregate-named : tie.Need-slice-aggregate-named
+slice-aggregate-named c = search needs
 
-slice-aggregate-named-6 : tie.Need-slice-aggregate-named-6
-slice-aggregate-named-6 c = search needs
+slice-aggregate-named-2 : tie.Need-slice-aggregate-named-2
+slice-aggregate-named-2 c = search needs
 
-named-requires-3 : tie.Need-named-requires-3
-named-requires-3 c κs = search needs
+named-requires : tie.Need-named-requires
+named-requires c κs = search needs
 
 same-length : tie.Need-same-length
 same-length c = search needs
@@ -149,13 +143,11 @@ open-marker-spec =
     tie.close
     (tie.spec
     enum-told
-    slice-aggregate-named
-    slice-aggregate-named-2
-    named-requires
+    slice-aggregate-unknown
+    unknown-requires
     enum-told-2
-    slice-aggregate-named-3
-    slice-aggregate-named-4
-    named-requires-2
+    slice-aggregate-unknown-2
+    unknown-requires-2
     enum-told-3
     enum-told-4
     window-requires
@@ -175,9 +167,9 @@ open-marker-spec =
     enum-told-9
     open-char-linked-requires
     enum-told-10
-    slice-aggregate-named-5
-    slice-aggregate-named-6
-    named-requires-3
+    slice-aggregate-named
+    slice-aggregate-named-2
+    named-requires
     same-length
     returns
     same-length-2
