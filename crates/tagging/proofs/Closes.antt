@@ -1,0 +1,84 @@
+-- What closes a marker.
+use mathlib.Core.Path.{_≡_, _∙_}
+use mathlib.Core.List.{[], _∷_}
+use Prim.Native.Nat.{ℕ}
+use Rattle.parts.specs.Bytes.{Bytes, b}
+use Rattle.tape.specs.File.{Tape}
+use Rattle.attrs.specs.Walk.{soughtOf}
+use Rattle.attrs.specs.declared.Value.{Value}
+use Rattle.attrs.specs.declared.Sought.{Sought}
+use Rattle.attrs.specs.declared.Sought.the-variants.{At as Found, Nowhere}
+use Rattle.tags.specs.Items.{close, bytesOf, render}
+use Rattle.tags.specs.Names.{nameOf}
+use Rattle.events.specs.Walk.{linkOf, char}
+use Rattle.events.specs.Emit.{Desk, emitAll}
+use Rattle.sink.specs.Desk.{deskIn, putOn}
+use Rattle.sink.specs.declared.Sink.{Sink}
+use Rattle.tagging.specs.declared.role.Role.{Role}
+use Rattle.tagging.specs.declared.role.Role.the-variants.{UnknownBlock, UnknownInline, Unwritten, Figure, Ref, Id, Note, Ms, Char, Para}
+use Rattle.tagging.specs.Roles.{roleIn, closing, linkCloses}
+use Rattle.tagging.proofs.Written.{one-on, items-on}
+
+-- ---- a char
+
+module _ (t : Tape) (k : ℕ) {link : Sought} (el : soughtOf (t .source) link ≡ linkOf t k) (sink r : Sink) (out last : Bytes) where
+  pub char-closed : link ≡ Nowhere → ((source : Bytes) → deskIn source r last ≡ putOn (deskIn source sink out) (b "</char>"))
+      → deskIn (t .source) r last ≡ emitAll (deskIn (t .source) sink out) (closing t k char)
+  unfolding closing linkCloses soughtOf bytesOf nameOf
+  char-closed e put = rw (← el, e) (put (t .source) ∙ one-on (deskIn (t .source) sink out) (close 6))
+
+  pub link-closed : {x : Value} → link ≡ Found x → ((source : Bytes) → deskIn source r last ≡ putOn (deskIn source sink out) (b "</ref></char>"))
+      → deskIn (t .source) r last ≡ emitAll (deskIn (t .source) sink out) (closing t k char)
+  unfolding closing linkCloses soughtOf bytesOf nameOf render
+  link-closed e put = rw (← el, e) (put (t .source) ∙ items-on (deskIn (t .source) sink out) (close 16 ∷ close 6 ∷ []))
+
+-- ---- by role
+
+module _ (t : Tape) (k : ℕ) {role : Role} where
+  module _ (sink r : Sink) (out last : Bytes) where
+    pub block-end : role ≡ UnknownBlock → ((source : Bytes) → deskIn source r last ≡ putOn (deskIn source sink out) (b "</para>"))
+        → deskIn (t .source) r last ≡ emitAll (deskIn (t .source) sink out) (closing t k (roleIn role))
+    unfolding roleIn closing bytesOf nameOf
+    block-end e put = rw e (put (t .source) ∙ one-on (deskIn (t .source) sink out) (close 5))
+
+    pub inline-end : role ≡ UnknownInline → ((source : Bytes) → deskIn source r last ≡ putOn (deskIn source sink out) (b "</char>"))
+        → deskIn (t .source) r last ≡ emitAll (deskIn (t .source) sink out) (closing t k (roleIn role))
+    unfolding roleIn closing bytesOf nameOf
+    inline-end e put = rw e (put (t .source) ∙ one-on (deskIn (t .source) sink out) (close 6))
+
+    pub figure-end : role ≡ Figure → ((source : Bytes) → deskIn source r last ≡ putOn (deskIn source sink out) (b "</figure>"))
+        → deskIn (t .source) r last ≡ emitAll (deskIn (t .source) sink out) (closing t k (roleIn role))
+    unfolding roleIn closing bytesOf nameOf
+    figure-end e put = rw e (put (t .source) ∙ one-on (deskIn (t .source) sink out) (close 9))
+
+    pub ref-end : role ≡ Ref → ((source : Bytes) → deskIn source r last ≡ putOn (deskIn source sink out) (b "</ref>"))
+        → deskIn (t .source) r last ≡ emitAll (deskIn (t .source) sink out) (closing t k (roleIn role))
+    unfolding roleIn closing bytesOf nameOf
+    ref-end e put = rw e (put (t .source) ∙ one-on (deskIn (t .source) sink out) (close 16))
+
+    pub note-end : role ≡ Note → ((source : Bytes) → deskIn source r last ≡ putOn (deskIn source sink out) (b "</note>"))
+        → deskIn (t .source) r last ≡ emitAll (deskIn (t .source) sink out) (closing t k (roleIn role))
+    unfolding roleIn closing bytesOf nameOf
+    note-end e put = rw e (put (t .source) ∙ one-on (deskIn (t .source) sink out) (close 7))
+
+    pub para-end : role ≡ Para → ((source : Bytes) → deskIn source r last ≡ putOn (deskIn source sink out) (b "</para>"))
+        → deskIn (t .source) r last ≡ emitAll (deskIn (t .source) sink out) (closing t k (roleIn role))
+    unfolding roleIn closing bytesOf nameOf
+    para-end e put = rw e (put (t .source) ∙ one-on (deskIn (t .source) sink out) (close 5))
+
+  pub char-end : (d : Desk) {e : Desk} → role ≡ Char → e ≡ emitAll d (closing t k char) → e ≡ emitAll d (closing t k (roleIn role))
+  unfolding roleIn
+  char-end d h er = rw h er
+
+  module _ (d : Desk) where
+    pub unwritten-end : role ≡ Unwritten → d ≡ emitAll d (closing t k (roleIn role))
+    unfolding roleIn closing emitAll
+    unwritten-end h = rw h
+
+    pub id-end : role ≡ Id → d ≡ emitAll d (closing t k (roleIn role))
+    unfolding roleIn closing emitAll
+    id-end h = rw h
+
+    pub ms-end : role ≡ Ms → d ≡ emitAll d (closing t k (roleIn role))
+    unfolding roleIn closing emitAll
+    ms-end h = rw h

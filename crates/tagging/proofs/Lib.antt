@@ -1,0 +1,6 @@
+pub mod Roles
+pub mod Written
+pub mod Opens
+pub mod Closes
+pub mod Leaves
+pub mod Splits

@@ -1,0 +1,166 @@
+-- What a MarkerOpen is written as, from what was read.
+use mathlib.Core.Path.{_≡_, sym, ap, _∙_}
+use mathlib.Core.Bool.{Bool, true, false, not}
+use mathlib.Core.Option.{Option}
+use Prim.Native.Nat.{ℕ}
+use borrow.Author.Tests.{eq-eqb, ne-eqb, not-true, not-false}
+use Rattle.parts.specs.Bytes.{Bytes, b, same}
+use Rattle.tape.specs.File.{Tape, kindAt, infoAt, entryName, isNested}
+use Rattle.tape.specs.Tree.{firstChild, nextSibling, walkFrom, children}
+use Rattle.tape.specs.Name.{markerName}
+use Rattle.tape.specs.declared.kinds.Kind.{Kind}
+use Rattle.tape.specs.declared.Cursor.{Cursor}
+use Rattle.tape.specs.declared.Entry.{Entry}
+use Rattle.tape.specs.declared.Info.{Info}
+use Rattle.tape.specs.declared.Info.the-variants.{Known, Unknown}
+use Rattle.tape.specs.declared.Step.{Step}
+use Rattle.tape.specs.declared.Step.the-variants.{At, Done}
+use Rattle.tape.proofs.Walk.{children-walk}
+use Rattle.render.specs.First.{firstWith, found, any}
+use Rattle.render.specs.Children.{hasContent}
+use Rattle.render.specs.Shape.{unknownShape}
+use Rattle.render.specs.declared.shape.Shape.{Shape}
+use Rattle.render.proofs.Shapes.{kind-is, kind-not}
+use Rattle.render.proofs.Finds.{first-end, first-here, first-past}
+use Rattle.attrs.specs.Attr.{attributesOf}
+use Rattle.attrs.specs.Walk.{firstOf, soughtOf}
+use Rattle.attrs.specs.declared.Sought.the-variants.{Nowhere}
+use Rattle.figure.specs.Figure.{legacyAt}
+use Rattle.events.specs.Walk.{Role as Written, roleOf, roleBy, roleOfShape, roleOfCategory, isRef, linkOf}
+use Rattle.tagging.specs.declared.role.Role.{Role}
+use Rattle.tagging.specs.declared.role.Role.the-variants.{Unwritten, Figure, Ref, Id, Note, Ms, Char, Para}
+use Rattle.tagging.specs.Roles.{roleIn, roleOfEntry, isWhole, canLink}
+
+-- ---- by category
+
+module _ (code : ℕ) where
+  pub category-note : code ≡ 5 → roleIn Note ≡ roleOfCategory code
+  unfolding roleIn roleOfCategory
+  category-note h = rw (eq-eqb code 5 h)
+
+  pub category-ms : (code ≡ 5 → ⊥) → code ≡ 6 → roleIn Ms ≡ roleOfCategory code
+  unfolding roleIn roleOfCategory
+  category-ms g h = rw (ne-eqb code 5 g, eq-eqb code 6 h)
+
+  pub category-char : (code ≡ 5 → ⊥) → (code ≡ 6 → ⊥) → code ≡ 4 → roleIn Char ≡ roleOfCategory code
+  unfolding roleIn roleOfCategory
+  category-char g h l = rw (ne-eqb code 5 g, ne-eqb code 6 h, eq-eqb code 4 l)
+
+  pub category-para : (code ≡ 5 → ⊥) → (code ≡ 6 → ⊥) → (code ≡ 4 → ⊥) → roleIn Para ≡ roleOfCategory code
+  unfolding roleIn roleOfCategory
+  category-para g h l = rw (ne-eqb code 5 g, ne-eqb code 6 h, ne-eqb code 4 l)
+
+-- ---- by the entry behind the names that decide
+
+module _ (code : ℕ) (name : Bytes) where
+  pub entry-id : {x : Bool} → code ≡ 0 → x ≡ same name (b "id") → x ≡ true → roleIn Id ≡ roleOfEntry code name
+  unfolding roleIn roleOfEntry
+  entry-id h ex x = rw (h, ← ex, x)
+
+  pub entry-identification : {x : Bool} → code ≡ 0 → x ≡ same name (b "id") → x ≡ false → roleIn Para ≡ roleOfEntry code name
+  unfolding roleIn roleOfEntry roleOfCategory
+  entry-identification h ex x = rw (h, ← ex, x)
+
+  pub entry-other : {r : Written} → (code ≡ 0 → ⊥) → r ≡ roleOfCategory code → r ≡ roleOfEntry code name
+  unfolding roleOfEntry
+  entry-other h er = rw (ne-eqb code 0 h) er
+
+-- ---- a marker with an entry
+
+module _ (t : Tape) (k : ℕ) (e : Entry) {name : Bytes} (en : name ≡ entryName t e) {u : Bool} (eu : u ≡ same name (b "usfm")) where
+  pub known-usfm : u ≡ true → roleIn Unwritten ≡ roleBy t k (Known e)
+  unfolding roleIn roleBy
+  known-usfm hu = rw (← en, ← eu, hu)
+
+  module _ (hu : u ≡ false) {f : Bool} (ef : f ≡ same name (b "fig")) where
+    pub known-figure : f ≡ true → roleIn Figure ≡ roleBy t k (Known e)
+    unfolding roleIn roleBy
+    known-figure hf = rw (← en, ← eu, hu, ← ef, hf)
+
+    module _ (hf : f ≡ false) {x : Bool} (ex : x ≡ same (markerName t k) (b "ref")) where
+      pub known-ref : x ≡ true → roleIn Ref ≡ roleBy t k (Known e)
+      unfolding roleIn roleBy
+      known-ref hx = rw (← en, ← eu, hu, ← ef, hf, ← ex, hx)
+
+      pub known-other : {r : Written} → x ≡ false → r ≡ roleOfEntry (e .category .code) name → r ≡ roleBy t k (Known e)
+      unfolding roleBy roleOfEntry
+      known-other hx er = rw (← en, ← eu, hu, ← ef, hf, ← ex, hx) er
+
+module _ (t : Tape) (k : ℕ) {i : Info} (ei : i ≡ infoAt t k) where
+  pub role-known : {e : Entry} {r : Written} → i ≡ Known e → r ≡ roleBy t k (Known e) → r ≡ roleOf t k
+  unfolding roleOf
+  role-known ee er = rw (← ei, ee) er
+
+  pub role-unknown : {s : Shape} {r : Written} → i ≡ Unknown → s ≡ unknownShape t k → r ≡ roleOfShape s → r ≡ roleOf t k
+  unfolding roleOf roleBy
+  role-unknown ee es er = rw (← ei, ee) (er ∙ ap roleOfShape es)
+
+-- ---- whether the events inside are written
+
+module _ (t : Tape) (k : ℕ) {role : Role} where
+  pub whole-figure : {s : Step} {x : Bool} → role ≡ Figure → s ≡ legacyAt t k → x ≡ found s → not x ≡ isWhole t k (roleIn role)
+  unfolding roleIn isWhole
+  whole-figure e es ex = rw (e, ← es, ← ex)
+
+  pub whole-para : {s : Step} {x : Bool} → role ≡ Para → s ≡ firstChild t k → x ≡ found s → x ≡ isWhole t k (roleIn role)
+  unfolding roleIn isWhole
+  whole-para e es ex = rw (e, ← es) ex
+
+-- ---- what is linked
+
+module _ (t : Tape) (k : ℕ) {z : Kind} (ek : z .code ≡ kindAt t k) where
+  pub ref-some : {r : Bool} → z .code ≡ 3 → r ≡ same (markerName t k) (b "ref") → r ≡ isRef t k
+  unfolding isRef
+  ref-some h er = rw (kind-is t k ek 3 h) er
+
+  pub ref-none : (z .code ≡ 3 → ⊥) → false ≡ isRef t k
+  unfolding isRef
+  ref-none h = rw (kind-not t k ek 3 h)
+
+-- a walk along the children
+module _ (t : Tape) (k : ℕ) {s₀ : Step} (e₀ : s₀ ≡ firstChild t k) where
+  ref-walk : (s : Step) {f : Step} → firstWith (isRef t) (walkFrom t s) ≡ f → firstWith (isRef t) (walkFrom t s) ≡ firstWith (isRef t) (walkFrom t s₀)
+      → found f ≡ any (isRef t) (children t k)
+  unfolding any
+  ref-walk s ef inv = ap found (sym ef ∙ inv ∙ ap (firstWith (isRef t)) (children-walk t k e₀))
+
+  pub ref-hit : {s : Step} → firstWith (isRef t) (walkFrom t s) ≡ firstWith (isRef t) (walkFrom t s₀) → (d : Cursor) {x : Bool} → s ≡ At d → x ≡ isRef t (d .at) → x ≡ true
+      → true ≡ any (isRef t) (children t k)
+  unfolding found
+  ref-hit {s} inv d es ex x = ref-walk s (first-here t (isRef t) d es (sym ex ∙ x)) inv
+
+  pub ref-end : {s : Step} → firstWith (isRef t) (walkFrom t s) ≡ firstWith (isRef t) (walkFrom t s₀) → s ≡ Done → false ≡ any (isRef t) (children t k)
+  unfolding found
+  ref-end {s} inv es = ref-walk s (first-end t (isRef t) es) inv
+
+pub ref-turn : (t : Tape) {s n r : Step} → firstWith (isRef t) (walkFrom t s) ≡ r → (d : Cursor) {x : Bool} → s ≡ At d → x ≡ isRef t (d .at) → x ≡ false
+    → n ≡ nextSibling t (d .at) → firstWith (isRef t) (walkFrom t n) ≡ r
+ref-turn t inv d es ex x en = sym (first-past t (isRef t) d es en (sym ex ∙ x)) ∙ inv
+
+module _ (t : Tape) (k : ℕ) {x : Bool} (ex : x ≡ same (markerName t k) (b "xt")) where
+  pub link-other : not x ≡ true → false ≡ canLink t k
+  unfolding canLink
+  link-other hx = rw (← ex, not-true x hx)
+
+  module _ (hx : not x ≡ false) {y : Bool} (ey : y ≡ isNested t k) where
+    pub link-outer : not y ≡ true → false ≡ canLink t k
+    unfolding canLink
+    link-outer hy = rw (← ex, not-false x hx, ← ey, not-true y hy)
+
+    module _ (hy : not y ≡ false) {z : Bool} (ez : z ≡ hasContent t k) where
+      pub link-empty : not z ≡ true → false ≡ canLink t k
+      unfolding canLink
+      link-empty hz = rw (← ex, not-false x hx, ← ey, not-false y hy, ← ez, not-true z hz)
+
+      pub link-full : {w : Bool} → not z ≡ false → w ≡ any (isRef t) (children t k) → not w ≡ canLink t k
+      unfolding canLink
+      link-full hz ew = rw (← ex, not-false x hx, ← ey, not-false y hy, ← ez, not-false z hz, ← ew)
+
+module _ (t : Tape) (k : ℕ) {x : Bool} (ex : x ≡ canLink t k) where
+  pub link-some : {m : Bytes} {v : Option Bytes} → x ≡ true → m ≡ markerName t k → v ≡ firstOf (b "href") (attributesOf t k m) → v ≡ linkOf t k
+  unfolding canLink linkOf
+  link-some hx em ev = rw (← ex, hx) (ev ∙ ap (λ (n : Bytes). firstOf (b "href") (attributesOf t k n)) em)
+
+  pub link-none : x ≡ false → soughtOf (t .source) Nowhere ≡ linkOf t k
+  unfolding canLink linkOf soughtOf
+  link-none hx = rw (← ex, hx)

@@ -1,0 +1,23 @@
+use Rattle.tagging.proofs.Opens.{char-linked}
+use borrow.Author.Needs.{needs}
+use Rattle.tagging.proofs.open.open_char_linked.Statement.{statement}
+use Rattle.tagging.proofs.open.open_char_linked.Tie as tie
+
+open-char-requires : tie.Need-open-char-requires
+open-char-requires c κs = search needs
+
+link-of-requires : tie.Need-link-of-requires
+link-of-requires c κs = search needs
+
+open-link-requires : tie.Need-open-link-requires
+open-link-requires c κs = search needs
+
+same-length : tie.Need-same-length
+same-length c = search needs
+
+returns : tie.Need-returns
+returns c = search char-linked
+
+pub open-char-linked-spec : {M : Type 1} → statement M
+open-char-linked-spec =
+    tie.close (tie.spec open-char-requires link-of-requires open-link-requires same-length returns)

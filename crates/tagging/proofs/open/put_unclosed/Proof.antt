@@ -1,0 +1,33 @@
+use Rattle.tagging.proofs.Opens.{unclosed-some, unclosed-none}
+use borrow.Author.Needs.{needs}
+use Rattle.tagging.proofs.open.put_unclosed.Statement.{statement}
+use Rattle.tagging.proofs.open.put_unclosed.Tie as tie
+
+ends-synthetic-requires : tie.Need-ends-synthetic-requires
+ends-synthetic-requires c κs = search needs
+
+slice-aggregate-put-run : tie.Need-slice-aggregate-put-run
+slice-aggregate-put-run c = search needs
+
+put-run-requires : tie.Need-put-run-requires
+put-run-requires c κs = search needs
+
+same-length : tie.Need-same-length
+same-length c = search needs
+
+returns : tie.Need-returns
+returns c = search unclosed-some
+
+returns-2 : tie.Need-returns-2
+returns-2 c = search unclosed-none
+
+pub put-unclosed-spec : {M : Type 1} → statement M
+put-unclosed-spec =
+    tie.close
+    (tie.spec
+    ends-synthetic-requires
+    slice-aggregate-put-run
+    put-run-requires
+    same-length
+    returns
+    returns-2)

@@ -1,0 +1,210 @@
+// The tags that open a marker.
+ghost use mathlib.Core.Path.{_≡_};
+ghost use mathlib.Core.Bool.{true};
+ghost use mathlib.Core.List.{[], _∷_, _++_};
+ghost use Rattle.parts.specs.Bytes.{Bytes, b};
+ghost use Rattle.chars.specs.Escape.{escape};
+ghost use Rattle.window.specs.Page.{pageOf, paint};
+ghost use Rattle.tape.specs.File.{tapeIn, nodeAt, isSynthetic};
+ghost use Rattle.tape.specs.Name.{markerName};
+ghost use Rattle.render.specs.Note.{noteCaller, categoryOf};
+ghost use Rattle.attrs.specs.Attr.{attributesOf};
+ghost use Rattle.attrs.specs.Walk.{firstOf, soughtOf, valueOf};
+ghost use Rattle.tags.specs.Items.{start, attrsBytes, bytesOf as itemBytes};
+ghost use Rattle.events.specs.Event.{item, rawly, escaped, perhaps, collected};
+ghost use Rattle.events.specs.Walk.{style, styled, unclosed, char};
+ghost use Rattle.events.specs.Emit.{emit, emitAll};
+ghost use Rattle.sink.specs.Desk.{deskIn, putOn};
+ghost use Rattle.tagging.specs.Roles.{roleIn, opening, linkOpens};
+use crate::role::Role;
+use crate::role::link_of;
+use attrs::Sought;
+use attrs::Value;
+use sink::Sink;
+use tape::Cursor;
+use tape::Sections;
+use values::put_category;
+use values::put_collected;
+use values::put_sought;
+use window::Window;
+use window::escape_xml_attr;
+use window::put_run;
+
+// A tag whose one value is the marker's name.
+pub fn named(
+    file: &[u8],
+    tape: Sections,
+    c: Cursor,
+    head: &[u8],
+    tail: &[u8],
+    sink: Sink,
+    out: &mut [u8],
+) -> Sink
+    ensures { λ r. ⌜ ((source : Bytes) → deskIn source r (now (out .exit)) ≡ putOn (deskIn source sink (now (out .entry))) (now (head .entry) ++ (markerName (tapeIn tape (now (file .entry))) (c .at) ++ now (tail .entry)))) ⌝ }
+{
+    let a = put_run(sink.window(), out, head);
+    let d = put_run(a, out, c.marker_name(file, tape));
+    let z = put_run(d, out, tail);
+    sink.over(z)
+}
+
+// The tag of a marker without an entry.
+fn unknown(file: &[u8], tape: Sections, c: Cursor, head: &[u8], sink: Sink, out: &mut [u8]) -> Sink
+    ensures { λ r. ⌜ ((source : Bytes) → deskIn source r (now (out .exit)) ≡ putOn (deskIn source sink (now (out .entry))) (now (head .entry) ++ (markerName (tapeIn tape (now (file .entry))) (c .at) ++ b "\" status=\"unknown\">"))) ⌝ }
+{
+    named(file, tape, c, head, b"\" status=\"unknown\">", sink, out)
+}
+
+// An opening tag up to its style.
+pub fn put_style(w: Window, out: &mut [u8], head: &[u8], name: &[u8]) -> Window
+    ensures { λ r. ⌜ pageOf r (now (out .exit)) ≡ paint (pageOf w (now (out .entry))) (now (head .entry) ++ (now (name .entry) ++ b "\"")) ⌝ }
+{
+    let a = put_run(w, out, head);
+    let d = put_run(a, out, name);
+    put_run(d, out, b"\"")
+}
+
+// Whether the matching close of a marker is synthetic; a leaf's is itself.
+fn ends_synthetic(file: &[u8], tape: Sections, c: Cursor) -> bool
+    ensures { λ r. ⌜ r ≡ isSynthetic (tapeIn tape (now (file .entry))) (nodeAt (tapeIn tape (now (file .entry))) (c .at) .link) ⌝ }
+{
+    Cursor::new(c.link(file, tape)).is_synthetic(file, tape)
+}
+
+// `closed="false"` where a marker is not closed in the source.
+pub fn put_unclosed(w: Window, out: &mut [u8], file: &[u8], tape: Sections, c: Cursor) -> Window
+    ensures { λ r. ⌜ pageOf r (now (out .exit)) ≡ paint (pageOf w (now (out .entry))) (attrsBytes (unclosed (tapeIn tape (now (file .entry))) (c .at))) ⌝ }
+{
+    if ends_synthetic(file, tape, c) {
+        put_run(w, out, b" closed=\"false\"")
+    } else {
+        w
+    }
+}
+
+// A char's tag: style, closed, its attributes.
+fn put_char(
+    w: Window,
+    out: &mut [u8],
+    file: &[u8],
+    tape: Sections,
+    c: Cursor,
+    name: &[u8],
+) -> Window
+    ensures { λ r. ⌜ pageOf r (now (out .exit)) ≡ paint (pageOf w (now (out .entry))) (itemBytes (start 6 (rawly (b "style") (now (name .entry)) ∷ (unclosed (tapeIn tape (now (file .entry))) (c .at) ++ collected (attributesOf (tapeIn tape (now (file .entry))) (c .at) (now (name .entry))))))) ⌝ }
+{
+    let a = put_style(w, out, b"<char style=\"", name);
+    let d = put_unclosed(a, out, file, tape, c);
+    let e = put_collected(d, out, file, tape, c, name);
+    put_run(e, out, b">")
+}
+
+// A char as an event.
+fn open_char(file: &[u8], tape: Sections, c: Cursor, sink: Sink, out: &mut [u8]) -> Sink
+    ensures { λ r. ⌜ deskIn (tapeIn tape (now (file .entry)) .source) r (now (out .exit)) ≡ emit (deskIn (tapeIn tape (now (file .entry)) .source) sink (now (out .entry))) (item (start 6 (style (tapeIn tape (now (file .entry))) (c .at) ∷ (unclosed (tapeIn tape (now (file .entry))) (c .at) ++ collected (attributesOf (tapeIn tape (now (file .entry))) (c .at) (markerName (tapeIn tape (now (file .entry))) (c .at))))))) ⌝ }
+{
+    let w = put_char(sink.window(), out, file, tape, c, c.marker_name(file, tape));
+    sink.over(w)
+}
+
+// The `ref` to a raw value.
+fn put_link(w: Window, out: &mut [u8], source: &[u8], v: Value) -> Window
+    ensures { λ r. ⌜ pageOf r (now (out .exit)) ≡ paint (pageOf w (now (out .entry))) (itemBytes (start 16 (escaped (b "loc") (valueOf (now (source .entry)) v) ∷ []))) ⌝ }
+{
+    let a = put_run(w, out, b"<ref loc=\"");
+    let d = values::put_value(a, out, source, v);
+    put_run(d, out, b"\">")
+}
+
+// The `ref` around what a marker links.
+fn open_link(file: &[u8], tape: Sections, link: Sought, sink: Sink, out: &mut [u8]) -> Sink
+    ensures { λ r. ⌜ deskIn (tapeIn tape (now (file .entry)) .source) r (now (out .exit)) ≡ emitAll (deskIn (tapeIn tape (now (file .entry)) .source) sink (now (out .entry))) (linkOpens (soughtOf (tapeIn tape (now (file .entry)) .source) link)) ⌝ }
+{
+    match link {
+        Sought::Nowhere => sink,
+        Sought::At(v) => {
+            let w = put_link(sink.window(), out, tape::source(file, tape), v);
+            sink.over(w)
+        }
+    }
+}
+
+// A char, and the `ref` around what it links.
+fn open_char_linked(file: &[u8], tape: Sections, c: Cursor, sink: Sink, out: &mut [u8]) -> Sink
+    ensures { λ r. ⌜ deskIn (tapeIn tape (now (file .entry)) .source) r (now (out .exit)) ≡ emitAll (deskIn (tapeIn tape (now (file .entry)) .source) sink (now (out .entry))) (opening (tapeIn tape (now (file .entry))) (c .at) char) ⌝ }
+{
+    let s = open_char(file, tape, c, sink, out);
+    open_link(file, tape, link_of(file, tape, c), s, out)
+}
+
+// A figure's tag with its attributes.
+fn put_figure(w: Window, out: &mut [u8], file: &[u8], tape: Sections, c: Cursor) -> Window
+    ensures { λ r. ⌜ pageOf r (now (out .exit)) ≡ paint (pageOf w (now (out .entry))) (itemBytes (start 9 (styled (b "fig") ++ collected (attributesOf (tapeIn tape (now (file .entry))) (c .at) (b "fig"))))) ⌝ }
+{
+    let a = put_run(w, out, b"<figure style=\"fig\"");
+    let d = put_collected(a, out, file, tape, c, b"fig");
+    put_run(d, out, b">")
+}
+
+// A ref's tag with its first `loc`.
+fn put_ref(w: Window, out: &mut [u8], file: &[u8], tape: Sections, c: Cursor) -> Window
+    ensures { λ r. ⌜ pageOf r (now (out .exit)) ≡ paint (pageOf w (now (out .entry))) (itemBytes (start 16 (perhaps (b "loc") (firstOf (b "loc") (attributesOf (tapeIn tape (now (file .entry))) (c .at) (b "ref")))))) ⌝ }
+{
+    let loc = attrs::first_with(file, tape, c, b"ref", b"loc");
+    let a = put_run(w, out, b"<ref");
+    let d = put_sought(a, out, file, tape, b"loc", loc);
+    put_run(d, out, b">")
+}
+
+// A note's tag up to its style.
+fn put_note_head(w: Window, out: &mut [u8], caller: &[u8], name: &[u8]) -> Window
+    ensures { λ r. ⌜ pageOf r (now (out .exit)) ≡ paint (pageOf w (now (out .entry))) (b "<note caller=\"" ++ (escape true (now (caller .entry)) ++ (b "\" style=\"" ++ (now (name .entry) ++ b "\"")))) ⌝ }
+{
+    let a = put_run(w, out, b"<note caller=\"");
+    let d = escape_xml_attr(a, out, caller);
+    put_style(d, out, b"\" style=\"", name)
+}
+
+// A note's tag: caller, style, category.
+fn put_note(
+    w: Window,
+    out: &mut [u8],
+    file: &[u8],
+    tape: Sections,
+    c: Cursor,
+    name: &[u8],
+) -> Window
+    ensures { λ r. ⌜ pageOf r (now (out .exit)) ≡ paint (pageOf w (now (out .entry))) (itemBytes (start 7 (escaped (b "caller") (noteCaller (tapeIn tape (now (file .entry))) (c .at)) ∷ rawly (b "style") (now (name .entry)) ∷ perhaps (b "category") (categoryOf (tapeIn tape (now (file .entry))) (c .at))))) ⌝ }
+{
+    let a = put_note_head(w, out, render::note_caller(file, b"+", tape, c), name);
+    let d = put_category(a, out, file, tape, c);
+    put_run(d, out, b">")
+}
+
+// What opens a marker.
+pub fn open_marker(
+    file: &[u8],
+    tape: Sections,
+    c: Cursor,
+    role: Role,
+    sink: Sink,
+    out: &mut [u8],
+) -> Sink
+    ensures { λ r. ⌜ deskIn (tapeIn tape (now (file .entry)) .source) r (now (out .exit)) ≡ emitAll (deskIn (tapeIn tape (now (file .entry)) .source) sink (now (out .entry))) (opening (tapeIn tape (now (file .entry))) (c .at) (roleIn role)) ⌝ }
+{
+    match role {
+        Role::UnknownBlock => unknown(file, tape, c, b"<para style=\"", sink, out),
+        Role::UnknownInline => unknown(file, tape, c, b"<char style=\"", sink, out),
+        Role::Unwritten => sink,
+        Role::Figure => sink.over(put_figure(sink.window(), out, file, tape, c)),
+        Role::Ref => sink.over(put_ref(sink.window(), out, file, tape, c)),
+        Role::Id => sink,
+        Role::Note => {
+            let w = put_note(sink.window(), out, file, tape, c, c.marker_name(file, tape));
+            sink.over(w)
+        }
+        Role::Ms => sink,
+        Role::Char => open_char_linked(file, tape, c, sink, out),
+        Role::Para => named(file, tape, c, b"<para style=\"", b"\">", sink, out),
+    }
+}
