@@ -1,11 +1,9 @@
 -- One law for each return of a turn.
 use mathlib.Core.Path.{_≡_, refl, sym, ap, _∙_}
-use mathlib.Core.Logic.{_⊎_, inl, inr, ⊎-elim}
-use mathlib.Core.Bool.{Bool, true, false, cond, not, _&&_, _||_}
-use mathlib.Core.List.{List, [], _∷_, _++_}
+use mathlib.Core.Bool.{Bool, true, false, not, _&&_, _||_}
+use mathlib.Core.List.{List, _++_}
 use Prim.Native.Nat.{ℕ, _+_, _-_, _≤_, _<_}
 use native.Mathlib.Omega.{arith}
-use lib.Dec.{eqb}
 use borrow.Author.Tests.{eq-eqb, ne-eqb}
 use Rattle.parts.specs.Bytes.{Bytes}
 use Rattle.texts.specs.Text.{endsWhite, normalizeText}
@@ -28,7 +26,7 @@ use Rattle.fold.specs.declared.Folds.{Folds}
 use Rattle.lists.specs.Span.{nodesIn, foldedIn}
 use Rattle.lists.specs.declared.Span.{Span}
 use Rattle.events.specs.Event.{Event, verse}
-use Rattle.events.specs.Walk.{anchor, words, normalized, unbroken, broken, inlineTurn, inlineAll, noteText, noteTurn, noteAll}
+use Rattle.events.specs.Walk.{normalized, unbroken, broken, inlineTurn, inlineAll, noteText, noteTurn, noteAll}
 use Rattle.events.specs.Emit.{Desk, emit, emitAll}
 use Rattle.events.proofs.Turns.{inlineOn}
 use Rattle.events.proofs.Emits.{emit-append}
@@ -190,67 +188,63 @@ turn-left t k en = left-turn t k refl en
 pub anchor-kept : (t : Tape) (k : Cursor) (kept next solid : Step) → KeptAt t next solid → Kept t k kept → KeptAt t next solid
 anchor-kept t k kept next solid e h = e
 
-module _ (c : Sections) (file : Bytes) (span : Span) (k : Cursor) {child : Child} (trim behind : Bool) (kept : Step) (sink : Sink) (out : Bytes) (g : Going) where
-  pub plain-anchor : child ≡ Anchor → (last : Bytes)
+module _ (c : Sections) (file : Bytes) (span : Span) (k : Cursor) (trim behind : Bool) (kept : Step) (sink : Sink) (out : Bytes) (g : Going) where
+  -- what is left to write behind the turn is what was left before it, from such a child on
+  abbrev Goes : Bytes → Child → Type 0
+  Goes last child =
+      Kept (tapeIn c file) k kept → (node : ℕ → Bool → List Event)
+      → emitAll (deskIn (tapeIn c file .source) (g .sink) last) (inlineAll node (tapeIn c file) behind (g .trim) (nodesIn (tapeIn c file) span (g .next)))
+      ≡ emitAll (deskIn (tapeIn c file .source) sink out) (plainFrom node (tapeIn c file) behind trim (k .at) (nodesIn (tapeIn c file) span (nextSibling (tapeIn c file) (k .at))) child)
+
+  pub plain-anchor : {child : Child} → child ≡ Anchor → (last : Bytes)
       → ((node : ℕ → Bool → List Event) (behind trim : Bool)
       → emitAll (deskIn (tapeIn c file .source) (g .sink) last) (inlineAll node (tapeIn c file) behind (g .trim) (nodesIn (tapeIn c file) span (g .next)))
       ≡ emitAll (deskIn (tapeIn c file .source) sink out) (plainFrom node (tapeIn c file) behind trim (k .at) (nodesIn (tapeIn c file) span (nextSibling (tapeIn c file) (k .at))) Anchor))
-      → Kept (tapeIn c file) k kept → (node : ℕ → Bool → List Event)
-      → emitAll (deskIn (tapeIn c file .source) (g .sink) last) (inlineAll node (tapeIn c file) behind (g .trim) (nodesIn (tapeIn c file) span (g .next)))
-      ≡ emitAll (deskIn (tapeIn c file .source) sink out) (plainFrom node (tapeIn c file) behind trim (k .at) (nodesIn (tapeIn c file) span (nextSibling (tapeIn c file) (k .at))) child)
+      → Goes last child
   plain-anchor ec last e h node = rw ec (e node behind trim)
 
-  pub plain-words : child ≡ Words → (last : Bytes)
+  pub plain-words : {child : Child} → child ≡ Words → (last : Bytes)
       → (Kept (tapeIn c file) k kept → (node : ℕ → Bool → List Event) (ks : List ℕ)
       → emitAll (deskIn (tapeIn c file .source) (g .sink) last) (inlineAll node (tapeIn c file) behind (g .trim) ks)
       ≡ emitAll (deskIn (tapeIn c file .source) sink out) (plainFrom node (tapeIn c file) behind trim (k .at) ks Words))
-      → g .next ≡ nextSibling (tapeIn c file) (k .at)
-      → Kept (tapeIn c file) k kept → (node : ℕ → Bool → List Event)
-      → emitAll (deskIn (tapeIn c file .source) (g .sink) last) (inlineAll node (tapeIn c file) behind (g .trim) (nodesIn (tapeIn c file) span (g .next)))
-      ≡ emitAll (deskIn (tapeIn c file .source) sink out) (plainFrom node (tapeIn c file) behind trim (k .at) (nodesIn (tapeIn c file) span (nextSibling (tapeIn c file) (k .at))) child)
+      → g .next ≡ nextSibling (tapeIn c file) (k .at) → Goes last child
   plain-words ec last e en h node = rw (ec, en) (e h node (nodesIn (tapeIn c file) span (nextSibling (tapeIn c file) (k .at))))
 
-  module _ (es : g .sink ≡ sink) (et : g .trim ≡ trim) (en : g .next ≡ nextSibling (tapeIn c file) (k .at)) where
-    pub plain-passed : child ≡ Passed → Kept (tapeIn c file) k kept → (node : ℕ → Bool → List Event)
-        → emitAll (deskIn (tapeIn c file .source) (g .sink) out) (inlineAll node (tapeIn c file) behind (g .trim) (nodesIn (tapeIn c file) span (g .next)))
-        ≡ emitAll (deskIn (tapeIn c file .source) sink out) (plainFrom node (tapeIn c file) behind trim (k .at) (nodesIn (tapeIn c file) span (nextSibling (tapeIn c file) (k .at))) child)
+  module _ {child : Child} (es : g .sink ≡ sink) (et : g .trim ≡ trim) (en : g .next ≡ nextSibling (tapeIn c file) (k .at)) where
+    pub plain-passed : child ≡ Passed → Goes out child
     unfolding plainFrom
     plain-passed ec h node = rw (ec, es, et, en)
 
-    pub plain-skipped : child ≡ Skipped → Kept (tapeIn c file) k kept → (node : ℕ → Bool → List Event)
-        → emitAll (deskIn (tapeIn c file .source) (g .sink) out) (inlineAll node (tapeIn c file) behind (g .trim) (nodesIn (tapeIn c file) span (g .next)))
-        ≡ emitAll (deskIn (tapeIn c file .source) sink out) (plainFrom node (tapeIn c file) behind trim (k .at) (nodesIn (tapeIn c file) span (nextSibling (tapeIn c file) (k .at))) child)
+    pub plain-skipped : child ≡ Skipped → Goes out child
     unfolding plainFrom
     plain-skipped ec h node = rw (ec, es, et, en)
 
 -- ---- a turn along a note
 
-module _ (c : Sections) (file : Bytes) (parent k : Cursor) {child : Child} (trim behind : Bool) (kept : Step) (sink : Sink) (out : Bytes) (g : Going) where
-  pub note-turn-words : child ≡ Words → (last : Bytes)
+module _ (c : Sections) (file : Bytes) (parent k : Cursor) (trim behind : Bool) (kept : Step) (sink : Sink) (out : Bytes) (g : Going) where
+  -- the same for a note
+  abbrev NoteGoes : Bytes → Child → Type 0
+  NoteGoes last child =
+      Kept (tapeIn c file) k kept → (node : ℕ → Bool → List Event)
+      → emitAll (deskIn (tapeIn c file .source) (g .sink) last) (noteAll node (tapeIn c file) (parent .at + 1) behind (g .trim) (walkFrom (tapeIn c file) (g .next)))
+      ≡ emitAll (deskIn (tapeIn c file .source) sink out) (notePlain node (tapeIn c file) behind trim (parent .at + 1) (k .at) (walkFrom (tapeIn c file) (nextSibling (tapeIn c file) (k .at))) child)
+
+  pub note-turn-words : {child : Child} → child ≡ Words → (last : Bytes)
       → (Kept (tapeIn c file) k kept → (node : ℕ → Bool → List Event) (ks : List ℕ)
       → emitAll (deskIn (tapeIn c file .source) (g .sink) last) (noteAll node (tapeIn c file) (parent .at + 1) behind (g .trim) ks)
       ≡ emitAll (deskIn (tapeIn c file .source) sink out) (notePlain node (tapeIn c file) behind trim (parent .at + 1) (k .at) ks Words))
-      → g .next ≡ nextSibling (tapeIn c file) (k .at)
-      → Kept (tapeIn c file) k kept → (node : ℕ → Bool → List Event)
-      → emitAll (deskIn (tapeIn c file .source) (g .sink) last) (noteAll node (tapeIn c file) (parent .at + 1) behind (g .trim) (walkFrom (tapeIn c file) (g .next)))
-      ≡ emitAll (deskIn (tapeIn c file .source) sink out) (notePlain node (tapeIn c file) behind trim (parent .at + 1) (k .at) (walkFrom (tapeIn c file) (nextSibling (tapeIn c file) (k .at))) child)
+      → g .next ≡ nextSibling (tapeIn c file) (k .at) → NoteGoes last child
   note-turn-words ec last e en h node = rw (ec, en) (e h node (walkFrom (tapeIn c file) (nextSibling (tapeIn c file) (k .at))))
 
-  module _ (es : g .sink ≡ sink) (et : g .trim ≡ trim) (en : g .next ≡ nextSibling (tapeIn c file) (k .at)) where
-    pub note-turn-passed : child ≡ Passed → Kept (tapeIn c file) k kept → (node : ℕ → Bool → List Event)
-        → emitAll (deskIn (tapeIn c file .source) (g .sink) out) (noteAll node (tapeIn c file) (parent .at + 1) behind (g .trim) (walkFrom (tapeIn c file) (g .next)))
-        ≡ emitAll (deskIn (tapeIn c file .source) sink out) (notePlain node (tapeIn c file) behind trim (parent .at + 1) (k .at) (walkFrom (tapeIn c file) (nextSibling (tapeIn c file) (k .at))) child)
+  module _ {child : Child} (es : g .sink ≡ sink) (et : g .trim ≡ trim) (en : g .next ≡ nextSibling (tapeIn c file) (k .at)) where
+    pub note-turn-passed : child ≡ Passed → NoteGoes out child
     unfolding notePlain
     note-turn-passed ec h node = rw (ec, es, et, en)
 
-    pub note-turn-anchor : child ≡ Anchor → Kept (tapeIn c file) k kept → (node : ℕ → Bool → List Event)
-        → emitAll (deskIn (tapeIn c file .source) (g .sink) out) (noteAll node (tapeIn c file) (parent .at + 1) behind (g .trim) (walkFrom (tapeIn c file) (g .next)))
-        ≡ emitAll (deskIn (tapeIn c file .source) sink out) (notePlain node (tapeIn c file) behind trim (parent .at + 1) (k .at) (walkFrom (tapeIn c file) (nextSibling (tapeIn c file) (k .at))) child)
+    pub note-turn-anchor : child ≡ Anchor → NoteGoes out child
     unfolding notePlain
     note-turn-anchor ec h node = rw (ec, es, et, en)
 
-    pub note-turn-skipped : child ≡ Skipped → Kept (tapeIn c file) k kept → (node : ℕ → Bool → List Event)
-        → emitAll (deskIn (tapeIn c file .source) (g .sink) out) (noteAll node (tapeIn c file) (parent .at + 1) behind (g .trim) (walkFrom (tapeIn c file) (g .next)))
-        ≡ emitAll (deskIn (tapeIn c file .source) sink out) (notePlain node (tapeIn c file) behind trim (parent .at + 1) (k .at) (walkFrom (tapeIn c file) (nextSibling (tapeIn c file) (k .at))) child)
+    pub note-turn-skipped : child ≡ Skipped → NoteGoes out child
     unfolding notePlain
     note-turn-skipped ec h node = rw (ec, es, et, en)

@@ -1,7 +1,7 @@
 -- What a child is to its list, and the list from it on.
 use mathlib.Core.Path.{_≡_, refl, sym, ap, _∙_}
 use mathlib.Core.Bool.{Bool, true, false, cond, _||_}
-use mathlib.Core.List.{List, [], _∷_, _++_}
+use mathlib.Core.List.{List, _∷_, _++_}
 use Prim.Native.Nat.{ℕ}
 use lib.Dec.{eqb}
 use borrow.Author.Tests.{eq-eqb, ne-eqb}
@@ -10,7 +10,7 @@ use Rattle.tape.specs.Tree.{nextSibling, walkFrom}
 use Rattle.tape.specs.declared.kinds.Kind.{Kind}
 use Rattle.tape.specs.declared.Cursor.{Cursor}
 use Rattle.tape.specs.declared.Step.{Step}
-use Rattle.tape.specs.declared.Step.the-variants.{At, Done}
+use Rattle.tape.specs.declared.Step.the-variants.{At}
 use Rattle.tape.proofs.Walk.{walk-turn}
 use Rattle.render.specs.Shape.{isCategoryMarker}
 use Rattle.lists.specs.Span.{nodesIn, memberOf, listedBy}
@@ -22,7 +22,6 @@ use Rattle.events.specs.Event.{Event}
 use Rattle.events.specs.Walk.{anchor, words, passed, marker, childOf, noteChildOf, inlineTurn, inlineAll, noteTurn, noteAll}
 use Rattle.events.proofs.Turns.{inlineOn, inline-turn, inline-none}
 use Rattle.turns.specs.Turn.{sortOf, sortBy, sortIn, noteSort, plainFrom, onward, notePlain, noteOnward}
-use Rattle.turns.specs.declared.Child.{Child}
 use Rattle.turns.specs.declared.Child.the-variants.{Skipped, Anchor, Words, Passed}
 use Rattle.turns.specs.declared.Sort.{Sort}
 use Rattle.turns.specs.declared.Sort.the-variants.{End, Enter, Plain}

@@ -1,21 +1,19 @@
 -- Turns along a list of inline children, by what a child is to it.
-use Prim.Native.Nat.{ℕ, _+_}
-use mathlib.Core.List.{List, [], _∷_, _++_}
-use mathlib.Core.Bool.{Bool, true, false, cond, not, _&&_, _||_}
+use Prim.Native.Nat.{ℕ}
+use mathlib.Core.List.{List, [], _++_}
+use mathlib.Core.Bool.{Bool, cond, _||_}
 use lib.Dec.{eqb}
-use Rattle.tape.specs.File.{Tape, kindAt, textAt}
-use Rattle.tape.specs.Tree.{nextSibling, walkFrom}
-use Rattle.tape.specs.declared.Cursor.{Cursor}
+use Rattle.tape.specs.File.{Tape, kindAt}
 use Rattle.tape.specs.declared.Step.{Step}
 use Rattle.tape.specs.declared.Step.the-variants.{At, Done}
 use Rattle.render.specs.Shape.{isCategoryMarker, trimsAfter}
 use Rattle.render.specs.Follow.{Kept}
-use Rattle.lists.specs.Span.{nodesIn, memberOf}
+use Rattle.lists.specs.Span.{memberOf}
 use Rattle.lists.specs.declared.Span.{Span}
 use Rattle.lists.specs.declared.Member.{Member}
 use Rattle.lists.specs.declared.Member.the-variants.{End as EndMember, Skipped as SkippedMember, Listed}
 use Rattle.events.specs.Event.{Event}
-use Rattle.events.specs.Walk.{anchor, words, passed, marker, inlineAll, noteTurn, noteAll}
+use Rattle.events.specs.Walk.{anchor, words, marker, inlineAll, noteTurn, noteAll}
 use Rattle.events.proofs.Turns.{inlineOn}
 use Rattle.turns.specs.declared.Child.{Child}
 use Rattle.turns.specs.declared.Child.the-variants.{Skipped, Anchor, Words, Passed}

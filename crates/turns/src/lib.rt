@@ -54,6 +54,7 @@ struct Looked {
     kept: Step,
 }
 
+// What a child is to its list by its kind.
 fn sort_of(kind: Kind) -> Sort
     ensures { λ r. ⌜ r ≡ sortOf (kind .code) ⌝ }
 {
@@ -238,7 +239,7 @@ fn passed_turn(file: &[u8], tape: Sections, c: Cursor, trim: bool, kept: Step, s
     }
 }
 
-// A turn that enters no marker.
+// A turn along a list that enters no marker.
 pub fn plain_turn(
     file: &[u8],
     tape: Sections,
@@ -278,6 +279,7 @@ fn note_text(file: &[u8], tape: Sections, parent: Cursor, c: Cursor) -> &[u8]
     s
 }
 
+// A text of a note.
 fn note_words(
     file: &[u8],
     tape: Sections,
