@@ -1,0 +1,3 @@
+pub mod Items
+pub mod Light
+pub mod Mass

@@ -1,0 +1,127 @@
+-- How many nodes a node spans, and what they may cost by the depth that is left.
+use mathlib.Core.Path.{_≡_, refl, sym, ap, _∙_}
+use mathlib.Core.Bool.{Bool, true, false, cond, not, _&&_}
+use mathlib.Core.List.{List, [], _∷_}
+use Prim.Native.Nat.{ℕ, zero, suc, _+_, _*_, _-_, _≤_, _<_}
+use native.Mathlib.Omega.{arith}
+use lib.ListN.{length}
+use Rattle.parts.specs.Bytes.{Bytes}
+use Rattle.tape.specs.File.{Tape, tapeOf, kindAt}
+use Rattle.tape.specs.Tree.{children, upTo, without}
+use Rattle.tape.specs.declared.Node.{Node}
+use Rattle.nest.specs.Tape.{linkAt}
+use Rattle.nest.specs.Nest.{container, Container}
+use Rattle.nest.specs.Walk.{past, Tiles}
+use Rattle.nest.proofs.Walk.{past-open, past-leaf, by-part, past-forward, tiles-in}
+use Rattle.admit.specs.Refusal.{Kept₇}
+use Rattle.admit.proofs.Gives.{leaf-children, children-cover, root-cover, root-only, root-first, link-ahead, link-root}
+use Rattle.events.specs.Walk.{fromFirst}
+
+-- ---- costs
+
+-- what so many nodes may cost where so many containers may be entered
+unfoldable pub cost : ℕ → ℕ → ℕ
+cost zero n = 8000000000 * n
+cost (suc d) n = 8000000000 * n + cost d n
+
+pub cost-add : (d a z : ℕ) → cost d (a + z) ≡ cost d a + cost d z
+unfolding cost
+cost-add zero a z = omega arith
+cost-add (suc d) a z = omega (arith, cost-add d a z)
+
+pub cost-least : (d n : ℕ) → 8000000000 * n ≤ cost d n
+unfolding cost
+cost-least zero n = omega arith
+cost-least (suc d) n = omega arith
+
+pub cost-next : (d n : ℕ) → cost (suc d) n ≡ 8000000000 * n + cost d n
+unfolding cost
+cost-next d n = refl
+
+pub cost-most : (d n m : ℕ) → n ≤ m → cost d n ≤ cost d m
+cost-most d n m h = let e : n + (m - n) ≡ m = omega arith in omega (arith, cost-add d n (m - n), ap (cost d) e)
+
+pub cost-deep : (n : ℕ) → cost 64 n ≡ 520000000000 * n
+unfolding cost
+cost-deep n = omega arith
+
+-- ---- nodes
+
+-- how many nodes lie between a node and the one past all that it starts
+unfoldable pub sizeOf : Tape → ℕ → ℕ
+sizeOf t k = past (t .nodes) k - k
+
+unfoldable pub sizes : Tape → List ℕ → ℕ
+sizes t [] = 0
+sizes t (k ∷ ks) = sizeOf t k + sizes t ks
+
+-- what a row of nodes may cost
+unfoldable pub mass : Tape → ℕ → List ℕ → ℕ
+mass t d [] = 0
+mass t d (k ∷ ks) = cost d (sizeOf t k) + mass t d ks
+
+pub mass-is : (t : Tape) (d : ℕ) (ks : List ℕ) → mass t d ks ≡ cost d (sizes t ks)
+unfolding mass sizes
+mass-is t d [] = omega (arith, cost-add d 0 0)
+mass-is t d (k ∷ ks) = omega (arith, mass-is t d ks, cost-add d (sizeOf t k) (sizes t ks))
+
+pub tiles-size : (t : Tape) (ks : List ℕ) (a z : ℕ) → Tiles (t .nodes) a z ks → a + sizes t ks ≡ z
+unfolding sizes sizeOf
+tiles-size t [] a z e = omega (arith, e)
+tiles-size t (k ∷ ks) a z e = omega (arith, tiles-size t ks (past (t .nodes) a) z (e .3), e .2, ap (λ (i : ℕ). past (t .nodes) i - i) (e .0))
+
+none-size : (t : Tape) → sizes t [] ≡ 0
+unfolding sizes
+none-size t = refl
+
+size-open : (t : Tape) (k : ℕ) → Container (t .nodes) k → sizeOf t k ≡ linkAt (t .nodes) k + 1 - k
+unfolding sizeOf
+size-open t k o = rw (past-open (t .nodes) k o)
+
+-- ---- parts of a row
+
+pub without-mass : (t : Tape) (d : ℕ) (p : ℕ → Bool) (ks : List ℕ) → mass t d (without p ks) ≤ mass t d ks
+unfolding without mass
+without-mass t d p [] = omega arith
+without-mass t d p (k ∷ ks) = go (without-mass t d p ks) (p k)
+  where
+    go : mass t d (without p ks) ≤ mass t d ks → (x : Bool) → mass t d (cond x (without p ks) (k ∷ without p ks)) ≤ cost d (sizeOf t k) + mass t d ks
+    go h true = omega arith
+    go h false = omega arith
+
+pub cut-mass : (t : Tape) (d : ℕ) (p : ℕ → Bool) (ks : List ℕ) → mass t d (upTo p ks) + mass t d (fromFirst p ks) ≡ mass t d ks
+unfolding upTo fromFirst mass
+cut-mass t d p [] = omega arith
+cut-mass t d p (k ∷ ks) = go (cut-mass t d p ks) (p k)
+  where
+    go : mass t d (upTo p ks) + mass t d (fromFirst p ks) ≡ mass t d ks → (x : Bool) → mass t d (cond x [] (k ∷ upTo p ks)) + mass t d (cond x (k ∷ ks) (fromFirst p ks)) ≡ cost d (sizeOf t k) + mass t d ks
+    go h true = omega arith
+    go h false = omega arith
+
+-- ---- an admitted file
+
+module _ (file : Bytes) (z : Kept₇ file) where
+  abbrev t : Tape
+  t = tapeOf file
+
+  pub size-some : (k : ℕ) → 1 ≤ sizeOf t k
+  unfolding sizeOf
+  size-some k = omega (arith, past-forward (t .nodes) (z .nested) k)
+
+  pub count-most : (ks : List ℕ) → length ks ≤ sizes t ks
+  unfolding sizes
+  count-most [] = omega arith
+  count-most (k ∷ ks) = omega (arith, count-most ks, size-some k)
+
+  -- a node and its children
+  pub inner-size : (k : ℕ) → (k ≡ 0 → ⊥) → sizes t (children t k) + 1 ≤ sizeOf t k
+  inner-size k n =
+      by-part (t .nodes) k
+      opened
+      (λ o. omega (arith, ap (sizes t) (leaf-children file z k o n), none-size t, size-some k))
+    where
+      opened : Container (t .nodes) k → sizes t (children t k) + 1 ≤ sizeOf t k
+      opened o = omega (arith, tiles-size t (children t k) (k + 1) (linkAt (t .nodes) k) (children-cover file z k o), size-open t k o)
+
+  pub root-size : sizes t (children t 0) ≤ linkAt (t .nodes) 0
+  root-size = omega (arith, tiles-size t (children t 0) 1 (linkAt (t .nodes) 0) (root-cover file z))
