@@ -1,3 +1,5 @@
 pub mod Items
 pub mod Light
 pub mod Mass
+pub mod Lengths
+pub mod Attributes
