@@ -132,7 +132,7 @@ nothing : attrsCost (collected []) ≡ 0
 unfolding collected attrsCost
 nothing = refl
 
-collected-append : (ps qs : List Pair) → attrsCost (collected (ps ++ qs)) ≡ attrsCost (collected ps) + attrsCost (collected qs)
+pub collected-append : (ps qs : List Pair) → attrsCost (collected (ps ++ qs)) ≡ attrsCost (collected ps) + attrsCost (collected qs)
 unfolding collected attrsCost
 collected-append [] qs = omega arith
 collected-append (p ∷ ps) qs = omega (arith, collected-append ps qs)

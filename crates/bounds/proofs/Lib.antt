@@ -3,3 +3,4 @@ pub mod Light
 pub mod Mass
 pub mod Lengths
 pub mod Attributes
+pub mod Parts

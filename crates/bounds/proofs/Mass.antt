@@ -5,6 +5,8 @@ use mathlib.Core.List.{List, [], _∷_}
 use Prim.Native.Nat.{ℕ, zero, suc, _+_, _*_, _-_, _≤_, _<_}
 use native.Mathlib.Omega.{arith}
 use lib.ListN.{length}
+use lib.Dec.{eqb}
+use borrow.Author.Tests.{ne-eqb}
 use Rattle.parts.specs.Bytes.{Bytes}
 use Rattle.tape.specs.File.{Tape, tapeOf, kindAt}
 use Rattle.tape.specs.Tree.{children, upTo, without}
@@ -38,8 +40,23 @@ pub cost-next : (d n : ℕ) → cost (suc d) n ≡ 8000000000 * n + cost d n
 unfolding cost
 cost-next d n = refl
 
+-- what so many nodes inside a container may cost
+unfoldable pub under : ℕ → ℕ → ℕ
+under zero n = 0
+under (suc d) n = cost d n
+
+pub cost-under : (d n : ℕ) → cost d n ≡ 8000000000 * n + under d n
+unfolding cost under
+cost-under zero n = omega arith
+cost-under (suc d) n = refl
+
 pub cost-most : (d n m : ℕ) → n ≤ m → cost d n ≤ cost d m
 cost-most d n m h = let e : n + (m - n) ≡ m = omega arith in omega (arith, cost-add d n (m - n), ap (cost d) e)
+
+pub under-most : (d n m : ℕ) → n ≤ m → under d n ≤ under d m
+unfolding under
+under-most zero n m h = omega arith
+under-most (suc d) n m h = cost-most d n m h
 
 pub cost-deep : (n : ℕ) → cost 64 n ≡ 520000000000 * n
 unfolding cost
@@ -47,9 +64,9 @@ cost-deep n = omega arith
 
 -- ---- nodes
 
--- how many nodes lie between a node and the one past all that it starts
+-- how many nodes lie between a node and the one past all that it starts; Root has all up to its link
 unfoldable pub sizeOf : Tape → ℕ → ℕ
-sizeOf t k = past (t .nodes) k - k
+sizeOf t k = cond (eqb k 0) (linkAt (t .nodes) 0 + 1) (past (t .nodes) k - k)
 
 unfoldable pub sizes : Tape → List ℕ → ℕ
 sizes t [] = 0
@@ -65,18 +82,26 @@ unfolding mass sizes
 mass-is t d [] = omega (arith, cost-add d 0 0)
 mass-is t d (k ∷ ks) = omega (arith, mass-is t d ks, cost-add d (sizeOf t k) (sizes t ks))
 
-pub tiles-size : (t : Tape) (ks : List ℕ) (a z : ℕ) → Tiles (t .nodes) a z ks → a + sizes t ks ≡ z
-unfolding sizes sizeOf
-tiles-size t [] a z e = omega (arith, e)
-tiles-size t (k ∷ ks) a z e = omega (arith, tiles-size t ks (past (t .nodes) a) z (e .3), e .2, ap (λ (i : ℕ). past (t .nodes) i - i) (e .0))
+size-behind : (t : Tape) (k : ℕ) → 0 < k → sizeOf t k ≡ past (t .nodes) k - k
+unfolding sizeOf
+size-behind t k h = rw (ne-eqb k 0 (λ e. omega arith))
+
+size-root : (t : Tape) → sizeOf t 0 ≡ linkAt (t .nodes) 0 + 1
+unfolding sizeOf
+size-root t = refl
+
+pub tiles-size : (t : Tape) (ks : List ℕ) (a z : ℕ) → 0 < a → Tiles (t .nodes) a z ks → a + sizes t ks ≡ z
+unfolding sizes
+tiles-size t [] a z h e = omega (arith, e)
+tiles-size t (k ∷ ks) a z h e =
+    omega (arith, tiles-size t ks (past (t .nodes) a) z (omega (arith, e .2)) (e .3), e .2, ap (sizeOf t) (e .0), size-behind t a h)
 
 none-size : (t : Tape) → sizes t [] ≡ 0
 unfolding sizes
 none-size t = refl
 
-size-open : (t : Tape) (k : ℕ) → Container (t .nodes) k → sizeOf t k ≡ linkAt (t .nodes) k + 1 - k
-unfolding sizeOf
-size-open t k o = rw (past-open (t .nodes) k o)
+size-open : (t : Tape) (k : ℕ) → 0 < k → Container (t .nodes) k → sizeOf t k ≡ linkAt (t .nodes) k + 1 - k
+size-open t k h o = omega (arith, size-behind t k h, past-open (t .nodes) k o)
 
 -- ---- parts of a row
 
@@ -105,8 +130,8 @@ module _ (file : Bytes) (z : Kept₇ file) where
   t = tapeOf file
 
   pub size-some : (k : ℕ) → 1 ≤ sizeOf t k
-  unfolding sizeOf
-  size-some k = omega (arith, past-forward (t .nodes) (z .nested) k)
+  size-some zero = omega (arith, size-root t)
+  size-some (suc k) = omega (arith, size-behind t (suc k) (omega arith), past-forward (t .nodes) (z .nested) (suc k))
 
   pub count-most : (ks : List ℕ) → length ks ≤ sizes t ks
   unfolding sizes
@@ -114,14 +139,12 @@ module _ (file : Bytes) (z : Kept₇ file) where
   count-most (k ∷ ks) = omega (arith, count-most ks, size-some k)
 
   -- a node and its children
-  pub inner-size : (k : ℕ) → (k ≡ 0 → ⊥) → sizes t (children t k) + 1 ≤ sizeOf t k
-  inner-size k n =
-      by-part (t .nodes) k
-      opened
-      (λ o. omega (arith, ap (sizes t) (leaf-children file z k o n), none-size t, size-some k))
-    where
-      opened : Container (t .nodes) k → sizes t (children t k) + 1 ≤ sizeOf t k
-      opened o = omega (arith, tiles-size t (children t k) (k + 1) (linkAt (t .nodes) k) (children-cover file z k o), size-open t k o)
+  pub inner-size : (k : ℕ) → sizes t (children t k) + 1 ≤ sizeOf t k
+  inner-size zero = omega (arith, size-root t, tiles-size t (children t 0) 1 (linkAt (t .nodes) 0) (omega arith) (root-cover file z))
+  inner-size (suc k) =
+      by-part (t .nodes) (suc k)
+      (λ o. omega (arith, tiles-size t (children t (suc k)) (suc k + 1) (linkAt (t .nodes) (suc k)) (omega arith) (children-cover file z (suc k) o), size-open t (suc k) (omega arith) o))
+      (λ o. omega (arith, ap (sizes t) (leaf-children file z (suc k) o (λ e. omega arith)), none-size t, size-some (suc k)))
 
   pub root-size : sizes t (children t 0) ≤ linkAt (t .nodes) 0
-  root-size = omega (arith, tiles-size t (children t 0) 1 (linkAt (t .nodes) 0) (root-cover file z))
+  root-size = omega (arith, tiles-size t (children t 0) 1 (linkAt (t .nodes) 0) (omega arith) (root-cover file z))
