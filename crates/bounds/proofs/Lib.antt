@@ -4,3 +4,4 @@ pub mod Mass
 pub mod Lengths
 pub mod Attributes
 pub mod Parts
+pub mod Inside
