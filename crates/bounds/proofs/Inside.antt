@@ -69,19 +69,19 @@ broken-light s n h = go (hasBreak (bodyOf s))
 
 -- ---- attributes
 
-two-cost : (a c : Attr) → attrsCost (a ∷ c ∷ []) ≡ attrCost a + attrCost c
+pub two-cost : (a c : Attr) → attrsCost (a ∷ c ∷ []) ≡ attrCost a + attrCost c
 unfolding attrsCost
 two-cost a c = omega arith
 
-one-cost : (a : Attr) → attrsCost (a ∷ []) ≡ attrCost a
+pub one-cost : (a : Attr) → attrsCost (a ∷ []) ≡ attrCost a
 unfolding attrsCost
 one-cost a = omega arith
 
-more-cost : (a : Attr) (qs : List Attr) → attrsCost (a ∷ qs) ≡ attrCost a + attrsCost qs
+pub more-cost : (a : Attr) (qs : List Attr) → attrsCost (a ∷ qs) ≡ attrCost a + attrsCost qs
 unfolding attrsCost
 more-cost a qs = refl
 
-escaped-cost : (key value : Bytes) → attrCost (escaped key value) ≡ 4 + length key + 6 * length value
+pub escaped-cost : (key value : Bytes) → attrCost (escaped key value) ≡ 4 + length key + 6 * length value
 unfolding attrCost escaped
 escaped-cost key value = refl
 
@@ -177,3 +177,89 @@ module _ (file : Bytes) (z : Kept₇ file) where
         go false true w = light-one {e = verse (labelOf t k) none none} (label-limit file z k, omega (arith, own-cost k, none-size))
         go false false true = light-most (marker-light k outer (roleOf t k)) (omega (arith, own-cost k))
         go false false false = nil
+
+  -- ---- children
+
+  pub mass-more : (d k : ℕ) (ks : List ℕ) → mass t d (k ∷ ks) ≡ cost d (sizeOf t k) + mass t d ks
+  unfolding mass
+  mass-more d k ks = refl
+
+  -- a node may cost a text
+  pub text-cost : (d k : ℕ) → 8000000000 ≤ cost d (sizeOf t k)
+  text-cost d k = omega (arith, cost-least d (sizeOf t k), size-some file z k)
+
+  module _ (d : ℕ) (node : ℕ → Bool → List Event) (light : (k : ℕ) (outer : Bool) → Light (cost d (sizeOf t k)) (node k outer)) (behind : Bool) where
+    -- one turn: what is written, and what the list that is left may still cost
+    record Turned (k : ℕ) (ks : List ℕ) (r : Turn) : Type 0 where
+      weight : ℕ
+      written : Light weight (r .written)
+      left : weight + mass t d (r .rest) ≤ mass t d (k ∷ ks)
+
+    turn-light : (trim : Bool) (k : ℕ) (ks : List ℕ) (c : Child) → Turned k ks (inlineTurn node t behind trim k ks c)
+    unfolding inlineTurn
+    turn-light trim k ks anchor =
+        let f = foldAt t 7 ks in
+        record {
+          weight = 400000000 + 6 * (sizeOr (f .alt) + sizeOr (f .published));
+          written = light-one {e = verse (labelOf t k) (f .alt) (f .published)} (label-limit file z k, omega arith);
+          left = omega (arith, mass-more d k ks, text-cost d k, fold-limit file z d 7 ks);
+        }
+    turn-light trim k ks words =
+        record {
+          weight = 8000000000;
+          written = broken-light (textAt t k) (normalized t k (textAt t k) trim behind) (text-limit file z k);
+          left = omega (arith, mass-more d k ks, text-cost d k);
+        }
+    turn-light trim k ks passed = record { weight = 0; written = nil; left = omega (arith, mass-more d k ks) }
+    turn-light trim k ks marker = record { weight = cost d (sizeOf t k); written = light k behind; left = omega (arith, mass-more d k ks) }
+
+    from-light : (n : ℕ) (trim : Bool) (ks : List ℕ) → Light (mass t d ks) (inlineFrom node t behind n trim ks)
+    unfolding inlineFrom
+    from-light zero trim ks = nil
+    from-light (suc n) trim [] = nil
+    from-light (suc n) trim (k ∷ ks) =
+        let r : Turn = inlineTurn node t behind trim k ks (childOf (kindAt t k)) in
+        let l = turn-light trim k ks (childOf (kindAt t k)) in
+        light-append (l .written) (from-light n (r .trim) (r .rest)) (l .left)
+
+    pub inline-light : (trim : Bool) (ks : List ℕ) → Light (mass t d ks) (inlineAll node t behind trim ks)
+    unfolding inlineAll
+    inline-light trim ks = from-light (length ks) trim ks
+
+    note-text : (first k : ℕ) → length (noteText t first k) ≤ 4194304
+    unfolding noteText remainder
+    note-text first k = go (eqb k first)
+      where
+        go : (x : Bool) → length (cond x (remainder (textAt t k)) (textAt t k)) ≤ 4194304
+        go true = omega (arith, after-most Unicode (textAt t k), text-limit file z k)
+        go false = text-limit file z k
+
+    note-turn : (first : ℕ) (trim : Bool) (k : ℕ) (c : Child) → Light (cost d (sizeOf t k)) (noteTurn node t first behind trim k c .written)
+    unfolding noteTurn
+    note-turn first trim k anchor = nil
+    note-turn first trim k words =
+        light-most (unbroken-light (noteText t first k) (normalized t k (noteText t first k) trim behind) (note-text first k)) (text-cost d k)
+    note-turn first trim k passed = nil
+    note-turn first trim k marker = light k behind
+
+    pub note-light : (first : ℕ) (trim : Bool) (ks : List ℕ) → Light (mass t d ks) (noteAll node t first behind trim ks)
+    unfolding noteAll
+    note-light first trim [] = nil
+    note-light first trim (k ∷ ks) =
+        let r : Turn = noteTurn node t first behind trim k (noteChildOf t k) in
+        light-append (note-turn first trim k (noteChildOf t k)) (note-light first (r .trim) ks) (omega (arith, mass-more d k ks))
+
+  -- ---- by depth
+
+  pub under-next : (d : ℕ) (ks : List ℕ) → mass t d ks ≡ under (suc d) (sizes t ks)
+  unfolding under
+  under-next d ks = mass-is t d ks
+
+  pub inside-light : (d : ℕ) (m : Manner) (k : ℕ) (outer : Bool) → Light (under d (inner k)) (inside t d m k outer)
+  unfolding inside
+  inside-light zero m k outer = nil
+  inside-light (suc d) asInline k outer =
+      light-most (inline-light d (nodeIn (inside t d) t) (node-light d (inside t d) (inside-light d)) (followed t k outer) true (children t k)) (omega (arith, under-next d (children t k)))
+  inside-light (suc d) asNote k outer =
+      light-most (note-light d (nodeIn (inside t d) t) (node-light d (inside t d) (inside-light d)) (followed t k outer) (k + 1) true (children t k))
+      (omega (arith, under-next d (children t k)))

@@ -5,3 +5,4 @@ pub mod Lengths
 pub mod Attributes
 pub mod Parts
 pub mod Inside
+pub mod Blocks
