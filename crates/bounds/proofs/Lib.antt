@@ -6,3 +6,4 @@ pub mod Attributes
 pub mod Parts
 pub mod Inside
 pub mod Blocks
+pub mod Whole

@@ -58,7 +58,7 @@ unfolding under
 under-most zero n m h = omega arith
 under-most (suc d) n m h = cost-most d n m h
 
-pub cost-deep : (n : ℕ) → cost 64 n ≡ 520000000000 * n
+pub cost-deep : (n : ℕ) → cost 65 n ≡ 528000000000 * n
 unfolding cost
 cost-deep n = omega arith
 
