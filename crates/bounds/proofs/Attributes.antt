@@ -1,27 +1,27 @@
 -- How long the attributes of a node are, by the number of its children.
-use mathlib.Core.Path.{_≡_, refl, sym, ap, _∙_}
-use mathlib.Core.Bool.{Bool, true, false, cond, _&&_, _||_}
+use mathlib.Core.Path.{_≡_, refl}
+use mathlib.Core.Bool.{Bool, true, false, cond, _&&_}
 use mathlib.Core.List.{List, [], _∷_, _++_, map}
-use mathlib.Core.Option.{Option, none, some}
-use Prim.Native.Nat.{ℕ, zero, suc, _+_, _*_, _-_, _≤_, _<_, min}
+use mathlib.Core.Option.{some}
+use Prim.Native.Nat.{ℕ, zero, suc, _+_, _*_, _≤_, _<_}
 use native.Mathlib.Omega.{arith}
-use lib.ListN.{length, take, drop, length-append, length-drop, length-take}
+use lib.ListN.{length, take, drop, length-drop, length-take}
 use lib.Dec.{eqb, ltb}
 use borrow.Author.Tests.{ltb-true}
 use Rattle.parts.specs.Bytes.{Bytes, b, part, begins, same}
-use Rattle.words.specs.Words.{words, lastOf, whiteLen, wordLen, trim}
+use Rattle.words.specs.Words.{words, whiteLen, trim}
 use Rattle.words.specs.declared.Set.the-variants.{Unicode}
 use Rattle.words.proofs.Texts.{white-le}
 use Rattle.tape.specs.File.{Tape, kindAt, textAt}
 use Rattle.tape.specs.Name.{strip}
 use Rattle.tape.specs.Tree.{children}
-use Rattle.attrs.specs.Attr.{Pair, quotedFrom, quotedLen, unquoted, shown, valueFrom, valueAt, equals, hasEquals, keyIn, keyed, pairsFrom, pairsIn, isWordMarker, defaultKey, keyFor, keyedFor, bodyOf, pairsOf, pairsAt, pairsAlong, attributesOf}
+use Rattle.attrs.specs.Attr.{Pair, quotedFrom, quotedLen, unquoted, shown, valueFrom, valueAt, equals, hasEquals, keyIn, keyed, pairsFrom, pairsIn, isWordMarker, defaultKey, keyFor, keyedFor, bodyOf, pairsOf, pairsAt, pairsAlong}
 use Rattle.attrs.specs.Walk.{firstOf}
-use Rattle.attrs.proofs.Values.{Within, value-within, quoted-le}
+use Rattle.attrs.proofs.Values.{value-within}
 use Rattle.events.specs.Event.{escaped, collected}
-use Rattle.bounds.proofs.Items.{attrCost, attrsCost, attrs-append}
+use Rattle.bounds.proofs.Items.{attrCost, attrsCost}
 use Rattle.bounds.proofs.Light.{sizeOr}
-use Rattle.bounds.proofs.Lengths.{weigh, words-weigh, last-most, trim-most, strip-most}
+use Rattle.bounds.proofs.Lengths.{words-weigh, last-most, trim-most, strip-most}
 
 -- ---- values
 
@@ -122,8 +122,14 @@ pairs-most (suc n) s = go (λ z. pairs-most n z) (ltb (equals s) (length s)) ref
         ]) ≤ 10 * length s
     go f true e =
         let w = front-of s (ltb-true (equals s) (length s) e) in
-        omega (arith, pair-most s (valueAt s (equals s + 1) .start) (valueAt s (equals s + 1) .len) (valueAt s (equals s + 1) .past) (valueAt s (equals s + 1) .quoted) (w .ahead), w .within, f (drop (valueAt s (equals s + 1) .past) s), length-drop (valueAt s (equals s + 1) .past) s,
-        pairs-append (keyed (keyIn s) (shown (valueAt s (equals s + 1) .quoted) (part s (valueAt s (equals s + 1) .start) (valueAt s (equals s + 1) .len)))) (pairsFrom n (drop (valueAt s (equals s + 1) .past) s)))
+        omega (
+          arith,
+          pair-most s (valueAt s (equals s + 1) .start) (valueAt s (equals s + 1) .len) (valueAt s (equals s + 1) .past) (valueAt s (equals s + 1) .quoted) (w .ahead),
+          w .within,
+          f (drop (valueAt s (equals s + 1) .past) s),
+          length-drop (valueAt s (equals s + 1) .past) s,
+          pairs-append (keyed (keyIn s) (shown (valueAt s (equals s + 1) .quoted) (part s (valueAt s (equals s + 1) .start) (valueAt s (equals s + 1) .len)))) (pairsFrom n (drop (valueAt s (equals s + 1) .past) s)),
+        )
     go f false e = omega arith
 
 -- ---- attributes

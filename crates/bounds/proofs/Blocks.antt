@@ -1,12 +1,12 @@
 -- What the events of blocks may cost.
-use mathlib.Core.Path.{_≡_, refl, sym, ap, _∙_}
-use mathlib.Core.Bool.{Bool, true, false, cond, not, _&&_, _||_}
+use mathlib.Core.Path.{_≡_, refl}
+use mathlib.Core.Bool.{Bool, true, false, cond, not, _||_}
 use mathlib.Core.List.{List, [], _∷_, _++_}
-use Prim.Native.Nat.{ℕ, zero, suc, _+_, _*_, _-_, _≤_}
+use Prim.Native.Nat.{ℕ, zero, suc, _+_, _*_, _≤_}
 use native.Mathlib.Omega.{arith}
 use lib.ListN.{length}
 use Rattle.parts.specs.Bytes.{Bytes, b}
-use Rattle.tape.specs.File.{Tape, tapeOf, numberAt, infoAt}
+use Rattle.tape.specs.File.{Tape, tapeOf, numberAt}
 use Rattle.tape.specs.Tree.{children, upTo, without}
 use Rattle.tape.specs.Name.{markerName}
 use Rattle.render.specs.Shape.{isRow, isTopLevelBlock, isCategoryMarker}
@@ -17,15 +17,15 @@ use Rattle.render.specs.declared.note.Align.{Align}
 use Rattle.render.specs.declared.note.Align.the-variants.{Start, Center, End}
 use Rattle.attrs.specs.Attr.{attributesOf}
 use Rattle.fold.specs.Fold.{foldAt}
-use Rattle.tags.specs.Items.{Attr, Item, start, empty, close, text, line, bytesOf}
+use Rattle.tags.specs.Items.{Attr, start, empty, close, line, bytesOf}
 use Rattle.admit.specs.Refusal.{Kept₇}
 use Rattle.events.specs.Event.{Event, item, chapter, rawly, escaped, perhaps, collected, element}
-use Rattle.events.specs.Walk.{style, styled, unclosed, Manner, asInline, nodeIn, inlineAll, inside, levelOf, isCell, cellIn, cellsAlong, cells, rowE, rowsE, tableE, holder, sidebarIn, periphIn, Place, aRow, aChapter, aSidebar, aPeriph, aBlock, aVerse, dropped, placeOf, fromFirst, Blocks, blockTurn, blocksFrom, blocksE}
+use Rattle.events.specs.Walk.{style, styled, unclosed, asInline, nodeIn, inside, levelOf, isCell, cellIn, cellsAlong, cells, rowE, rowsE, tableE, holder, sidebarIn, periphIn, Place, aRow, aChapter, aSidebar, aPeriph, aBlock, aVerse, dropped, placeOf, Blocks, blockTurn, blocksFrom, blocksE}
 use Rattle.bounds.proofs.Items.{attrCost, attrsCost, attrs-append, start-most, empty-most, close-most, line-most}
-use Rattle.bounds.proofs.Light.{sizeOr, Fits, Light, nil, more, light-most, light-append, light-item, light-one, light-element, perhaps-most}
+use Rattle.bounds.proofs.Light.{sizeOr, Light, nil, more, light-most, light-append, light-item, light-one, light-element, perhaps-most}
 use Rattle.bounds.proofs.Mass.{cost, under, sizeOf, sizes, mass, mass-is, cost-next, size-some, without-mass, cut-mass}
 use Rattle.bounds.proofs.Parts.{category-limit, alt-limit, attributes-limit, style-limit, unclosed-limit, fold-limit}
-use Rattle.bounds.proofs.Inside.{one-cost, two-cost, more-cost, escaped-cost, own-cost, node-light, mass-more, text-cost, inline-light, under-next, inside-light}
+use Rattle.bounds.proofs.Inside.{two-cost, more-cost, escaped-cost, own-cost, node-light, mass-more, text-cost, inline-light, under-next, inside-light}
 
 -- a line, and events behind it
 line-light : {m n : ℕ} (level : ℕ) {es : List Event} → level ≤ 100 → Light m es → 1000 + m ≤ n → Light n (item (line level) ∷ es)
@@ -151,8 +151,16 @@ module _ (file : Bytes) (z : Kept₇ file) where
         let p = perhaps (b "category") (categoryOf t k) in
         let qs = style t k ∷ (p ++ unclosed t k) in
         light-most (holder-light level 13 qs (without (isCategoryMarker t) (children t k)) h)
-        (omega (arith, without-mass t d (isCategoryMarker t) (children t k), more-cost (style t k) (p ++ unclosed t k), attrs-append p (unclosed t k),
-        style-limit file z k, unclosed-limit file z k, perhaps-most (b "category") (categoryOf t k), category-limit file z k))
+        (omega (
+          arith,
+          without-mass t d (isCategoryMarker t) (children t k),
+          more-cost (style t k) (p ++ unclosed t k),
+          attrs-append p (unclosed t k),
+          style-limit file z k,
+          unclosed-limit file z k,
+          perhaps-most (b "category") (categoryOf t k),
+          category-limit file z k,
+        ))
 
     periph-light : (level k : ℕ) → level ≤ 100 → Light (1000000000 + 50000000 * inner k + mass t d (children t k)) (periphIn blocks t level k)
     unfolding periphIn
@@ -177,8 +185,15 @@ module _ (file : Bytes) (z : Kept₇ file) where
           weight = 10000 + mass t d (k ∷ upTo p ks);
           written = table-light d (k ∷ upTo p ks);
           left =
-              omega (arith, cut-mass t (suc d) p ks, mass-next d (upTo p ks), mass-more file z d k (upTo p ks), mass-more file z (suc d) k ks,
-              cost-next d (sizeOf t k), size-some file z k);
+              omega (
+                arith,
+                cut-mass t (suc d) p ks,
+                mass-next d (upTo p ks),
+                mass-more file z d k (upTo p ks),
+                mass-more file z (suc d) k ks,
+                cost-next d (sizeOf t k),
+                size-some file z k,
+              );
         }
     turn-light k ks aChapter =
         let f = foldAt t 6 ks in
@@ -221,8 +236,15 @@ module _ (file : Bytes) (z : Kept₇ file) where
               (light-element 5 (styled (b "p")) (inline-light file z d (nodeIn (inside t d) t) (node-light file z d (inside t d) (inside-light file z d)) false true run) (omega (arith, run-style)))
               (omega arith);
           left =
-              omega (arith, cut-mass t (suc d) p ks, mass-next d (upTo p ks), mass-more file z d k (upTo p ks), mass-more file z (suc d) k ks,
-              cost-next d (sizeOf t k), size-some file z k);
+              omega (
+                arith,
+                cut-mass t (suc d) p ks,
+                mass-next d (upTo p ks),
+                mass-more file z d k (upTo p ks),
+                mass-more file z (suc d) k ks,
+                cost-next d (sizeOf t k),
+                size-some file z k,
+              );
         }
     turn-light k ks dropped = record { weight = 0; written = nil; left = omega (arith, mass-more file z (suc d) k ks) }
 

@@ -1,6 +1,6 @@
 -- What the events of a node and of inline children may cost.
-use mathlib.Core.Path.{_≡_, refl, sym, ap, _∙_}
-use mathlib.Core.Bool.{Bool, true, false, cond, not, _&&_, _||_}
+use mathlib.Core.Path.{_≡_, refl}
+use mathlib.Core.Bool.{Bool, true, false, cond, not, _&&_}
 use mathlib.Core.List.{List, [], _∷_, _++_}
 use mathlib.Core.Option.{Option, none, some}
 use Prim.Native.Nat.{ℕ, zero, suc, _+_, _*_, _≤_}
@@ -16,7 +16,7 @@ use Rattle.tape.specs.Tree.{children, firstChild}
 use Rattle.tape.specs.Name.{markerName}
 use Rattle.tape.specs.declared.Step.{Step}
 use Rattle.tape.specs.declared.Step.the-variants.{At, Done}
-use Rattle.render.specs.Shape.{isOpen, isChapter, isVerse, trimsAfter}
+use Rattle.render.specs.Shape.{isOpen, isChapter, isVerse}
 use Rattle.render.specs.First.{any, found}
 use Rattle.render.specs.Follow.{followed}
 use Rattle.render.specs.Children.{hasContent}
@@ -26,15 +26,15 @@ use Rattle.attrs.specs.Attr.{attributesOf}
 use Rattle.attrs.specs.Walk.{firstOf}
 use Rattle.fold.specs.Fold.{foldAt}
 use Rattle.figure.specs.Figure.{legacyAt, legacyPairs, captionOf, fieldAt}
-use Rattle.tags.specs.Items.{Attr, start, empty, close, text, line, bytesOf}
+use Rattle.tags.specs.Items.{Attr, empty, text, bytesOf}
 use Rattle.admit.specs.Refusal.{Kept₇}
 use Rattle.events.specs.Event.{Event, item, chapter, verse, book, rawly, escaped, perhaps, collected, element}
 use Rattle.events.specs.Walk.{unbroken, breaks, segmented, broken, style, styled, unclosed, Manner, asInline, asNote, Role, unknownBlock, unknownInline, unwritten, figure, ref, id, note, ms, char, para, roleOf, isRef, linkOf, linked, figureAs, markerAs, nodeIn, Child, anchor, words, passed, marker, childOf, noteChildOf, Turn, normalized, inlineTurn, inlineFrom, inlineAll, noteText, noteTurn, noteAll, inside}
 use Rattle.bounds.proofs.Items.{attrCost, attrsCost, attrs-append, empty-most, text-most}
-use Rattle.bounds.proofs.Light.{sizeOr, Fits, Light, nil, more, light-most, light-append, light-item, light-one, light-element, perhaps-most}
-use Rattle.bounds.proofs.Mass.{cost, cost-add, cost-least, cost-most, under, cost-under, under-most, sizeOf, sizes, mass, mass-is, size-some, inner-size}
+use Rattle.bounds.proofs.Light.{sizeOr, Light, nil, more, light-most, light-append, light-item, light-one, light-element, perhaps-most}
+use Rattle.bounds.proofs.Mass.{cost, cost-least, cost-most, under, cost-under, under-most, sizeOf, sizes, mass, mass-is, size-some, inner-size}
 use Rattle.bounds.proofs.Lengths.{weigh, after-most, written-most, segments-weigh}
-use Rattle.bounds.proofs.Parts.{text-limit, name-limit, label-limit, code-limit, rest-limit, caller-limit, category-limit, field-limit, legacy-limit, attributes-limit, first-limit, style-limit, unclosed-limit, fold-limit}
+use Rattle.bounds.proofs.Parts.{text-limit, label-limit, code-limit, rest-limit, caller-limit, category-limit, field-limit, legacy-limit, attributes-limit, first-limit, style-limit, unclosed-limit, fold-limit}
 
 -- ---- texts
 
@@ -143,8 +143,16 @@ module _ (file : Bytes) (z : Kept₇ file) where
         let c = escaped (b "caller") (noteCaller t k) in
         let q = perhaps (b "category") (categoryOf t k) in
         light-element 7 (c ∷ style t k ∷ q) (light asNote k outer)
-        (omega (arith, more-cost c (style t k ∷ q), more-cost (style t k) q, escaped-cost (b "caller") (noteCaller t k), caller-limit file z k, style-limit file z k,
-        perhaps-most (b "category") (categoryOf t k), category-limit file z k))
+        (omega (
+          arith,
+          more-cost c (style t k ∷ q),
+          more-cost (style t k) q,
+          escaped-cost (b "caller") (noteCaller t k),
+          caller-limit file z k,
+          style-limit file z k,
+          perhaps-most (b "category") (categoryOf t k),
+          category-limit file z k,
+        ))
     marker-light k outer ms =
         let q = collected (attributesOf t k (markerName t k)) in
         light-item (empty 8 (style t k ∷ q)) (omega (arith, empty-most 8 (style t k ∷ q), more-cost (style t k) q, style-limit file z k, attributes-limit file z k (markerName t k)))

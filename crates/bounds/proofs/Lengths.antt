@@ -1,15 +1,15 @@
 -- How long words, trims, names and segments of a text are.
-use mathlib.Core.Path.{_≡_, refl, sym, ap, _∙_}
+use mathlib.Core.Path.{_≡_, ap}
 use mathlib.Core.Bool.{Bool, true, false, cond, _&&_}
 use mathlib.Core.List.{List, [], _∷_, _++_, map, flatten}
 use Prim.Native.Nat.{ℕ, zero, suc, _+_, _*_, _≤_, _<_}
 use native.Mathlib.Omega.{arith}
 use lib.ListN.{length, drop, getD, length-append, length-drop}
 use lib.Dec.{eqb}
-use Rattle.parts.specs.Bytes.{Bytes, b, begins}
-use Rattle.chars.specs.Utf8.{step, cut, cutAt, characters}
+use Rattle.parts.specs.Bytes.{Bytes, begins}
+use Rattle.chars.specs.Utf8.{characters}
 use Rattle.chars.proofs.Characters.{step-some, cut-whole}
-use Rattle.words.specs.Words.{white, charsOf, takeWhile, onto, pieces, nonempty, words, lastOf, joined, trim, trimStart, trimEnd, afterWord, whiteLen, wordLen, stepOf}
+use Rattle.words.specs.Words.{white, charsOf, takeWhile, onto, pieces, nonempty, words, lastOf, joined, trim, trimStart, afterWord, whiteLen, wordLen, stepOf}
 use Rattle.words.specs.declared.Set.{Set}
 use Rattle.words.specs.declared.Set.the-variants.{Ascii, Unicode}
 use Rattle.words.proofs.Rows.{Row, none, more}
@@ -153,8 +153,14 @@ space-most false = omega arith
 pub written-most : (s : Bytes) (n : Normalized) → length (written s n) ≤ 2 * length s + 4
 unfolding written
 written-most s n =
-    omega (arith, space-most (n .lead), space-most (n .trail), body-most s, length-append (spaceIf (n .lead)) (bodyOf s ++ spaceIf (n .trail)),
-    length-append (bodyOf s) (spaceIf (n .trail)))
+    omega (
+      arith,
+      space-most (n .lead),
+      space-most (n .trail),
+      body-most s,
+      length-append (spaceIf (n .lead)) (bodyOf s ++ spaceIf (n .trail)),
+      length-append (bodyOf s) (spaceIf (n .trail)),
+    )
 
 breaks-weigh : (n : ℕ) (s : Bytes) → length s ≤ n → (1 ≤ weigh (splitBreaks s)) × (weigh (splitBreaks s) ≤ length s + 1)
 unfolding splitBreaks weigh

@@ -1,14 +1,13 @@
 -- What events may cost, and that the text of events costs no more.
-use mathlib.Core.Path.{_≡_, refl, sym, ap, _∙_}
 use mathlib.Core.List.{List, [], _∷_, _++_}
 use mathlib.Core.Option.{Option, none, some}
-use Prim.Native.Nat.{ℕ, zero, suc, _+_, _*_, _≤_}
+use Prim.Native.Nat.{ℕ, _+_, _*_, _≤_}
 use native.Mathlib.Omega.{arith}
 use lib.ListN.{length, length-append}
 use Rattle.parts.specs.Bytes.{Bytes, b}
 use Rattle.chars.specs.Decimal.{decimal}
 use Rattle.chars.proofs.Digits.{decimal-length}
-use Rattle.tags.specs.Items.{Attr, Item, start, empty, close, text, line, bytesOf}
+use Rattle.tags.specs.Items.{Attr, Item, empty, close, text, bytesOf}
 use Rattle.events.specs.Event.{Event, item, chapter, verse, book, rawly, escaped, perhaps, element}
 use Rattle.events.specs.Pairing.{State, chapterId, verseId, after, endOf, chapterAttrs, verseAttrs, bookAttrs, bookItems, itemsOf, lastEnds, paired}
 use Rattle.bounds.proofs.Items.{attrCost, attrsCost, attrs-append, start-most, empty-most, close-most, text-most, itemsCost, items-append}
@@ -94,16 +93,27 @@ chapter-most : (code : Bytes) (n : ℕ) (alt published : Option Bytes) → lengt
     → attrsCost (chapterAttrs code n alt published) ≤ 60000000 + 6 * (sizeOr alt + sizeOr published)
 unfolding chapterAttrs attrsCost attrCost escaped rawly
 chapter-most code n alt published h =
-    omega (arith, decimal-length n, chapter-id code n, perhaps-most (b "altnumber") alt, perhaps-most (b "pubnumber") published,
-    attrs-append (perhaps (b "altnumber") alt) (perhaps (b "pubnumber") published ++ (escaped (b "sid") (chapterId code n) ∷ [])),
-    attrs-append (perhaps (b "pubnumber") published) (escaped (b "sid") (chapterId code n) ∷ []))
+    omega (
+      arith,
+      decimal-length n,
+      chapter-id code n,
+      perhaps-most (b "altnumber") alt,
+      perhaps-most (b "pubnumber") published,
+      attrs-append (perhaps (b "altnumber") alt) (perhaps (b "pubnumber") published ++ (escaped (b "sid") (chapterId code n) ∷ [])),
+      attrs-append (perhaps (b "pubnumber") published) (escaped (b "sid") (chapterId code n) ∷ []),
+    )
 
 verse-most : (code : Bytes) (n : ℕ) (label : Bytes) (alt published : Option Bytes) → length code ≤ 9000000 → length label ≤ 9000000
     → attrsCost (verseAttrs code n label alt published) ≤ 170000000 + 6 * (sizeOr alt + sizeOr published)
 unfolding verseAttrs attrsCost attrCost escaped rawly
 verse-most code n label alt published h l =
-    omega (arith, verse-id code n label, perhaps-most (b "altnumber") alt, perhaps-most (b "pubnumber") published,
-    attrs-append (perhaps (b "altnumber") alt) (escaped (b "sid") (verseId code n label) ∷ perhaps (b "pubnumber") published))
+    omega (
+      arith,
+      verse-id code n label,
+      perhaps-most (b "altnumber") alt,
+      perhaps-most (b "pubnumber") published,
+      attrs-append (perhaps (b "altnumber") alt) (escaped (b "sid") (verseId code n label) ∷ perhaps (b "pubnumber") published),
+    )
 
 code-most : (code : Bytes) → length code ≤ 9000000 → attrsCost (bookAttrs code) ≤ 60000000
 unfolding bookAttrs attrsCost attrCost rawly
@@ -120,12 +130,25 @@ unfolding itemsOf itemsCost
 items-most s z n (item i) f = omega arith
 items-most s z n (chapter c alt published) f =
     let q = chapterAttrs (s .book) c alt published in
-    omega (arith, end-most 4 (s .verse) (z .verse), end-most 3 (s .chapter) (z .chapter), empty-most 3 q, chapter-most (s .book) c alt published (z .book),
-    items-append (endOf 4 (s .verse)) (endOf 3 (s .chapter) ++ (empty 3 q ∷ [])), items-append (endOf 3 (s .chapter)) (empty 3 q ∷ []))
+    omega (
+      arith,
+      end-most 4 (s .verse) (z .verse),
+      end-most 3 (s .chapter) (z .chapter),
+      empty-most 3 q,
+      chapter-most (s .book) c alt published (z .book),
+      items-append (endOf 4 (s .verse)) (endOf 3 (s .chapter) ++ (empty 3 q ∷ [])),
+      items-append (endOf 3 (s .chapter)) (empty 3 q ∷ []),
+    )
 items-most s z n (verse label alt published) f =
     let q = verseAttrs (s .book) (s .number) label alt published in
-    omega (arith, f .1, end-most 4 (s .verse) (z .verse), empty-most 4 q, verse-most (s .book) (s .number) label alt published (z .book) (f .0),
-    items-append (endOf 4 (s .verse)) (empty 4 q ∷ []))
+    omega (
+      arith,
+      f .1,
+      end-most 4 (s .verse) (z .verse),
+      empty-most 4 q,
+      verse-most (s .book) (s .number) label alt published (z .book) (f .0),
+      items-append (endOf 4 (s .verse)) (empty 4 q ∷ []),
+    )
 items-most s z n (book code rest) f = omega (arith, f .1, book-most code rest (f .0))
 
 -- the items of events cost no more than the events, and two ends

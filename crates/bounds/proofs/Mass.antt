@@ -1,6 +1,6 @@
 -- How many nodes a node spans, and what they may cost by the depth that is left.
-use mathlib.Core.Path.{_≡_, refl, sym, ap, _∙_}
-use mathlib.Core.Bool.{Bool, true, false, cond, not, _&&_}
+use mathlib.Core.Path.{_≡_, refl, ap}
+use mathlib.Core.Bool.{Bool, true, false, cond}
 use mathlib.Core.List.{List, [], _∷_}
 use Prim.Native.Nat.{ℕ, zero, suc, _+_, _*_, _-_, _≤_, _<_}
 use native.Mathlib.Omega.{arith}
@@ -8,15 +8,14 @@ use lib.ListN.{length}
 use lib.Dec.{eqb}
 use borrow.Author.Tests.{ne-eqb}
 use Rattle.parts.specs.Bytes.{Bytes}
-use Rattle.tape.specs.File.{Tape, tapeOf, kindAt}
+use Rattle.tape.specs.File.{Tape, tapeOf}
 use Rattle.tape.specs.Tree.{children, upTo, without}
-use Rattle.tape.specs.declared.Node.{Node}
 use Rattle.nest.specs.Tape.{linkAt}
 use Rattle.nest.specs.Nest.{container, Container}
 use Rattle.nest.specs.Walk.{past, Tiles}
-use Rattle.nest.proofs.Walk.{past-open, past-leaf, by-part, past-forward, tiles-in}
+use Rattle.nest.proofs.Walk.{past-open, by-part, past-forward}
 use Rattle.admit.specs.Refusal.{Kept₇}
-use Rattle.admit.proofs.Gives.{leaf-children, children-cover, root-cover, root-only, root-first, link-ahead, link-root}
+use Rattle.admit.proofs.Gives.{leaf-children, children-cover, root-cover}
 use Rattle.events.specs.Walk.{fromFirst}
 
 -- ---- costs

@@ -1,14 +1,14 @@
 -- How long the names, labels and numbers of an admitted file's nodes are.
-use mathlib.Core.Path.{_≡_, refl, sym, ap, _∙_}
+use mathlib.Core.Path.{_≡_, refl}
 use mathlib.Core.Bool.{Bool, true, false, cond}
 use mathlib.Core.List.{List, [], _∷_, _++_}
 use mathlib.Core.Option.{Option, none, some}
-use Prim.Native.Nat.{ℕ, zero, suc, _+_, _*_, _≤_}
+use Prim.Native.Nat.{ℕ, _+_, _*_, _≤_}
 use native.Mathlib.Omega.{arith}
 use lib.ListN.{length, drop, getD, length-append, length-drop}
 use lib.Dec.{eqb}
-use Rattle.parts.specs.Bytes.{Bytes, b, begins}
-use Rattle.words.specs.Words.{words, joined, trim}
+use Rattle.parts.specs.Bytes.{Bytes, b}
+use Rattle.words.specs.Words.{words, joined}
 use Rattle.words.specs.declared.Set.the-variants.{Ascii, Unicode}
 use Rattle.tape.specs.File.{Tape, tapeOf, nodeAt, kindAt, textAt, infoAt, isSynthetic}
 use Rattle.tape.specs.Tree.{children, firstChild}
@@ -18,21 +18,21 @@ use Rattle.tape.specs.declared.Step.the-variants.{At, Done}
 use Rattle.render.specs.Shape.{isText}
 use Rattle.render.specs.Children.{firstText}
 use Rattle.render.specs.Label.{baseLen, labelOf}
-use Rattle.render.specs.Note.{firstOr, leadText, callerOr, noteCaller, trimmedAt, categoryText, categoryOf, textOf as textUnder, firstWords, bookCode, bookRest, unlessEmpty, periphAlt}
-use Rattle.attrs.specs.Attr.{Pair, attributesOf}
+use Rattle.render.specs.Note.{leadText, callerOr, noteCaller, trimmedAt, categoryText, categoryOf, textOf as textUnder, firstWords, bookCode, bookRest, unlessEmpty, periphAlt}
+use Rattle.attrs.specs.Attr.{attributesOf}
 use Rattle.attrs.specs.Walk.{firstOf}
-use Rattle.figure.specs.Figure.{split, fieldAt, trimmedAt as describedAt, describedBy, firstOfKind, valued, legacyPairs, captionOf}
+use Rattle.figure.specs.Figure.{split, fieldAt, trimmedAt as describedAt, describedBy, firstOfKind, valued, legacyPairs}
 use Rattle.fold.specs.Fold.{textOf, textsOf, numberIn, claimOf, Folded, isSome, foldFrom, foldAt}
 use Rattle.fold.specs.declared.Claim.{Claim}
 use Rattle.fold.specs.declared.Claim.the-variants.{Blank, Alt, Pub, Stops}
 use Rattle.fold.proofs.Folding.{fold-blank, fold-alt, fold-pub, fold-stops, fold-nil}
 use Rattle.admit.specs.Refusal.{Kept₇}
 use Rattle.admit.proofs.Gives.{text-length, span-good, source-limit}
-use Rattle.events.specs.Event.{rawly, escaped, perhaps, collected}
-use Rattle.events.specs.Walk.{style, styled, unclosed}
-use Rattle.bounds.proofs.Items.{attrCost, attrsCost, attrs-append}
-use Rattle.bounds.proofs.Light.{sizeOr, perhaps-most}
-use Rattle.bounds.proofs.Mass.{cost, cost-least, sizeOf, sizes, mass, size-some, count-most, inner-size}
+use Rattle.events.specs.Event.{rawly, escaped, collected}
+use Rattle.events.specs.Walk.{style, unclosed}
+use Rattle.bounds.proofs.Items.{attrCost, attrsCost}
+use Rattle.bounds.proofs.Light.{sizeOr}
+use Rattle.bounds.proofs.Mass.{cost, cost-least, sizeOf, sizes, mass, count-most, inner-size}
 use Rattle.bounds.proofs.Lengths.{weigh, words-weigh, first-most, second-most, joined-most, behind-most, get-most, trim-most, strip-most, split-weigh, name-most}
 use Rattle.bounds.proofs.Attributes.{along-cost, first-cost, collected-append}
 
@@ -139,10 +139,21 @@ module _ (file : Bytes) (z : Kept₇ file) where
       let loc = valued (b "loc") (fieldAt t a 2) in
       let copy = valued (b "copy") (fieldAt t a 3) in
       let ref = valued (b "ref") (fieldAt t a 5) in
-      omega (arith, valued-most (b "alt") (describedBy t k), by-limit k, field-cost (b "file") a 0, field-cost (b "size") a 1, field-cost (b "loc") a 2,
-      field-cost (b "copy") a 3, field-cost (b "ref") a 5,
-      collected-append (valued (b "alt") (describedBy t k)) (file ++ (size ++ (loc ++ (copy ++ ref)))),
-      collected-append file (size ++ (loc ++ (copy ++ ref))), collected-append size (loc ++ (copy ++ ref)), collected-append loc (copy ++ ref), collected-append copy ref)
+      omega (
+        arith,
+        valued-most (b "alt") (describedBy t k),
+        by-limit k,
+        field-cost (b "file") a 0,
+        field-cost (b "size") a 1,
+        field-cost (b "loc") a 2,
+        field-cost (b "copy") a 3,
+        field-cost (b "ref") a 5,
+        collected-append (valued (b "alt") (describedBy t k)) (file ++ (size ++ (loc ++ (copy ++ ref)))),
+        collected-append file (size ++ (loc ++ (copy ++ ref))),
+        collected-append size (loc ++ (copy ++ ref)),
+        collected-append loc (copy ++ ref),
+        collected-append copy ref,
+      )
 
   -- ---- attributes
 
