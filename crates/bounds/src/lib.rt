@@ -1,0 +1,1 @@
+// How long a text can be. It holds no code: proofs/ says that no admitted tape comes near 2^64.
