@@ -1,0 +1,32 @@
+use Rattle.tables.proofs.Cells.{row-closed}
+use borrow.Author.Needs.{needs}
+use Rattle.tables.proofs.close_row.Statement.{statement}
+use Rattle.tables.proofs.close_row.Tie as tie
+use Rattle.tables.proofs.close_row.Reads as reads
+use Rattle.tables.proofs.close_row.Lts as lts
+use Rattle.sink.proofs.line.Reads as line-reads
+use Rattle.sink.proofs.literal.Reads as literal-reads
+
+-- src/lib.rt:108:9
+line-requires : tie.Need-line-requires
+line-requires c κs = search needs
+
+-- src/lib.rt:109:21
+slice-aggregate-literal : tie.Need-slice-aggregate-literal
+slice-aggregate-literal c = search needs
+
+-- src/lib.rt:109:5
+literal-requires : tie.Need-literal-requires
+literal-requires c κs = search needs
+
+-- src/lib.rt:105:1
+same-length : tie.Need-same-length
+same-length c = search needs
+
+-- src/lib.rt:105:1
+returns : tie.Need-returns
+returns c = row-closed _ _ _ _ _ _ _ (c .before .before .before .before .before .before .before .line .ensures) (c .before .before .literal .ensures)
+
+pub close-row-spec : {M : Type 1} → statement M
+close-row-spec =
+    tie.close (tie.spec line-requires slice-aggregate-literal literal-requires same-length returns)

@@ -1,0 +1,33 @@
+use Rattle.tables.proofs.Cells.{cell-known, cell-none}
+use borrow.Author.Needs.{needs}
+use Rattle.tables.proofs.is_cell.Statement.{statement}
+use Rattle.tables.proofs.is_cell.Tie as tie
+use Rattle.tables.proofs.is_cell.Reads as reads
+use Rattle.tables.proofs.is_cell.Lts as lts
+use Rattle.tables.proofs.is_known.Reads as is-known-reads
+use Rattle.tape.proofs.Cursor.kind.Reads as kind-reads
+use Rattle.tape.proofs.Cursor.marker_info.Reads as marker-info-reads
+
+-- src/lib.rt:56:9
+kind-requires : tie.Need-kind-requires
+kind-requires c κs = search needs
+
+-- src/lib.rt:58:25
+marker-info-requires : tie.Need-marker-info-requires
+marker-info-requires c κs = search needs
+
+-- src/lib.rt:58:9
+is-known-requires : tie.Need-is-known-requires
+is-known-requires c κs = search needs
+
+-- src/lib.rt:58:9
+returns : tie.Need-returns
+returns c = search cell-known
+
+-- src/lib.rt:53:1
+returns-2 : tie.Need-returns-2
+returns-2 c = search cell-none
+
+pub is-cell-spec : {M : Type 1} → statement M
+is-cell-spec =
+    tie.close (tie.spec kind-requires marker-info-requires is-known-requires returns returns-2)

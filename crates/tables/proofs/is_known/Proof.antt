@@ -1,0 +1,25 @@
+use Rattle.tables.proofs.Cells.{known-some, known-none}
+use borrow.Author.Needs.{needs}
+use Rattle.tables.proofs.is_known.Statement.{statement}
+use Rattle.tables.proofs.is_known.Tie as tie
+use Rattle.tables.proofs.is_known.Reads as reads
+use Rattle.tables.proofs.is_known.Lts as lts
+
+-- src/lib.rt:47:27
+enum-told : tie.Need-enum-told
+enum-told c = search needs
+
+-- src/lib.rt:48:26
+enum-told-2 : tie.Need-enum-told-2
+enum-told-2 c = search needs
+
+-- src/lib.rt:43:1
+returns : tie.Need-returns
+returns c = search known-some
+
+-- src/lib.rt:43:1
+returns-2 : tie.Need-returns-2
+returns-2 c = search known-none
+
+pub is-known-spec : {M : Type 1} → statement M
+is-known-spec = tie.close (tie.spec enum-told enum-told-2 returns returns-2)

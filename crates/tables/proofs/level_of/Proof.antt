@@ -1,0 +1,22 @@
+use native.Mathlib.Omega.{arith}
+use Rattle.tables.proofs.Cells.{level-some, level-top, level-none}
+use borrow.Author.Needs.{needs}
+use Rattle.tables.proofs.level_of.Statement.{statement}
+use Rattle.tables.proofs.level_of.Tie as tie
+use Rattle.tables.proofs.level_of.Reads as reads
+use Rattle.tables.proofs.level_of.Lts as lts
+
+-- src/lib.rt:40:21
+sub-result : tie.Need-sub-result
+sub-result c = search needs
+
+-- src/lib.rt:36:1
+returns : tie.Need-returns
+returns c = (search level-some, search level-top)
+
+-- src/lib.rt:36:1
+returns-2 : tie.Need-returns-2
+returns-2 c = (search level-none, omega arith)
+
+pub level-of-spec : {M : Type 1} → statement M
+level-of-spec = tie.close (tie.spec sub-result returns returns-2)

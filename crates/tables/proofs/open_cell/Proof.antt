@@ -1,0 +1,56 @@
+use Rattle.tables.proofs.Cells.{cell-opened}
+use borrow.Author.Needs.{needs}
+use Rattle.tables.proofs.open_cell.Statement.{statement}
+use Rattle.tables.proofs.open_cell.Tie as tie
+use Rattle.tables.proofs.open_cell.Reads as reads
+use Rattle.tables.proofs.open_cell.Lts as lts
+use Rattle.sink.proofs.Sink.over.Reads as over-reads
+use Rattle.sink.proofs.Sink.window.Reads as window-reads
+use Rattle.tables.proofs.put_cell.Reads as put-cell-reads
+use Rattle.tape.proofs.Cursor.marker_name.Reads as marker-name-reads
+use Rattle.window.proofs.put_run.Reads as put-run-reads
+
+-- src/lib.rt:85:22
+window-requires : tie.Need-window-requires
+window-requires c κs = search needs
+
+-- src/lib.rt:85:42
+marker-name-requires : tie.Need-marker-name-requires
+marker-name-requires c κs = search needs
+
+-- src/lib.rt:85:9
+put-cell-requires : tie.Need-put-cell-requires
+put-cell-requires c κs = search needs
+
+-- src/lib.rt:86:29
+slice-aggregate-put-run : tie.Need-slice-aggregate-put-run
+slice-aggregate-put-run c = search needs
+
+-- src/lib.rt:86:9
+put-run-requires : tie.Need-put-run-requires
+put-run-requires c κs = search needs
+
+-- src/lib.rt:87:5
+over-requires : tie.Need-over-requires
+over-requires c κs = search needs
+
+-- src/lib.rt:82:1
+same-length : tie.Need-same-length
+same-length c = search needs
+
+-- src/lib.rt:82:1
+returns : tie.Need-returns
+returns c = search cell-opened
+
+pub open-cell-spec : {M : Type 1} → statement M
+open-cell-spec =
+    tie.close
+    (tie.spec
+    window-requires
+    marker-name-requires
+    put-cell-requires
+    slice-aggregate-put-run
+    put-run-requires
+    over-requires
+    same-length
+    returns)

@@ -1,0 +1,32 @@
+use Rattle.tables.proofs.Cells.{table-opened}
+use borrow.Author.Needs.{needs}
+use Rattle.tables.proofs.open_table.Statement.{statement}
+use Rattle.tables.proofs.open_table.Tie as tie
+use Rattle.tables.proofs.open_table.Reads as reads
+use Rattle.tables.proofs.open_table.Lts as lts
+use Rattle.sink.proofs.line.Reads as line-reads
+use Rattle.sink.proofs.literal.Reads as literal-reads
+
+-- src/lib.rt:141:9
+line-requires : tie.Need-line-requires
+line-requires c κs = search needs
+
+-- src/lib.rt:142:21
+slice-aggregate-literal : tie.Need-slice-aggregate-literal
+slice-aggregate-literal c = search needs
+
+-- src/lib.rt:142:5
+literal-requires : tie.Need-literal-requires
+literal-requires c κs = search needs
+
+-- src/lib.rt:138:1
+same-length : tie.Need-same-length
+same-length c = search needs
+
+-- src/lib.rt:138:1
+returns : tie.Need-returns
+returns c = table-opened _ _ _ _ _ _ _ (c .before .before .before .before .before .before .before .line .ensures) (c .before .before .literal .ensures)
+
+pub open-table-spec : {M : Type 1} → statement M
+open-table-spec =
+    tie.close (tie.spec line-requires slice-aggregate-literal literal-requires same-length returns)

@@ -1,0 +1,117 @@
+use mathlib.Core.Path.{_≡_, refl}
+use Prim.Native.Nat.{_≤_}
+use native.Mathlib.Omega.{arith}
+use Rattle.tape.specs.File.{tapeIn}
+use Rattle.tape.specs.Tree.{left}
+use Rattle.tape.proofs.Walk.{left-turn}
+use Rattle.events.specs.Walk.{fromFirst}
+use Rattle.lists.specs.Span.{nodesIn}
+use Rattle.lists.proofs.Nodes.{left-on, left-here}
+use Rattle.tables.specs.Rows.{isNoRow}
+use Rattle.tables.proofs.Spans.{past-ended, past-cut, past-skipped, past-row, past-other}
+use borrow.Author.Needs.{needs}
+use Rattle.tables.proofs.past_rows.Statement.{statement}
+use Rattle.tables.proofs.past_rows.Tie as tie
+use Rattle.tables.proofs.past_rows.Reads as reads
+use Rattle.tables.proofs.past_rows.Lts as lts
+use Rattle.lists.proofs.member_of.Reads as member-of-reads
+use Rattle.render.proofs.is_row.Reads as is-row-reads
+use Rattle.tape.proofs.Cursor.next_sibling.Reads as next-sibling-reads
+
+abbrev Inv-loop : tie.InvT-loop
+Inv-loop file tape span step₀ step = (fromFirst (isNoRow (tapeIn tape file)) (nodesIn (tapeIn tape file) span step) ≡ fromFirst (isNoRow (tapeIn tape file)) (nodesIn (tapeIn tape file) span step₀)) × (left (tapeIn tape file) step ≤ left (tapeIn tape file) step₀)
+
+abbrev μ-loop : tie.MeasureT-loop
+μ-loop file tape span step₀ step = left (tapeIn tape file) step
+
+-- src/lib.rt:118:5
+loop-holds : tie.Need-loop-holds Inv-loop μ-loop
+loop-holds c = (refl, omega arith)
+
+-- src/lib.rt:120:27
+enum-told : tie.Need-enum-told Inv-loop μ-loop
+enum-told c = search needs
+
+-- src/lib.rt:120:27
+returns : tie.Need-returns Inv-loop μ-loop
+returns c = (search past-ended, search needs)
+
+-- src/lib.rt:121:22
+enum-known-step : tie.Need-enum-known-step Inv-loop μ-loop
+enum-known-step c = search needs
+
+-- src/lib.rt:121:34
+member-of-requires : tie.Need-member-of-requires Inv-loop μ-loop
+member-of-requires c κs = search needs
+
+-- src/lib.rt:122:32
+enum-told-2 : tie.Need-enum-told-2 Inv-loop μ-loop
+enum-told-2 c = search needs
+
+-- src/lib.rt:122:32
+returns-2 : tie.Need-returns-2 Inv-loop μ-loop
+returns-2 c = (search past-cut, search left-here)
+
+-- src/lib.rt:124:21
+enum-told-3 : tie.Need-enum-told-3 Inv-loop μ-loop
+enum-told-3 c = search needs
+
+-- src/lib.rt:124:21
+next-sibling-requires : tie.Need-next-sibling-requires Inv-loop μ-loop
+next-sibling-requires c κs = search needs
+
+-- src/lib.rt:118:5
+loop-less : tie.Need-loop-less Inv-loop μ-loop
+loop-less c = search left-turn
+
+-- src/lib.rt:118:5
+loop-again : tie.Need-loop-again Inv-loop μ-loop
+loop-again c = (search past-skipped, search left-on)
+
+-- src/lib.rt:127:24
+enum-told-4 : tie.Need-enum-told-4 Inv-loop μ-loop
+enum-told-4 c = search needs
+
+-- src/lib.rt:127:24
+is-row-requires : tie.Need-is-row-requires Inv-loop μ-loop
+is-row-requires c κs = search needs
+
+-- src/lib.rt:128:25
+next-sibling-requires-2 : tie.Need-next-sibling-requires-2 Inv-loop μ-loop
+next-sibling-requires-2 c κs = search needs
+
+-- src/lib.rt:118:5
+loop-less-2 : tie.Need-loop-less-2 Inv-loop μ-loop
+loop-less-2 c = search left-turn
+
+-- src/lib.rt:118:5
+loop-again-2 : tie.Need-loop-again-2 Inv-loop μ-loop
+loop-again-2 c = (search past-row, search left-on)
+
+-- src/lib.rt:130:25
+returns-3 : tie.Need-returns-3 Inv-loop μ-loop
+returns-3 c = (search past-other, search left-here)
+
+pub past-rows-spec : {M : Type 1} → statement M
+past-rows-spec =
+    tie.close
+    (tie.spec
+    Inv-loop
+    μ-loop
+    loop-holds
+    enum-told
+    returns
+    enum-known-step
+    member-of-requires
+    enum-told-2
+    returns-2
+    enum-told-3
+    next-sibling-requires
+    loop-less
+    loop-again
+    enum-told-4
+    is-row-requires
+    next-sibling-requires-2
+    loop-less-2
+    loop-again-2
+    returns-3)
