@@ -1,0 +1,199 @@
+-- What a marker, a node, the inside of a container and a turn along a list emit.
+use mathlib.Core.Path.{_≡_, refl, sym, ap, _∙_, subst}
+use mathlib.Core.Logic.{inl}
+use mathlib.Core.Bool.{Bool, true, false, cond, _&&_, _||_}
+use mathlib.Core.List.{List, [], _∷_, _++_}
+use mathlib.Core.Option.{none}
+use Prim.Native.Nat.{ℕ, zero, suc, _+_, _-_, _<_}
+use native.Mathlib.Omega.{arith}
+use lib.Dec.{eqb}
+use borrow.Author.Tests.{eq-eqb, ne-eqb}
+use Rattle.tape.specs.File.{Tape, kindAt, numberAt}
+use Rattle.tape.specs.Tree.{nextSibling, firstChild, children, walkFrom, left}
+use Rattle.tape.specs.declared.Cursor.{Cursor}
+use Rattle.tape.specs.declared.kinds.Kind.{Kind}
+use Rattle.tape.specs.declared.Step.{Step}
+use Rattle.tape.specs.declared.Step.the-variants.{At, Done}
+use Rattle.tape.proofs.Walk.{walk-turn, walk-end, children-walk}
+use Rattle.render.specs.Shape.{isChapter, isVerse, isOpen, trimsAfter}
+use Rattle.render.specs.Follow.{followed, Kept}
+use Rattle.render.specs.Label.{labelOf}
+use Rattle.fold.specs.Fold.{numberOf}
+use Rattle.lists.specs.Span.{filtered, cutAt, nodesIn}
+use Rattle.lists.specs.declared.Span.{Span}
+use Rattle.lists.proofs.Nodes.{nodes-done}
+use Rattle.events.specs.Event.{Event, chapter, verse}
+use Rattle.events.specs.Walk.{Manner, asInline, asNote, Role, roleOf, markerAs, nodeIn, inside, inlineAll, noteAll}
+use Rattle.events.specs.Emit.{Desk, emit, emitAll}
+use Rattle.events.proofs.Emits.{emit-append}
+use Rattle.events.proofs.Turns.{inline-none}
+use Rattle.tagging.specs.Roles.{isWhole, mannerOf, mannerBy, opening, closing, leafOf}
+use Rattle.tagging.proofs.Splits.{marker-split}
+use Rattle.turns.specs.Turn.{sortIn, noteSort, plainFrom, onward, notePlain, noteOnward, KeptAt}
+use Rattle.turns.specs.declared.Sort.{Sort}
+use Rattle.turns.specs.declared.Sort.the-variants.{End, Enter, Plain}
+use Rattle.turns.specs.declared.Child.{Child}
+use Rattle.turns.proofs.Sorts.{sort-turn, note-sort-turn}
+
+-- ---- markers
+
+module _ (t : Tape) (d k : ℕ) (outer : Bool) (s : Desk) {role′ : Role} (er : role′ ≡ roleOf t k) {w : Bool} (ew : w ≡ isWhole t k role′) where
+  pub marker-whole : w ≡ true → {a z r : Desk} (n : Bool) → a ≡ emitAll s (opening t k role′) → mannerOf role′ ≡ mannerBy n
+      → z ≡ emitAll a (inside t d (mannerBy n) k outer) → r ≡ emitAll z (closing t k role′)
+      → r ≡ emitAll s (markerAs (inside t d) t k outer (roleOf t k))
+  marker-whole h {a} {z} {r} n ea en ez er′ =
+      let middle : List Event = inside t d (mannerOf role′) k outer in
+      er′
+      ∙ ap (λ (x : Desk). emitAll x (closing t k role′)) (ez ∙ ap (λ (m : Manner). emitAll a (inside t d m k outer)) (sym en) ∙ ap (λ (x : Desk). emitAll x middle) ea)
+      ∙ sym (emit-append (emitAll s (opening t k role′)) middle (closing t k role′))
+      ∙ sym (emit-append s (opening t k role′) (middle ++ closing t k role′))
+      ∙ ap (emitAll s) (sym (marker-split (inside t d) t k outer role′ ∙ ap (λ (x : Bool). cond x (opening t k role′ ++ (middle ++ closing t k role′)) (leafOf t k role′)) (sym ew ∙ h)))
+      ∙ ap (λ (x : Role). emitAll s (markerAs (inside t d) t k outer x)) er
+
+  pub marker-leaf : w ≡ false → {r : Desk} → r ≡ emitAll s (leafOf t k role′) → r ≡ emitAll s (markerAs (inside t d) t k outer (roleOf t k))
+  marker-leaf h er′ =
+      er′
+      ∙ ap (emitAll s) (sym (marker-split (inside t d) t k outer role′
+      ∙ ap (λ (x : Bool). cond x (opening t k role′ ++ (inside t d (mannerOf role′) k outer ++ closing t k role′)) (leafOf t k role′)) (sym ew ∙ h)))
+      ∙ ap (λ (x : Role). emitAll s (markerAs (inside t d) t k outer x)) er
+
+-- ---- nodes
+
+module _ (t : Tape) (d k : ℕ) (outer : Bool) (s : Desk) {z : Kind} (ez : z .code ≡ kindAt t k) where
+  pub node-chapter : z .code ≡ 6 → {n : ℕ} → n ≡ numberAt t k → {r : Desk} → r ≡ emit s (chapter n (numberOf t Done) (numberOf t Done)) → r ≡ emitAll s (nodeIn (inside t d) t k outer)
+  unfolding nodeIn emitAll numberOf
+  node-chapter h en er = rw (eq-eqb (kindAt t k) 6 (sym ez ∙ h), ← en) er
+
+  pub node-verse : (z .code ≡ 6 → ⊥) → z .code ≡ 7 → {r : Desk} → r ≡ emit s (verse (labelOf t k) (numberOf t Done) (numberOf t Done)) → r ≡ emitAll s (nodeIn (inside t d) t k outer)
+  unfolding nodeIn emitAll numberOf
+  node-verse n₆ h er = rw (ne-eqb (kindAt t k) 6 (λ e. n₆ (ez ∙ e)), eq-eqb (kindAt t k) 7 (sym ez ∙ h)) er
+
+  pub node-marker : (z .code ≡ 6 → ⊥) → (z .code ≡ 7 → ⊥) → z .code ≡ 3 → {r : Desk} → r ≡ emitAll s (markerAs (inside t d) t k outer (roleOf t k)) → r ≡ emitAll s (nodeIn (inside t d) t k outer)
+  unfolding nodeIn
+  node-marker n₆ n₇ h er = rw (ne-eqb (kindAt t k) 6 (λ e. n₆ (ez ∙ e)), ne-eqb (kindAt t k) 7 (λ e. n₇ (ez ∙ e)), eq-eqb (kindAt t k) 3 (sym ez ∙ h)) er
+
+  pub node-other : (z .code ≡ 6 → ⊥) → (z .code ≡ 7 → ⊥) → (z .code ≡ 3 → ⊥) → s ≡ emitAll s (nodeIn (inside t d) t k outer)
+  unfolding nodeIn emitAll
+  node-other n₆ n₇ n₃ = rw (ne-eqb (kindAt t k) 6 (λ e. n₆ (ez ∙ e)), ne-eqb (kindAt t k) 7 (λ e. n₇ (ez ∙ e)), ne-eqb (kindAt t k) 3 (λ e. n₃ (ez ∙ e)))
+
+-- ---- inside
+
+abbrev all : Span
+all = record { cut = false; sifted = false }
+
+all-nodes : (t : Tape) (s : Step) → nodesIn t all s ≡ walkFrom t s
+unfolding nodesIn cutAt filtered
+all-nodes t s = refl
+
+module _ (t : Tape) (k : ℕ) (outer : Bool) (s : Desk) where
+  pub inside-zero : {d : ℕ} (m : Manner) → d ≡ 0 → s ≡ emitAll s (inside t d m k outer)
+  unfolding inside emitAll
+  inside-zero m h = rw h
+
+  inside-deep : (d : ℕ) (m : Manner) → (d ≡ 0 → ⊥) → inside t (suc (d - 1)) m k outer ≡ inside t d m k outer
+  inside-deep zero m h = absurd (h refl)
+  inside-deep (suc d) m h = ap (λ (j : ℕ). inside t (suc j) m k outer) (omega arith)
+
+  pub inside-inline : {d : ℕ} {note behind : Bool} {first : Step} {r : Desk} → (d ≡ 0 → ⊥) → behind ≡ followed t k outer → first ≡ firstChild t k → note ≡ false
+      → r ≡ emitAll s (inlineAll (nodeIn (inside t (d - 1)) t) t behind true (nodesIn t all first)) → r ≡ emitAll s (inside t d (mannerBy note) k outer)
+  unfolding inside mannerBy
+  inside-inline {d} {note} {behind} {first} h eb ef hn er =
+      er
+      ∙ ap (λ (ks : List ℕ). emitAll s (inlineAll (nodeIn (inside t (d - 1)) t) t behind true ks)) (all-nodes t first ∙ children-walk t k ef)
+      ∙ ap (λ (x : Bool). emitAll s (inlineAll (nodeIn (inside t (d - 1)) t) t x true (children t k))) eb
+      ∙ ap (emitAll s) (inside-deep d asInline h)
+      ∙ ap (λ (x : Bool). emitAll s (inside t d (mannerBy x) k outer)) (sym hn)
+
+  pub inside-note : {d : ℕ} {note behind : Bool} {first : Step} {r : Desk} → (d ≡ 0 → ⊥) → behind ≡ followed t k outer → first ≡ firstChild t k → note ≡ true
+      → r ≡ emitAll s (noteAll (nodeIn (inside t (d - 1)) t) t (k + 1) behind true (walkFrom t first)) → r ≡ emitAll s (inside t d (mannerBy note) k outer)
+  unfolding inside mannerBy
+  inside-note {d} {note} {behind} {first} h eb ef hn er =
+      er
+      ∙ ap (λ (ks : List ℕ). emitAll s (noteAll (nodeIn (inside t (d - 1)) t) t (k + 1) behind true ks)) (children-walk t k ef)
+      ∙ ap (λ (x : Bool). emitAll s (noteAll (nodeIn (inside t (d - 1)) t) t (k + 1) x true (children t k))) eb
+      ∙ ap (emitAll s) (inside-deep d asNote h)
+      ∙ ap (λ (x : Bool). emitAll s (inside t d (mannerBy x) k outer)) (sym hn)
+
+-- ---- what is kept
+
+pub kept-here : (t : Tape) (s : Step) → KeptAt t s s
+kept-here t Done = tt
+kept-here t (At c) = inl refl
+
+kept-for : (t : Tape) {step kept : Step} {c : Cursor} → KeptAt t step kept → step ≡ At c → Kept t c kept
+kept-for t {step} {kept} h e = subst (λ (s : Step). KeptAt t s kept) e h
+
+pub kept-plain : (t : Tape) {step : Step} {c : Cursor} (kept : Step) → step ≡ At c → KeptAt t step kept → (n k : Step) → (Kept t c kept → KeptAt t n k) → KeptAt t n k
+kept-plain t kept e h n k f = f (kept-for t h e)
+
+-- ---- a list of children
+
+module _ (node : ℕ → Bool → List Event) (t : Tape) (span : Span) (behind trim : Bool) {step : Step} (s : Desk) {s₀ : Desk}
+    (inv : emitAll s (inlineAll node t behind trim (nodesIn t span step)) ≡ s₀) where
+  pub inline-done : step ≡ Done → s ≡ s₀
+  unfolding emitAll
+  inline-done e = sym (ap (emitAll s) (ap (inlineAll node t behind trim) (nodes-done t span e) ∙ inline-none node t behind trim)) ∙ inv
+
+  module _ {c : Cursor} (ec : step ≡ At c) {r : Sort} (er : r ≡ sortIn t span (c .at)) where
+    turned : {n : Step} → n ≡ nextSibling t (c .at) → emitAll s (onward node t behind trim (c .at) (nodesIn t span n) r) ≡ s₀
+    turned en = ap (emitAll s) (sym (sort-turn node t behind trim span ec en er)) ∙ inv
+
+    pub inline-ended : r ≡ End → s ≡ s₀
+    unfolding onward emitAll
+    inline-ended h = ap (λ (z : Sort). emitAll s (onward node t behind trim (c .at) (nodesIn t span (nextSibling t (c .at))) z)) (sym h) ∙ turned refl
+
+    pub inline-entered : r ≡ Enter → {u : Desk} {x : Bool} {n : Step} → u ≡ emitAll s (node (c .at) behind) → x ≡ trimsAfter t (c .at) → n ≡ nextSibling t (c .at)
+        → emitAll u (inlineAll node t behind x (nodesIn t span n)) ≡ s₀
+    unfolding onward
+    inline-entered h {u} {x} {n} eu ex en =
+        ap (λ (z : Desk). emitAll z (inlineAll node t behind x (nodesIn t span n))) eu
+        ∙ sym (emit-append s (node (c .at) behind) (inlineAll node t behind x (nodesIn t span n)))
+        ∙ ap (λ (y : Bool). emitAll s (node (c .at) behind ++ inlineAll node t behind y (nodesIn t span n))) ex
+        ∙ ap (λ (z : Sort). emitAll s (onward node t behind trim (c .at) (nodesIn t span n) z)) (sym h)
+        ∙ turned en
+
+    pub inline-plain : {child : Child} → r ≡ Plain child → (kept : Step) → KeptAt t step kept → (u : Desk) (x : Bool) (n : Step)
+        → (Kept t c kept → (m : ℕ → Bool → List Event) → emitAll u (inlineAll m t behind x (nodesIn t span n)) ≡ emitAll s (plainFrom m t behind trim (c .at) (nodesIn t span (nextSibling t (c .at))) child))
+        → emitAll u (inlineAll node t behind x (nodesIn t span n)) ≡ s₀
+    unfolding onward
+    inline-plain h kept hk u x n e =
+        e (kept-for t hk ec) node
+        ∙ ap (λ (z : Sort). emitAll s (onward node t behind trim (c .at) (nodesIn t span (nextSibling t (c .at))) z)) (sym h) ∙ turned refl
+
+-- ---- a note's children
+
+module _ (node : ℕ → Bool → List Event) (t : Tape) (first : ℕ) (behind trim : Bool) {step : Step} (s : Desk) {s₀ : Desk}
+    (inv : emitAll s (noteAll node t first behind trim (walkFrom t step)) ≡ s₀) where
+  pub note-done : step ≡ Done → s ≡ s₀
+  unfolding emitAll noteAll
+  note-done e = sym (ap (λ (ks : List ℕ). emitAll s (noteAll node t first behind trim ks)) (walk-end t e)) ∙ inv
+
+  module _ {c : Cursor} (ec : step ≡ At c) {r : Sort} (er : r ≡ noteSort t (c .at)) where
+    note-turned : {n : Step} → n ≡ nextSibling t (c .at) → emitAll s (noteOnward node t behind trim first (c .at) (walkFrom t n) r) ≡ s₀
+    note-turned en = ap (emitAll s) (sym (note-sort-turn node t behind trim first ec en er)) ∙ inv
+
+    pub note-ended : r ≡ End → s ≡ s₀
+    unfolding noteOnward emitAll
+    note-ended h = ap (λ (z : Sort). emitAll s (noteOnward node t behind trim first (c .at) (walkFrom t (nextSibling t (c .at))) z)) (sym h) ∙ note-turned refl
+
+    pub note-entered : r ≡ Enter → {u : Desk} {x : Bool} {n : Step} → u ≡ emitAll s (node (c .at) behind) → x ≡ trimsAfter t (c .at) → n ≡ nextSibling t (c .at)
+        → emitAll u (noteAll node t first behind x (walkFrom t n)) ≡ s₀
+    unfolding noteOnward
+    note-entered h {u} {x} {n} eu ex en =
+        ap (λ (z : Desk). emitAll z (noteAll node t first behind x (walkFrom t n))) eu
+        ∙ sym (emit-append s (node (c .at) behind) (noteAll node t first behind x (walkFrom t n)))
+        ∙ ap (λ (y : Bool). emitAll s (node (c .at) behind ++ noteAll node t first behind y (walkFrom t n))) ex
+        ∙ ap (λ (z : Sort). emitAll s (noteOnward node t behind trim first (c .at) (walkFrom t n) z)) (sym h)
+        ∙ note-turned en
+
+    pub note-plain : {child : Child} → r ≡ Plain child → (kept : Step) → KeptAt t step kept → (u : Desk) (x : Bool) (n : Step)
+        → (Kept t c kept → (m : ℕ → Bool → List Event) → emitAll u (noteAll m t first behind x (walkFrom t n)) ≡ emitAll s (notePlain m t behind trim first (c .at) (walkFrom t (nextSibling t (c .at))) child))
+        → emitAll u (noteAll node t first behind x (walkFrom t n)) ≡ s₀
+    unfolding noteOnward
+    note-plain h kept hk u x n e =
+        e (kept-for t hk ec) node
+        ∙ ap (λ (z : Sort). emitAll s (noteOnward node t behind trim first (c .at) (walkFrom t (nextSibling t (c .at))) z)) (sym h) ∙ note-turned refl
+
+-- a turn that enters no marker goes on
+pub left-plain : (t : Tape) {step : Step} {c : Cursor} (n : Step) → step ≡ At c → left t n < left t (At c) → left t n < left t step
+left-plain t n e h = rw e h

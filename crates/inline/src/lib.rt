@@ -1,0 +1,186 @@
+// Inline content: single nodes, what stands inside them, and lists of children call each other, and the remaining depth falls.
+ghost use mathlib.Core.Path.{_≡_};
+ghost use mathlib.Core.Bool.{true};
+ghost use Prim.Native.Nat.{_+_};
+ghost use Rattle.tape.specs.File.{tapeIn};
+ghost use Rattle.tape.specs.Tree.{walkFrom};
+ghost use Rattle.events.specs.Walk.{roleOf, markerAs, nodeIn, inside as insideOf, inlineAll, noteAll};
+ghost use Rattle.events.specs.Emit.{emitAll};
+ghost use Rattle.sink.specs.Desk.{deskIn};
+ghost use Rattle.lists.specs.Span.{nodesIn};
+ghost use Rattle.tagging.specs.Roles.{mannerBy};
+use lists::Span;
+use sink::Sink;
+use tape::Cursor;
+use tape::Kind;
+use tape::Sections;
+use tape::Step;
+use turns::Sort;
+use turns::note_sort;
+use turns::note_turn;
+use turns::plain_turn;
+use turns::sort_in;
+
+// A marker: its opening tags, what stands inside, its closing tags; or a leaf.
+fn marker(
+    file: &[u8],
+    tape: Sections,
+    c: Cursor,
+    depth: usize,
+    outer: bool,
+    sink: Sink,
+    out: &mut [u8],
+) -> Sink
+    ensures { λ r. ⌜ deskIn (tapeIn tape (now (file .entry)) .source) r (now (out .exit)) ≡ emitAll (deskIn (tapeIn tape (now (file .entry)) .source) sink (now (out .entry))) (markerAs (insideOf (tapeIn tape (now (file .entry))) depth) (tapeIn tape (now (file .entry))) (c .at) outer (roleOf (tapeIn tape (now (file .entry))) (c .at))) ⌝ }
+{
+    let role = tagging::role_of(file, tape, c);
+    if tagging::is_whole(file, tape, c, role) {
+        let a = tagging::open_marker(file, tape, c, role, sink, out);
+        let z = inside(file, tape, c, depth, outer, tagging::is_note(role), a, out);
+        tagging::close_marker(file, tape, c, role, z, out)
+    } else {
+        tagging::write_leaf(file, tape, c, role, sink, out)
+    }
+}
+
+// One node that is no text; `outer` says whether inline content follows its parent.
+pub fn node(
+    file: &[u8],
+    tape: Sections,
+    c: Cursor,
+    depth: usize,
+    outer: bool,
+    sink: Sink,
+    out: &mut [u8],
+) -> Sink
+    ensures { λ r. ⌜ deskIn (tapeIn tape (now (file .entry)) .source) r (now (out .exit)) ≡ emitAll (deskIn (tapeIn tape (now (file .entry)) .source) sink (now (out .entry))) (nodeIn (insideOf (tapeIn tape (now (file .entry))) depth) (tapeIn tape (now (file .entry))) (c .at) outer) ⌝ }
+{
+    let kind = c.kind(file, tape);
+    if kind.code == Kind::CHAPTER {
+        return milestone::chapter(
+            file,
+            tape,
+            c.number(file, tape),
+            Step::Done,
+            Step::Done,
+            sink,
+            out,
+        );
+    }
+    if kind.code == Kind::VERSE {
+        return milestone::verse(file, tape, c, Step::Done, Step::Done, sink, out);
+    }
+    if kind.code == Kind::MARKER_OPEN {
+        return marker(file, tape, c, depth, outer, sink, out);
+    }
+    sink
+}
+
+// What stands inside a container.
+pub fn inside(
+    file: &[u8],
+    tape: Sections,
+    c: Cursor,
+    depth: usize,
+    outer: bool,
+    note: bool,
+    sink: Sink,
+    out: &mut [u8],
+) -> Sink
+    ensures { λ r. ⌜ deskIn (tapeIn tape (now (file .entry)) .source) r (now (out .exit)) ≡ emitAll (deskIn (tapeIn tape (now (file .entry)) .source) sink (now (out .entry))) (insideOf (tapeIn tape (now (file .entry))) depth (mannerBy note) (c .at) outer) ⌝ }
+{
+    if depth == 0 {
+        return sink;
+    }
+    let behind = render::followed(file, tape, c, outer);
+    let first = c.first_child(file, tape);
+    if note {
+        note_inline(file, tape, c, first, depth - 1, behind, sink, out)
+    } else {
+        let span = Span {
+            cut: false,
+            sifted: false,
+        };
+        inline(file, tape, span, first, depth - 1, behind, sink, out)
+    }
+}
+
+// A list of inline children; `behind` says whether inline content follows their parent.
+pub fn inline(
+    file: &[u8],
+    tape: Sections,
+    span: Span,
+    first: Step,
+    depth: usize,
+    behind: bool,
+    sink: Sink,
+    out: &mut [u8],
+) -> Sink
+    ensures { λ r. ⌜ deskIn (tapeIn tape (now (file .entry)) .source) r (now (out .exit)) ≡ emitAll (deskIn (tapeIn tape (now (file .entry)) .source) sink (now (out .entry))) (inlineAll (nodeIn (insideOf (tapeIn tape (now (file .entry))) depth) (tapeIn tape (now (file .entry)))) (tapeIn tape (now (file .entry))) behind true (nodesIn (tapeIn tape (now (file .entry))) span first)) ⌝ }
+{
+    let mut s = sink;
+    let mut step = first;
+    let mut kept = first;
+    let mut trim = true;
+    loop {
+        match step {
+            Step::Done => return s,
+            Step::At(c) => match sort_in(file, tape, span, c) {
+                Sort::End => return s,
+                Sort::Enter => {
+                    s = node(file, tape, c, depth, behind, s, out);
+                    trim = render::trims_after(file, tape, c);
+                    step = c.next_sibling(file, tape);
+                    kept = step;
+                }
+                Sort::Plain(child) => {
+                    let g = plain_turn(file, tape, span, c, child, trim, behind, kept, s, out);
+                    s = g.sink;
+                    trim = g.trim;
+                    kept = g.kept;
+                    step = g.next;
+                }
+            },
+        }
+    }
+}
+
+// The children of a note.
+fn note_inline(
+    file: &[u8],
+    tape: Sections,
+    parent: Cursor,
+    first: Step,
+    depth: usize,
+    behind: bool,
+    sink: Sink,
+    out: &mut [u8],
+) -> Sink
+    ensures { λ r. ⌜ deskIn (tapeIn tape (now (file .entry)) .source) r (now (out .exit)) ≡ emitAll (deskIn (tapeIn tape (now (file .entry)) .source) sink (now (out .entry))) (noteAll (nodeIn (insideOf (tapeIn tape (now (file .entry))) depth) (tapeIn tape (now (file .entry)))) (tapeIn tape (now (file .entry))) (parent .at + 1) behind true (walkFrom (tapeIn tape (now (file .entry))) first)) ⌝ }
+{
+    let mut s = sink;
+    let mut step = first;
+    let mut kept = first;
+    let mut trim = true;
+    loop {
+        match step {
+            Step::Done => return s,
+            Step::At(c) => match note_sort(file, tape, c) {
+                Sort::End => return s,
+                Sort::Enter => {
+                    s = node(file, tape, c, depth, behind, s, out);
+                    trim = render::trims_after(file, tape, c);
+                    step = c.next_sibling(file, tape);
+                    kept = step;
+                }
+                Sort::Plain(child) => {
+                    let g = note_turn(file, tape, parent, c, child, trim, behind, kept, s, out);
+                    s = g.sink;
+                    trim = g.trim;
+                    kept = g.kept;
+                    step = g.next;
+                }
+            },
+        }
+    }
+}

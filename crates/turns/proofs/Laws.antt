@@ -1,0 +1,250 @@
+-- One law for each return of a turn.
+use mathlib.Core.Path.{_≡_, refl, sym, ap, _∙_}
+use mathlib.Core.Bool.{Bool, true, false, not, _&&_, _||_}
+use mathlib.Core.List.{List, _++_}
+use Prim.Native.Nat.{ℕ, _+_, _-_, _≤_, _<_}
+use native.Mathlib.Omega.{arith}
+use borrow.Author.Tests.{eq-eqb, ne-eqb}
+use Rattle.parts.specs.Bytes.{Bytes}
+use Rattle.texts.specs.Text.{endsWhite, normalizeText}
+use Rattle.texts.specs.declared.Normalized.{Normalized}
+use Rattle.texts.proofs.Edges.{trail-unasked}
+use Rattle.tape.specs.File.{Tape, tapeIn, textAt}
+use Rattle.tape.specs.Tree.{nextSibling, walkFrom, left}
+use Rattle.tape.specs.declared.Sections.{Sections}
+use Rattle.tape.specs.declared.kinds.Kind.{Kind}
+use Rattle.tape.specs.declared.Cursor.{Cursor}
+use Rattle.tape.specs.declared.Step.{Step}
+use Rattle.tape.specs.declared.Step.the-variants.{At, Done}
+use Rattle.tape.proofs.Walk.{left-turn}
+use Rattle.render.specs.Follow.{nextSolid, inlineAt, inlineFollows, Kept}
+use Rattle.render.specs.Label.{labelOf}
+use Rattle.render.specs.Note.{remainder}
+use Rattle.render.proofs.Follows.{kept-on, kept-first, behind-far, behind-done, follows-of}
+use Rattle.fold.specs.Fold.{Folded, foldAt, numberOf}
+use Rattle.fold.specs.declared.Folds.{Folds}
+use Rattle.lists.specs.Span.{nodesIn, foldedIn}
+use Rattle.lists.specs.declared.Span.{Span}
+use Rattle.events.specs.Event.{Event, verse}
+use Rattle.events.specs.Walk.{normalized, unbroken, broken, inlineTurn, inlineAll, noteText, noteTurn, noteAll}
+use Rattle.events.specs.Emit.{Desk, emit, emitAll}
+use Rattle.events.proofs.Turns.{inlineOn}
+use Rattle.events.proofs.Emits.{emit-append}
+use Rattle.sink.specs.Desk.{deskIn}
+use Rattle.sink.specs.declared.Sink.{Sink}
+use Rattle.turns.specs.Turn.{plainFrom, notePlain, KeptAt}
+use Rattle.turns.specs.declared.Child.{Child}
+use Rattle.turns.specs.declared.Going.{Going}
+use Rattle.turns.specs.declared.Child.the-variants.{Skipped, Anchor, Words, Passed}
+
+-- ---- the solid sibling that is kept
+
+-- a step serves the child that it leads to
+pub kept-here : (t : Tape) (next : Step) → KeptAt t next next
+kept-here t Done = tt
+kept-here t (At c) = kept-first t c refl
+
+module _ (t : Tape) (c : Cursor) where
+  -- what is solid behind a child serves the next
+  solid-on : (next : Step) {solid : Step} → solid ≡ nextSolid t (c .at) → next ≡ nextSibling t (c .at) → KeptAt t next solid
+  solid-on Done es en = tt
+  solid-on (At d) es en = kept-on t (c .at) d (sym en) es
+
+  pub kept-solid : {kept : Step} (next : Step) {solid : Step} → (Kept t c kept → solid ≡ nextSolid t (c .at)) → Kept t c kept → next ≡ nextSibling t (c .at) → KeptAt t next solid
+  kept-solid next es h en = solid-on next (es h) en
+
+pub kept-next : (t : Tape) (c : Cursor) (kept next : Step) → Kept t c kept → next ≡ nextSibling t (c .at) → KeptAt t next next
+kept-next t c kept next h en = kept-here t next
+
+module _ (c : Cursor) {kept : Step} (next : Step) where
+  pub past-done : kept ≡ Done → (t : Tape) → Kept t c kept → next ≡ nextSibling t (c .at) → KeptAt t next Done
+  past-done ed t h en = solid-on t c next (behind-done t c ed h) en
+
+  pub past-here : (t : Tape) → Kept t c kept → next ≡ nextSibling t (c .at) → KeptAt t next next
+  past-here t h en = kept-here t next
+
+  pub past-far : (d : Cursor) → kept ≡ At d → (d .at ≡ c .at → ⊥) → (t : Tape) → Kept t c kept → next ≡ nextSibling t (c .at) → KeptAt t next (At d)
+  past-far d ed n t h en = solid-on t c next (behind-far t c d ed n h) en
+
+-- ---- a text as it is normalized
+
+or-true : (x : Bool) → x || true ≡ true
+or-true true = refl
+or-true false = refl
+
+or-false : (x : Bool) → x || false ≡ x
+or-false true = refl
+or-false false = refl
+
+module _ (t : Tape) (c : Cursor) (s : Bytes) (trim behind : Bool) (kept : Step) {n : Normalized} where
+  pub look-behind : behind ≡ true → n ≡ normalizeText s (not trim) true → Kept t c kept → n ≡ normalized t (c .at) s trim behind
+  unfolding normalized
+  look-behind h en k = rw (h, or-true (inlineFollows t (c .at))) en
+
+  pub look-solid : behind ≡ false → {solid : Step} → (Kept t c kept → solid ≡ nextSolid t (c .at)) → {x : Bool} → x ≡ inlineAt t solid → n ≡ normalizeText s (not trim) x
+      → Kept t c kept → n ≡ normalized t (c .at) s trim behind
+  unfolding normalized
+  look-solid h {solid} es {x} ex en k =
+      rw (h, or-false (inlineFollows t (c .at))) (en ∙ ap (normalizeText s (not trim)) (follows-of t (c .at) (es k) ex))
+
+  pub look-unasked : {x : Bool} → x ≡ endsWhite s → x ≡ false → n ≡ normalizeText s (not trim) false → Kept t c kept → n ≡ normalized t (c .at) s trim behind
+  unfolding normalized
+  look-unasked ex h en k = en ∙ trail-unasked s (not trim) false (inlineFollows t (c .at) || behind) (sym ex ∙ h)
+
+-- ---- a text
+
+module _ (c : Sections) (file : Bytes) (k : Cursor) (trim behind : Bool) (kept : Step) (sink : Sink) (out : Bytes) where
+  pub words-written : {s : Bytes} → s ≡ textAt (tapeIn c file) (k .at) → {n : Normalized} → (Kept (tapeIn c file) k kept → n ≡ normalized (tapeIn c file) (k .at) s trim behind)
+      → (r : Sink) (last : Bytes) → ((source : Bytes) → deskIn source r last ≡ emitAll (deskIn source sink out) (broken s n))
+      → {x : Bool} → x ≡ trim && not (n .shows)
+      → Kept (tapeIn c file) k kept → (node : ℕ → Bool → List Event) (ks : List ℕ)
+      → emitAll (deskIn (tapeIn c file .source) r last) (inlineAll node (tapeIn c file) behind x ks)
+      ≡ emitAll (deskIn (tapeIn c file .source) sink out) (plainFrom node (tapeIn c file) behind trim (k .at) ks Words)
+  unfolding plainFrom inlineOn inlineTurn
+  words-written {s} es {n} en r last er {x} ex h node ks =
+      let t : Tape = tapeIn c file in
+      let w : Desk = deskIn (t .source) sink out in
+      let is : n ≡ normalized t (k .at) (textAt t (k .at)) trim behind = en h ∙ ap (λ (z : Bytes). normalized t (k .at) z trim behind) es in
+      ap (λ (z : Desk). emitAll z (inlineAll node t behind x ks)) (er (t .source))
+      ∙ sym (emit-append w (broken s n) (inlineAll node t behind x ks))
+      ∙ ap (λ (z : Bool). emitAll w (broken s n ++ inlineAll node t behind z ks)) ex
+      ∙ ap (λ (z : Bytes). emitAll w (broken z n ++ inlineAll node t behind (trim && not (n .shows)) ks)) es
+      ∙ ap (λ (z : Normalized). emitAll w (broken (textAt t (k .at)) z ++ inlineAll node t behind (trim && not (z .shows)) ks)) is
+
+  pub note-written : (parent : Cursor) {s : Bytes} → s ≡ noteText (tapeIn c file) (parent .at + 1) (k .at) → {n : Normalized}
+      → (Kept (tapeIn c file) k kept → n ≡ normalized (tapeIn c file) (k .at) s trim behind)
+      → (r : Sink) (last : Bytes) → ((source : Bytes) → deskIn source r last ≡ emitAll (deskIn source sink out) (unbroken s n))
+      → {x : Bool} → x ≡ trim && not (n .shows)
+      → Kept (tapeIn c file) k kept → (node : ℕ → Bool → List Event) (ks : List ℕ)
+      → emitAll (deskIn (tapeIn c file .source) r last) (noteAll node (tapeIn c file) (parent .at + 1) behind x ks)
+      ≡ emitAll (deskIn (tapeIn c file .source) sink out) (notePlain node (tapeIn c file) behind trim (parent .at + 1) (k .at) ks Words)
+  unfolding notePlain noteTurn
+  note-written parent {s} es {n} en r last er {x} ex h node ks =
+      let t : Tape = tapeIn c file in
+      let first : ℕ = parent .at + 1 in
+      let w : Desk = deskIn (t .source) sink out in
+      let is : n ≡ normalized t (k .at) (noteText t first (k .at)) trim behind = en h ∙ ap (λ (z : Bytes). normalized t (k .at) z trim behind) es in
+      ap (λ (z : Desk). emitAll z (noteAll node t first behind x ks)) (er (t .source))
+      ∙ sym (emit-append w (unbroken s n) (noteAll node t first behind x ks))
+      ∙ ap (λ (z : Bool). emitAll w (unbroken s n ++ noteAll node t first behind z ks)) ex
+      ∙ ap (λ (z : Bytes). emitAll w (unbroken z n ++ noteAll node t first behind (trim && not (n .shows)) ks)) es
+      ∙ ap (λ (z : Normalized). emitAll w (unbroken (noteText t first (k .at)) z ++ noteAll node t first behind (trim && not (z .shows)) ks)) is
+
+-- what the look gives, kept for the next sibling
+pub words-kept : (t : Tape) (c : Cursor) (kept : Step) {next : Step} (solid : Step) → next ≡ nextSibling t (c .at) → (Kept t c kept → next ≡ nextSibling t (c .at) → KeptAt t next solid)
+    → Kept t c kept → KeptAt t next solid
+words-kept t c kept solid en e h = e h en
+
+pub look-past : (t : Tape) (c : Cursor) (kept next solid : Step) → ((t : Tape) → Kept t c kept → next ≡ nextSibling t (c .at) → KeptAt t next solid)
+    → Kept t c kept → next ≡ nextSibling t (c .at) → KeptAt t next solid
+look-past t c kept next solid e = e t
+
+pub passed-kept : (t : Tape) (c : Cursor) (kept : Step) {next : Step} (solid : Step) → next ≡ nextSibling t (c .at) → ((t : Tape) → Kept t c kept → next ≡ nextSibling t (c .at) → KeptAt t next solid)
+    → Kept t c kept → KeptAt t next solid
+passed-kept t c kept solid en e h = e t h en
+
+-- the text of a note's child
+module _ (t : Tape) (parent c : Cursor) {s : Bytes} (es : s ≡ textAt t (c .at)) where
+  pub first-text : (c .at - 1 ≡ parent .at) → 0 < c .at → {r : Bytes} → r ≡ remainder s → r ≡ noteText t (parent .at + 1) (c .at)
+  unfolding noteText
+  first-text h p er = rw (eq-eqb (c .at) (parent .at + 1) (omega arith)) (er ∙ ap remainder es)
+
+  other : (c .at ≡ parent .at + 1 → ⊥) → s ≡ noteText t (parent .at + 1) (c .at)
+  unfolding noteText
+  other n = rw (ne-eqb (c .at) (parent .at + 1) n) es
+
+  pub later-text : (c .at - 1 ≡ parent .at → ⊥) → s ≡ noteText t (parent .at + 1) (c .at)
+  later-text n = other (λ e. n (omega arith))
+
+  pub root-text : c .at ≤ 0 → s ≡ noteText t (parent .at + 1) (c .at)
+  root-text h = other (λ e. omega arith)
+
+-- ---- a verse
+
+module _ (c : Sections) (file : Bytes) (span : Span) (k : Cursor) (sink : Sink) (out : Bytes)
+    {first : Step} (ef : first ≡ nextSibling (tapeIn c file) (k .at)) {kind : Kind} (ek : kind .code ≡ 7) (f : Folds)
+    (e : foldedIn (tapeIn c file) span f ≡ foldAt (tapeIn c file) (kind .code) (nodesIn (tapeIn c file) span first)) where
+  pub anchor-written : (r : Sink) (last : Bytes)
+      → deskIn (tapeIn c file .source) r last ≡ emit (deskIn (tapeIn c file .source) sink out) (verse (labelOf (tapeIn c file) (k .at)) (numberOf (tapeIn c file) (f .alt)) (numberOf (tapeIn c file) (f .published)))
+      → (node : ℕ → Bool → List Event) (behind trim : Bool)
+      → emitAll (deskIn (tapeIn c file .source) r last) (inlineAll node (tapeIn c file) behind true (nodesIn (tapeIn c file) span (f .rest)))
+      ≡ emitAll (deskIn (tapeIn c file .source) sink out) (plainFrom node (tapeIn c file) behind trim (k .at) (nodesIn (tapeIn c file) span (nextSibling (tapeIn c file) (k .at))) Anchor)
+  unfolding plainFrom inlineOn inlineTurn emitAll foldedIn
+  anchor-written r last er node behind trim =
+      let t : Tape = tapeIn c file in
+      let w : Desk = deskIn (t .source) sink out in
+      let folded : foldedIn t span f ≡ foldAt t 7 (nodesIn t span (nextSibling t (k .at))) = e ∙ rw (ek, ef) in
+      ap (λ (z : Desk). emitAll z (inlineAll node t behind true (nodesIn t span (f .rest)))) er
+      ∙ ap (λ (z : Folded). emitAll (emit w (verse (labelOf t (k .at)) (z .alt) (z .published))) (inlineAll node t behind true (z .rest))) folded
+
+pub anchor-left : (t : Tape) (k : Cursor) (rest : Step) {first : Step} → first ≡ nextSibling t (k .at) → left t rest ≤ left t first → left t rest < left t (At k)
+anchor-left t k rest ef h = omega (arith, left-turn t k refl ef)
+
+-- ---- a turn
+
+pub turn-left : (t : Tape) (k : Cursor) {next : Step} → next ≡ nextSibling t (k .at) → left t next < left t (At k)
+turn-left t k en = left-turn t k refl en
+
+pub anchor-kept : (t : Tape) (k : Cursor) (kept next solid : Step) → KeptAt t next solid → Kept t k kept → KeptAt t next solid
+anchor-kept t k kept next solid e h = e
+
+module _ (c : Sections) (file : Bytes) (span : Span) (k : Cursor) (trim behind : Bool) (kept : Step) (sink : Sink) (out : Bytes) (g : Going) where
+  -- what is left to write behind the turn is what was left before it, from such a child on
+  abbrev Goes : Bytes → Child → Type 0
+  Goes last child =
+      Kept (tapeIn c file) k kept → (node : ℕ → Bool → List Event)
+      → emitAll (deskIn (tapeIn c file .source) (g .sink) last) (inlineAll node (tapeIn c file) behind (g .trim) (nodesIn (tapeIn c file) span (g .next)))
+      ≡ emitAll (deskIn (tapeIn c file .source) sink out) (plainFrom node (tapeIn c file) behind trim (k .at) (nodesIn (tapeIn c file) span (nextSibling (tapeIn c file) (k .at))) child)
+
+  pub plain-anchor : {child : Child} → child ≡ Anchor → (last : Bytes)
+      → ((node : ℕ → Bool → List Event) (behind trim : Bool)
+      → emitAll (deskIn (tapeIn c file .source) (g .sink) last) (inlineAll node (tapeIn c file) behind (g .trim) (nodesIn (tapeIn c file) span (g .next)))
+      ≡ emitAll (deskIn (tapeIn c file .source) sink out) (plainFrom node (tapeIn c file) behind trim (k .at) (nodesIn (tapeIn c file) span (nextSibling (tapeIn c file) (k .at))) Anchor))
+      → Goes last child
+  plain-anchor ec last e h node = rw ec (e node behind trim)
+
+  pub plain-words : {child : Child} → child ≡ Words → (last : Bytes)
+      → (Kept (tapeIn c file) k kept → (node : ℕ → Bool → List Event) (ks : List ℕ)
+      → emitAll (deskIn (tapeIn c file .source) (g .sink) last) (inlineAll node (tapeIn c file) behind (g .trim) ks)
+      ≡ emitAll (deskIn (tapeIn c file .source) sink out) (plainFrom node (tapeIn c file) behind trim (k .at) ks Words))
+      → g .next ≡ nextSibling (tapeIn c file) (k .at) → Goes last child
+  plain-words ec last e en h node = rw (ec, en) (e h node (nodesIn (tapeIn c file) span (nextSibling (tapeIn c file) (k .at))))
+
+  module _ {child : Child} (es : g .sink ≡ sink) (et : g .trim ≡ trim) (en : g .next ≡ nextSibling (tapeIn c file) (k .at)) where
+    pub plain-passed : child ≡ Passed → Goes out child
+    unfolding plainFrom
+    plain-passed ec h node = rw (ec, es, et, en)
+
+    pub plain-skipped : child ≡ Skipped → Goes out child
+    unfolding plainFrom
+    plain-skipped ec h node = rw (ec, es, et, en)
+
+-- ---- a turn along a note
+
+module _ (c : Sections) (file : Bytes) (parent k : Cursor) (trim behind : Bool) (kept : Step) (sink : Sink) (out : Bytes) (g : Going) where
+  -- the same for a note
+  abbrev NoteGoes : Bytes → Child → Type 0
+  NoteGoes last child =
+      Kept (tapeIn c file) k kept → (node : ℕ → Bool → List Event)
+      → emitAll (deskIn (tapeIn c file .source) (g .sink) last) (noteAll node (tapeIn c file) (parent .at + 1) behind (g .trim) (walkFrom (tapeIn c file) (g .next)))
+      ≡ emitAll (deskIn (tapeIn c file .source) sink out) (notePlain node (tapeIn c file) behind trim (parent .at + 1) (k .at) (walkFrom (tapeIn c file) (nextSibling (tapeIn c file) (k .at))) child)
+
+  pub note-turn-words : {child : Child} → child ≡ Words → (last : Bytes)
+      → (Kept (tapeIn c file) k kept → (node : ℕ → Bool → List Event) (ks : List ℕ)
+      → emitAll (deskIn (tapeIn c file .source) (g .sink) last) (noteAll node (tapeIn c file) (parent .at + 1) behind (g .trim) ks)
+      ≡ emitAll (deskIn (tapeIn c file .source) sink out) (notePlain node (tapeIn c file) behind trim (parent .at + 1) (k .at) ks Words))
+      → g .next ≡ nextSibling (tapeIn c file) (k .at) → NoteGoes last child
+  note-turn-words ec last e en h node = rw (ec, en) (e h node (walkFrom (tapeIn c file) (nextSibling (tapeIn c file) (k .at))))
+
+  module _ {child : Child} (es : g .sink ≡ sink) (et : g .trim ≡ trim) (en : g .next ≡ nextSibling (tapeIn c file) (k .at)) where
+    pub note-turn-passed : child ≡ Passed → NoteGoes out child
+    unfolding notePlain
+    note-turn-passed ec h node = rw (ec, es, et, en)
+
+    pub note-turn-anchor : child ≡ Anchor → NoteGoes out child
+    unfolding notePlain
+    note-turn-anchor ec h node = rw (ec, es, et, en)
+
+    pub note-turn-skipped : child ≡ Skipped → NoteGoes out child
+    unfolding notePlain
+    note-turn-skipped ec h node = rw (ec, es, et, en)

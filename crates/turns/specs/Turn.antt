@@ -1,0 +1,77 @@
+-- Turns along a list of inline children, by what a child is to it.
+use Prim.Native.Nat.{ℕ}
+use mathlib.Core.List.{List, [], _++_}
+use mathlib.Core.Bool.{Bool, cond, _||_}
+use lib.Dec.{eqb}
+use Rattle.tape.specs.File.{Tape, kindAt}
+use Rattle.tape.specs.declared.Step.{Step}
+use Rattle.tape.specs.declared.Step.the-variants.{At, Done}
+use Rattle.render.specs.Shape.{isCategoryMarker, trimsAfter}
+use Rattle.render.specs.Follow.{Kept}
+use Rattle.lists.specs.Span.{memberOf}
+use Rattle.lists.specs.declared.Span.{Span}
+use Rattle.lists.specs.declared.Member.{Member}
+use Rattle.lists.specs.declared.Member.the-variants.{End as EndMember, Skipped as SkippedMember, Listed}
+use Rattle.events.specs.Event.{Event}
+use Rattle.events.specs.Walk.{anchor, words, marker, inlineAll, noteTurn, noteAll}
+use Rattle.events.proofs.Turns.{inlineOn}
+use Rattle.turns.specs.declared.Child.{Child}
+use Rattle.turns.specs.declared.Child.the-variants.{Skipped, Anchor, Words, Passed}
+use Rattle.turns.specs.declared.Sort.{Sort}
+use Rattle.turns.specs.declared.Sort.the-variants.{End, Enter, Plain}
+
+-- ---- what a child is
+
+-- by its kind: Verse, Text, Attribute or Error, and markers
+unfoldable pub sortOf : ℕ → Sort
+sortOf kind = cond (eqb kind 7) (Plain Anchor) (cond (eqb kind 1) (Plain Words) (cond (eqb kind 2 || eqb kind 8) (Plain Passed) Enter))
+
+unfoldable pub sortBy : Member → ℕ → Sort
+sortBy EndMember kind = End
+sortBy SkippedMember kind = Plain Skipped
+sortBy Listed kind = sortOf kind
+
+-- to a list that may be cut or filtered
+unfoldable pub sortIn : Tape → Span → ℕ → Sort
+sortIn t span k = sortBy (memberOf t span k) (kindAt t k)
+
+-- to a note: category markers are left out, and a Verse is written as a marker is
+unfoldable pub noteSort : Tape → ℕ → Sort
+noteSort t k =
+    cond (isCategoryMarker t k) (Plain Skipped)
+    (cond (eqb (kindAt t k) 1) (Plain Words) (cond (eqb (kindAt t k) 2 || eqb (kindAt t k) 8) (Plain Passed) Enter))
+
+-- ---- what is still written
+
+module _ (node : ℕ → Bool → List Event) (t : Tape) (behind trim : Bool) where
+  -- from a child on that no marker is entered for; the siblings behind it are these
+  unfoldable pub plainFrom : ℕ → List ℕ → Child → List Event
+  plainFrom k ks Skipped = inlineAll node t behind trim ks
+  plainFrom k ks Anchor = inlineOn node t behind trim k ks anchor
+  plainFrom k ks Words = inlineOn node t behind trim k ks words
+  plainFrom k ks Passed = inlineAll node t behind trim ks
+
+  -- from any child on
+  unfoldable pub onward : ℕ → List ℕ → Sort → List Event
+  onward k ks End = []
+  onward k ks Enter = node k behind ++ inlineAll node t behind (trimsAfter t k) ks
+  onward k ks (Plain c) = plainFrom k ks c
+
+  -- the same in a note whose first child has this index
+  unfoldable pub notePlain : ℕ → ℕ → List ℕ → Child → List Event
+  notePlain first k ks Skipped = noteAll node t first behind trim ks
+  notePlain first k ks Anchor = noteAll node t first behind trim ks
+  notePlain first k ks Words = let r = noteTurn node t first behind trim k words in r .written ++ noteAll node t first behind (r .trim) ks
+  notePlain first k ks Passed = noteAll node t first behind trim ks
+
+  unfoldable pub noteOnward : ℕ → ℕ → List ℕ → Sort → List Event
+  noteOnward first k ks End = []
+  noteOnward first k ks Enter = node k behind ++ noteAll node t first behind (trimsAfter t k) ks
+  noteOnward first k ks (Plain c) = notePlain first k ks c
+
+-- ---- the solid sibling that is kept
+
+-- it serves the child that a step leads to
+abbrev pub KeptAt : Tape → Step → Step → Type 0
+KeptAt t Done kept = Unit {0}
+KeptAt t (At c) kept = Kept t c kept

@@ -1,0 +1,335 @@
+// Turns along a list of inline children that enter no marker: texts, verses, and what is passed over.
+ghost use mathlib.Core.Path.{_≡_};
+ghost use mathlib.Core.Bool.{Bool, not, _&&_};
+ghost use mathlib.Core.List.{List};
+ghost use Prim.Native.Nat.{ℕ, _+_, _<_};
+ghost use Rattle.tape.specs.File.{Tape, tapeIn};
+ghost use Rattle.tape.specs.Tree.{nextSibling, walkFrom, left};
+ghost use Rattle.tape.specs.declared.Step.the-variants.{At};
+ghost use Rattle.render.specs.Follow.{Kept};
+ghost use Rattle.events.specs.Event.{Event};
+ghost use Rattle.events.specs.Walk.{normalized, inlineAll, noteText, noteAll};
+ghost use Rattle.events.specs.Emit.{emitAll};
+ghost use Rattle.sink.specs.Desk.{deskIn};
+ghost use Rattle.lists.specs.Span.{nodesIn};
+ghost use Rattle.turns.specs.Turn.{sortOf, sortIn, noteSort, plainFrom, notePlain, KeptAt};
+ghost use Rattle.turns.specs.declared.Child.the-variants.{Anchor, Words};
+use lists::Member;
+use lists::Span;
+use lists::fold_in;
+use lists::member_of;
+use sink::Sink;
+use tape::Cursor;
+use tape::Kind;
+use tape::Sections;
+use tape::Step;
+use texts::Normalized;
+
+// A child that no marker is entered for: left out, a verse, a text, or passed over.
+pub enum Child {
+    Skipped,
+    Anchor,
+    Words,
+    Passed,
+}
+
+// What a child is to its list: the list ends, a marker is entered, or none is.
+pub enum Sort {
+    End,
+    Enter,
+    Plain(Child),
+}
+
+// Where a walk along a list stands: the sink, whether a text loses its leading space, the solid sibling that was kept, the next node.
+pub struct Going {
+    pub sink: Sink,
+    pub trim: bool,
+    pub kept: Step,
+    pub next: Step,
+}
+
+// A text as it is normalized, and the solid sibling to keep.
+struct Looked {
+    text: Normalized,
+    kept: Step,
+}
+
+// What a child is to its list by its kind.
+fn sort_of(kind: Kind) -> Sort
+    ensures { λ r. ⌜ r ≡ sortOf (kind .code) ⌝ }
+{
+    if kind.code == Kind::VERSE {
+        return Sort::Plain(Child::Anchor);
+    }
+    if kind.code == Kind::TEXT {
+        return Sort::Plain(Child::Words);
+    }
+    if kind.code == Kind::ATTRIBUTE {
+        return Sort::Plain(Child::Passed);
+    }
+    if kind.code == Kind::ERROR {
+        return Sort::Plain(Child::Passed);
+    }
+    Sort::Enter
+}
+
+// What a child is to a list that may be cut or filtered.
+pub fn sort_in(file: &[u8], tape: Sections, span: Span, c: Cursor) -> Sort
+    ensures { λ r. ⌜ r ≡ sortIn (tapeIn tape (now (file .entry))) span (c .at) ⌝ }
+{
+    match member_of(file, tape, span, c) {
+        Member::End => Sort::End,
+        Member::Skipped => Sort::Plain(Child::Skipped),
+        Member::Listed => sort_of(c.kind(file, tape)),
+    }
+}
+
+// What a child is to a note.
+pub fn note_sort(file: &[u8], tape: Sections, c: Cursor) -> Sort
+    ensures { λ r. ⌜ r ≡ noteSort (tapeIn tape (now (file .entry))) (c .at) ⌝ }
+{
+    if render::is_category_marker(file, tape, c) {
+        return Sort::Plain(Child::Skipped);
+    }
+    let kind = c.kind(file, tape);
+    if kind.code == Kind::TEXT {
+        return Sort::Plain(Child::Words);
+    }
+    if kind.code == Kind::ATTRIBUTE {
+        return Sort::Plain(Child::Passed);
+    }
+    if kind.code == Kind::ERROR {
+        return Sort::Plain(Child::Passed);
+    }
+    Sort::Enter
+}
+
+// What was kept at a child, for the sibling behind it.
+fn past(kept: Step, c: Cursor, next: Step) -> Step
+    ensures { λ r. ⌜ ((t : Tape) → Kept t c kept → next ≡ nextSibling t (c .at) → KeptAt t next r) ⌝ }
+{
+    match kept {
+        Step::Done => Step::Done,
+        Step::At(d) => {
+            if d.at == c.at {
+                return next;
+            }
+            Step::At(d)
+        }
+    }
+}
+
+// Normalizes a text; what follows it is looked for only where its trailing space hangs on it.
+fn look(
+    file: &[u8],
+    tape: Sections,
+    c: Cursor,
+    s: &[u8],
+    trim: bool,
+    behind: bool,
+    kept: Step,
+    next: Step,
+) -> Looked
+    ensures { λ r. ⌜ (Kept (tapeIn tape (now (file .entry))) c kept → r .text ≡ normalized (tapeIn tape (now (file .entry))) (c .at) (now (s .entry)) trim behind) ⌝ }
+    ensures { λ r. ⌜ (Kept (tapeIn tape (now (file .entry))) c kept → next ≡ nextSibling (tapeIn tape (now (file .entry))) (c .at) → KeptAt (tapeIn tape (now (file .entry))) next (r .kept)) ⌝ }
+{
+    if behind {
+        return Looked {
+            text: texts::normalize_text(s, !trim, true),
+            kept: next,
+        };
+    }
+    if texts::ends_white(s) {
+        let solid = render::solid_behind(file, tape, c, kept);
+        return Looked {
+            text: texts::normalize_text(s, !trim, render::inline_at(file, tape, solid)),
+            kept: solid,
+        };
+    }
+    Looked {
+        text: texts::normalize_text(s, !trim, false),
+        kept: past(kept, c, next),
+    }
+}
+
+// Whether a text behind this one still loses its leading space.
+fn still(trim: bool, n: Normalized) -> bool
+    ensures { λ r. ⌜ r ≡ trim && not (n .shows) ⌝ }
+{
+    if trim {
+        return !n.shows;
+    }
+    false
+}
+
+// A text of a list.
+fn words_turn(
+    file: &[u8],
+    tape: Sections,
+    c: Cursor,
+    trim: bool,
+    behind: bool,
+    kept: Step,
+    sink: Sink,
+    out: &mut [u8],
+) -> Going
+    ensures { λ r. ⌜ (Kept (tapeIn tape (now (file .entry))) c kept → (node : ℕ → Bool → List Event) (ks : List ℕ) → emitAll (deskIn (tapeIn tape (now (file .entry)) .source) (r .sink) (now (out .exit))) (inlineAll node (tapeIn tape (now (file .entry))) behind (r .trim) ks) ≡ emitAll (deskIn (tapeIn tape (now (file .entry)) .source) sink (now (out .entry))) (plainFrom node (tapeIn tape (now (file .entry))) behind trim (c .at) ks Words)) ⌝ }
+    ensures { λ r. ⌜ (Kept (tapeIn tape (now (file .entry))) c kept → KeptAt (tapeIn tape (now (file .entry))) (r .next) (r .kept)) ⌝ }
+    ensures { λ r. ⌜ r .next ≡ nextSibling (tapeIn tape (now (file .entry))) (c .at) ⌝ }
+{
+    let next = c.next_sibling(file, tape);
+    let s = c.text(file, tape);
+    let l = look(file, tape, c, s, trim, behind, kept, next);
+    let n = l.text;
+    let solid = l.kept;
+    let r = breaks::put_broken(s, n, sink, out);
+    Going {
+        sink: r,
+        trim: still(trim, n),
+        kept: solid,
+        next,
+    }
+}
+
+// A verse of a list, with the numbers behind it.
+fn anchor_turn(
+    file: &[u8],
+    tape: Sections,
+    span: Span,
+    c: Cursor,
+    sink: Sink,
+    out: &mut [u8],
+) -> Going
+    ensures { λ r. ⌜ ((node : ℕ → Bool → List Event) (behind trim : Bool) → emitAll (deskIn (tapeIn tape (now (file .entry)) .source) (r .sink) (now (out .exit))) (inlineAll node (tapeIn tape (now (file .entry))) behind (r .trim) (nodesIn (tapeIn tape (now (file .entry))) span (r .next))) ≡ emitAll (deskIn (tapeIn tape (now (file .entry)) .source) sink (now (out .entry))) (plainFrom node (tapeIn tape (now (file .entry))) behind trim (c .at) (nodesIn (tapeIn tape (now (file .entry))) span (nextSibling (tapeIn tape (now (file .entry))) (c .at))) Anchor)) ⌝ }
+    ensures { λ r. ⌜ KeptAt (tapeIn tape (now (file .entry))) (r .next) (r .kept) ⌝ }
+    ensures { λ r. ⌜ left (tapeIn tape (now (file .entry))) (r .next) < left (tapeIn tape (now (file .entry))) (At c) ⌝ }
+{
+    let f = fold_in(
+        file,
+        tape,
+        span,
+        Kind::new(Kind::VERSE),
+        c.next_sibling(file, tape),
+    );
+    let alt = f.alt;
+    let published = f.published;
+    let next = f.rest;
+    let r = milestone::verse(file, tape, c, alt, published, sink, out);
+    Going {
+        sink: r,
+        trim: true,
+        kept: next,
+        next,
+    }
+}
+
+// A child that writes nothing.
+fn passed_turn(file: &[u8], tape: Sections, c: Cursor, trim: bool, kept: Step, sink: Sink) -> Going
+    ensures { λ r. ⌜ r .sink ≡ sink ⌝ }
+    ensures { λ r. ⌜ r .trim ≡ trim ⌝ }
+    ensures { λ r. ⌜ (Kept (tapeIn tape (now (file .entry))) c kept → KeptAt (tapeIn tape (now (file .entry))) (r .next) (r .kept)) ⌝ }
+    ensures { λ r. ⌜ r .next ≡ nextSibling (tapeIn tape (now (file .entry))) (c .at) ⌝ }
+{
+    let next = c.next_sibling(file, tape);
+    Going {
+        sink,
+        trim,
+        kept: past(kept, c, next),
+        next,
+    }
+}
+
+// A turn along a list that enters no marker.
+pub fn plain_turn(
+    file: &[u8],
+    tape: Sections,
+    span: Span,
+    c: Cursor,
+    child: Child,
+    trim: bool,
+    behind: bool,
+    kept: Step,
+    sink: Sink,
+    out: &mut [u8],
+) -> Going
+    ensures { λ r. ⌜ (Kept (tapeIn tape (now (file .entry))) c kept → (node : ℕ → Bool → List Event) → emitAll (deskIn (tapeIn tape (now (file .entry)) .source) (r .sink) (now (out .exit))) (inlineAll node (tapeIn tape (now (file .entry))) behind (r .trim) (nodesIn (tapeIn tape (now (file .entry))) span (r .next))) ≡ emitAll (deskIn (tapeIn tape (now (file .entry)) .source) sink (now (out .entry))) (plainFrom node (tapeIn tape (now (file .entry))) behind trim (c .at) (nodesIn (tapeIn tape (now (file .entry))) span (nextSibling (tapeIn tape (now (file .entry))) (c .at))) child)) ⌝ }
+    ensures { λ r. ⌜ (Kept (tapeIn tape (now (file .entry))) c kept → KeptAt (tapeIn tape (now (file .entry))) (r .next) (r .kept)) ⌝ }
+    ensures { λ r. ⌜ left (tapeIn tape (now (file .entry))) (r .next) < left (tapeIn tape (now (file .entry))) (At c) ⌝ }
+{
+    match child {
+        Child::Anchor => anchor_turn(file, tape, span, c, sink, out),
+        Child::Words => words_turn(file, tape, c, trim, behind, kept, sink, out),
+        Child::Passed => passed_turn(file, tape, c, trim, kept, sink),
+        Child::Skipped => passed_turn(file, tape, c, trim, kept, sink),
+    }
+}
+
+// ---- notes
+
+// The text of a note's child: the caller's word goes from the first child.
+fn note_text(file: &[u8], tape: Sections, parent: Cursor, c: Cursor) -> &[u8]
+    ensures { λ r. ⌜ now r ≡ noteText (tapeIn tape (now (file .entry))) (parent .at + 1) (c .at) ⌝ }
+{
+    let s = c.text(file, tape);
+    if 0 < c.at {
+        if c.at - 1 == parent.at {
+            return render::remainder(s);
+        }
+    }
+    s
+}
+
+// A text of a note.
+fn note_words(
+    file: &[u8],
+    tape: Sections,
+    parent: Cursor,
+    c: Cursor,
+    trim: bool,
+    behind: bool,
+    kept: Step,
+    sink: Sink,
+    out: &mut [u8],
+) -> Going
+    ensures { λ r. ⌜ (Kept (tapeIn tape (now (file .entry))) c kept → (node : ℕ → Bool → List Event) (ks : List ℕ) → emitAll (deskIn (tapeIn tape (now (file .entry)) .source) (r .sink) (now (out .exit))) (noteAll node (tapeIn tape (now (file .entry))) (parent .at + 1) behind (r .trim) ks) ≡ emitAll (deskIn (tapeIn tape (now (file .entry)) .source) sink (now (out .entry))) (notePlain node (tapeIn tape (now (file .entry))) behind trim (parent .at + 1) (c .at) ks Words)) ⌝ }
+    ensures { λ r. ⌜ (Kept (tapeIn tape (now (file .entry))) c kept → KeptAt (tapeIn tape (now (file .entry))) (r .next) (r .kept)) ⌝ }
+    ensures { λ r. ⌜ r .next ≡ nextSibling (tapeIn tape (now (file .entry))) (c .at) ⌝ }
+{
+    let next = c.next_sibling(file, tape);
+    let s = note_text(file, tape, parent, c);
+    let l = look(file, tape, c, s, trim, behind, kept, next);
+    let n = l.text;
+    let solid = l.kept;
+    let r = breaks::put_unbroken(s, n, sink, out);
+    Going {
+        sink: r,
+        trim: still(trim, n),
+        kept: solid,
+        next,
+    }
+}
+
+// A turn along a note's children that enters no marker.
+pub fn note_turn(
+    file: &[u8],
+    tape: Sections,
+    parent: Cursor,
+    c: Cursor,
+    child: Child,
+    trim: bool,
+    behind: bool,
+    kept: Step,
+    sink: Sink,
+    out: &mut [u8],
+) -> Going
+    ensures { λ r. ⌜ (Kept (tapeIn tape (now (file .entry))) c kept → (node : ℕ → Bool → List Event) → emitAll (deskIn (tapeIn tape (now (file .entry)) .source) (r .sink) (now (out .exit))) (noteAll node (tapeIn tape (now (file .entry))) (parent .at + 1) behind (r .trim) (walkFrom (tapeIn tape (now (file .entry))) (r .next))) ≡ emitAll (deskIn (tapeIn tape (now (file .entry)) .source) sink (now (out .entry))) (notePlain node (tapeIn tape (now (file .entry))) behind trim (parent .at + 1) (c .at) (walkFrom (tapeIn tape (now (file .entry))) (nextSibling (tapeIn tape (now (file .entry))) (c .at))) child)) ⌝ }
+    ensures { λ r. ⌜ (Kept (tapeIn tape (now (file .entry))) c kept → KeptAt (tapeIn tape (now (file .entry))) (r .next) (r .kept)) ⌝ }
+    ensures { λ r. ⌜ left (tapeIn tape (now (file .entry))) (r .next) < left (tapeIn tape (now (file .entry))) (At c) ⌝ }
+{
+    match child {
+        Child::Words => note_words(file, tape, parent, c, trim, behind, kept, sink, out),
+        Child::Passed => passed_turn(file, tape, c, trim, kept, sink),
+        Child::Anchor => passed_turn(file, tape, c, trim, kept, sink),
+        Child::Skipped => passed_turn(file, tape, c, trim, kept, sink),
+    }
+}
