@@ -15,6 +15,10 @@ ghost use Rattle.events.specs.Emit.{emit, emitAll};
 ghost use Rattle.sink.specs.Desk.{deskIn};
 ghost use Rattle.lists.specs.Span.{nodesIn};
 ghost use Rattle.tables.specs.Rows.{isNoRow, rowOpens, rowCloses, tableOpens, tableCloses};
+
+mod full;
+
+pub use full::table;
 use lists::Member;
 use lists::Span;
 use lists::member_of;

@@ -2,10 +2,6 @@ use Rattle.tables.proofs.Cells.{table-closed}
 use borrow.Author.Needs.{needs}
 use Rattle.tables.proofs.close_table.Statement.{statement}
 use Rattle.tables.proofs.close_table.Tie as tie
-use Rattle.tables.proofs.close_table.Reads as reads
-use Rattle.tables.proofs.close_table.Lts as lts
-use Rattle.sink.proofs.line.Reads as line-reads
-use Rattle.sink.proofs.literal.Reads as literal-reads
 
 -- src/lib.rt:148:9
 line-requires : tie.Need-line-requires

@@ -2,11 +2,6 @@ use Rattle.tables.proofs.Cells.{cell-known, cell-none}
 use borrow.Author.Needs.{needs}
 use Rattle.tables.proofs.is_cell.Statement.{statement}
 use Rattle.tables.proofs.is_cell.Tie as tie
-use Rattle.tables.proofs.is_cell.Reads as reads
-use Rattle.tables.proofs.is_cell.Lts as lts
-use Rattle.tables.proofs.is_known.Reads as is-known-reads
-use Rattle.tape.proofs.Cursor.kind.Reads as kind-reads
-use Rattle.tape.proofs.Cursor.marker_info.Reads as marker-info-reads
 
 -- src/lib.rt:56:9
 kind-requires : tie.Need-kind-requires

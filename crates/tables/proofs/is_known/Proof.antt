@@ -2,8 +2,6 @@ use Rattle.tables.proofs.Cells.{known-some, known-none}
 use borrow.Author.Needs.{needs}
 use Rattle.tables.proofs.is_known.Statement.{statement}
 use Rattle.tables.proofs.is_known.Tie as tie
-use Rattle.tables.proofs.is_known.Reads as reads
-use Rattle.tables.proofs.is_known.Lts as lts
 
 -- src/lib.rt:47:27
 enum-told : tie.Need-enum-told

@@ -3,8 +3,6 @@ use Rattle.tables.proofs.Cells.{level-some, level-top, level-none}
 use borrow.Author.Needs.{needs}
 use Rattle.tables.proofs.level_of.Statement.{statement}
 use Rattle.tables.proofs.level_of.Tie as tie
-use Rattle.tables.proofs.level_of.Reads as reads
-use Rattle.tables.proofs.level_of.Lts as lts
 
 -- src/lib.rt:40:21
 sub-result : tie.Need-sub-result

@@ -2,13 +2,6 @@ use Rattle.tables.proofs.Cells.{cell-opened}
 use borrow.Author.Needs.{needs}
 use Rattle.tables.proofs.open_cell.Statement.{statement}
 use Rattle.tables.proofs.open_cell.Tie as tie
-use Rattle.tables.proofs.open_cell.Reads as reads
-use Rattle.tables.proofs.open_cell.Lts as lts
-use Rattle.sink.proofs.Sink.over.Reads as over-reads
-use Rattle.sink.proofs.Sink.window.Reads as window-reads
-use Rattle.tables.proofs.put_cell.Reads as put-cell-reads
-use Rattle.tape.proofs.Cursor.marker_name.Reads as marker-name-reads
-use Rattle.window.proofs.put_run.Reads as put-run-reads
 
 -- src/lib.rt:85:22
 window-requires : tie.Need-window-requires

@@ -2,10 +2,6 @@ use Rattle.tables.proofs.Cells.{table-opened}
 use borrow.Author.Needs.{needs}
 use Rattle.tables.proofs.open_table.Statement.{statement}
 use Rattle.tables.proofs.open_table.Tie as tie
-use Rattle.tables.proofs.open_table.Reads as reads
-use Rattle.tables.proofs.open_table.Lts as lts
-use Rattle.sink.proofs.line.Reads as line-reads
-use Rattle.sink.proofs.literal.Reads as literal-reads
 
 -- src/lib.rt:141:9
 line-requires : tie.Need-line-requires

@@ -12,11 +12,6 @@ use Rattle.tables.proofs.Spans.{past-ended, past-cut, past-skipped, pas
 use borrow.Author.Needs.{needs}
 use Rattle.tables.proofs.past_rows.Statement.{statement}
 use Rattle.tables.proofs.past_rows.Tie as tie
-use Rattle.tables.proofs.past_rows.Reads as reads
-use Rattle.tables.proofs.past_rows.Lts as lts
-use Rattle.lists.proofs.member_of.Reads as member-of-reads
-use Rattle.render.proofs.is_row.Reads as is-row-reads
-use Rattle.tape.proofs.Cursor.next_sibling.Reads as next-sibling-reads
 
 abbrev Inv-loop : tie.InvT-loop
 Inv-loop file tape span step₀ step = (fromFirst (isNoRow (tapeIn tape file)) (nodesIn (tapeIn tape file) span step) ≡ fromFirst (isNoRow (tapeIn tape file)) (nodesIn (tapeIn tape file) span step₀)) × (left (tapeIn tape file) step ≤ left (tapeIn tape file) step₀)

@@ -2,9 +2,6 @@ use Rattle.tables.proofs.Cells.{align-start, align-center, align-end}
 use borrow.Author.Needs.{needs}
 use Rattle.tables.proofs.put_align.Statement.{statement}
 use Rattle.tables.proofs.put_align.Tie as tie
-use Rattle.tables.proofs.put_align.Reads as reads
-use Rattle.tables.proofs.put_align.Lts as lts
-use Rattle.window.proofs.put_run.Reads as put-run-reads
 
 -- src/lib.rt:67:36
 enum-told : tie.Need-enum-told

@@ -2,11 +2,6 @@ use Rattle.tables.proofs.Cells.{cell-put}
 use borrow.Author.Needs.{needs}
 use Rattle.tables.proofs.put_cell.Statement.{statement}
 use Rattle.tables.proofs.put_cell.Tie as tie
-use Rattle.tables.proofs.put_cell.Reads as reads
-use Rattle.tables.proofs.put_cell.Lts as lts
-use Rattle.render.proofs.cell_align.Reads as cell-align-reads
-use Rattle.tables.proofs.put_align.Reads as put-align-reads
-use Rattle.window.proofs.put_run.Reads as put-run-reads
 
 -- src/lib.rt:77:29
 slice-aggregate-put-run : tie.Need-slice-aggregate-put-run
