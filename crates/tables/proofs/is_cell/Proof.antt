@@ -3,23 +3,18 @@ use borrow.Author.Needs.{needs}
 use Rattle.tables.proofs.is_cell.Statement.{statement}
 use Rattle.tables.proofs.is_cell.Tie as tie
 
--- src/lib.rt:56:9
 kind-requires : tie.Need-kind-requires
 kind-requires c κs = search needs
 
--- src/lib.rt:58:25
 marker-info-requires : tie.Need-marker-info-requires
 marker-info-requires c κs = search needs
 
--- src/lib.rt:58:9
 is-known-requires : tie.Need-is-known-requires
 is-known-requires c κs = search needs
 
--- src/lib.rt:58:9
 returns : tie.Need-returns
 returns c = search cell-known
 
--- src/lib.rt:53:1
 returns-2 : tie.Need-returns-2
 returns-2 c = search cell-none
 

@@ -3,19 +3,15 @@ use borrow.Author.Needs.{needs}
 use Rattle.tables.proofs.is_known.Statement.{statement}
 use Rattle.tables.proofs.is_known.Tie as tie
 
--- src/lib.rt:47:27
 enum-told : tie.Need-enum-told
 enum-told c = search needs
 
--- src/lib.rt:48:26
 enum-told-2 : tie.Need-enum-told-2
 enum-told-2 c = search needs
 
--- src/lib.rt:43:1
 returns : tie.Need-returns
 returns c = search known-some
 
--- src/lib.rt:43:1
 returns-2 : tie.Need-returns-2
 returns-2 c = search known-none
 

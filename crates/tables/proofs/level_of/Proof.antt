@@ -4,15 +4,12 @@ use borrow.Author.Needs.{needs}
 use Rattle.tables.proofs.level_of.Statement.{statement}
 use Rattle.tables.proofs.level_of.Tie as tie
 
--- src/lib.rt:40:21
 sub-result : tie.Need-sub-result
 sub-result c = search needs
 
--- src/lib.rt:36:1
 returns : tie.Need-returns
 returns c = (search level-some, search level-top)
 
--- src/lib.rt:36:1
 returns-2 : tie.Need-returns-2
 returns-2 c = (search level-none, omega arith)
 

@@ -19,71 +19,54 @@ Inv-loop file tape span step₀ step = (fromFirst (isNoRow (tapeIn tape file)) (
 abbrev μ-loop : tie.MeasureT-loop
 μ-loop file tape span step₀ step = left (tapeIn tape file) step
 
--- src/lib.rt:118:5
 loop-holds : tie.Need-loop-holds Inv-loop μ-loop
 loop-holds c = (refl, omega arith)
 
--- src/lib.rt:120:27
 enum-told : tie.Need-enum-told Inv-loop μ-loop
 enum-told c = search needs
 
--- src/lib.rt:120:27
 returns : tie.Need-returns Inv-loop μ-loop
 returns c = (search past-ended, search needs)
 
--- src/lib.rt:121:22
 enum-known-step : tie.Need-enum-known-step Inv-loop μ-loop
 enum-known-step c = search needs
 
--- src/lib.rt:121:34
 member-of-requires : tie.Need-member-of-requires Inv-loop μ-loop
 member-of-requires c κs = search needs
 
--- src/lib.rt:122:32
 enum-told-2 : tie.Need-enum-told-2 Inv-loop μ-loop
 enum-told-2 c = search needs
 
--- src/lib.rt:122:32
 returns-2 : tie.Need-returns-2 Inv-loop μ-loop
 returns-2 c = (search past-cut, search left-here)
 
--- src/lib.rt:124:21
 enum-told-3 : tie.Need-enum-told-3 Inv-loop μ-loop
 enum-told-3 c = search needs
 
--- src/lib.rt:124:21
 next-sibling-requires : tie.Need-next-sibling-requires Inv-loop μ-loop
 next-sibling-requires c κs = search needs
 
--- src/lib.rt:118:5
 loop-less : tie.Need-loop-less Inv-loop μ-loop
 loop-less c = search left-turn
 
--- src/lib.rt:118:5
 loop-again : tie.Need-loop-again Inv-loop μ-loop
 loop-again c = (search past-skipped, search left-on)
 
--- src/lib.rt:127:24
 enum-told-4 : tie.Need-enum-told-4 Inv-loop μ-loop
 enum-told-4 c = search needs
 
--- src/lib.rt:127:24
 is-row-requires : tie.Need-is-row-requires Inv-loop μ-loop
 is-row-requires c κs = search needs
 
--- src/lib.rt:128:25
 next-sibling-requires-2 : tie.Need-next-sibling-requires-2 Inv-loop μ-loop
 next-sibling-requires-2 c κs = search needs
 
--- src/lib.rt:118:5
 loop-less-2 : tie.Need-loop-less-2 Inv-loop μ-loop
 loop-less-2 c = search left-turn
 
--- src/lib.rt:118:5
 loop-again-2 : tie.Need-loop-again-2 Inv-loop μ-loop
 loop-again-2 c = (search past-row, search left-on)
 
--- src/lib.rt:130:25
 returns-3 : tie.Need-returns-3 Inv-loop μ-loop
 returns-3 c = (search past-other, search left-here)
 

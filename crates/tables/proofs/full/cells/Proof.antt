@@ -3,27 +3,21 @@ use borrow.Author.Needs.{needs}
 use Rattle.tables.proofs.full.cells.Statement.{statement}
 use Rattle.tables.proofs.full.cells.Tie as tie
 
--- src/full.rt:110:9
 returns : tie.Need-returns
 returns c = search cells-none
 
--- src/full.rt:115:9
 first-child-requires : tie.Need-first-child-requires
 first-child-requires c κs = search needs
 
--- src/full.rt:117:9
 sub-cells-along : tie.Need-sub-cells-along
 sub-cells-along c = search needs
 
--- src/full.rt:112:5
 cells-along-requires : tie.Need-cells-along-requires
 cells-along-requires c κs = search needs
 
--- src/full.rt:98:1
 same-length : tie.Need-same-length
 same-length c = search needs
 
--- src/full.rt:98:1
 returns-2 : tie.Need-returns-2
 returns-2 c = search cells-all
 

@@ -15,51 +15,39 @@ Inv-loop file tape level depth out₀ s₀ step₀ out s step = (cellsOn (tapeIn
 abbrev μ-loop : tie.MeasureT-loop
 μ-loop file tape level depth out₀ s₀ step₀ out s step = left (tapeIn tape file) step
 
--- src/full.rt:85:5
 loop-holds : tie.Need-loop-holds Inv-loop μ-loop
 loop-holds c = (refl, refl)
 
--- src/full.rt:87:27
 enum-told : tie.Need-enum-told Inv-loop μ-loop
 enum-told c = search needs
 
--- src/full.rt:87:27
 same-length : tie.Need-same-length Inv-loop μ-loop
 same-length c = search needs
 
--- src/full.rt:87:27
 returns : tie.Need-returns Inv-loop μ-loop
 returns c = search cells-end
 
--- src/full.rt:88:22
 enum-known-step : tie.Need-enum-known-step Inv-loop μ-loop
 enum-known-step c = search needs
 
--- src/full.rt:89:17
 next-sibling-requires : tie.Need-next-sibling-requires Inv-loop μ-loop
 next-sibling-requires c κs = search needs
 
--- src/full.rt:90:20
 is-cell-requires : tie.Need-is-cell-requires Inv-loop μ-loop
 is-cell-requires c κs = search needs
 
--- src/full.rt:91:21
 cell-requires : tie.Need-cell-requires Inv-loop μ-loop
 cell-requires c κs = search needs
 
--- src/full.rt:85:5
 loop-less : tie.Need-loop-less Inv-loop μ-loop
 loop-less c = search left-turn
 
--- src/full.rt:85:5
 loop-again : tie.Need-loop-again Inv-loop μ-loop
 loop-again c = (search cells-turn, search needs)
 
--- src/full.rt:85:5
 loop-less-2 : tie.Need-loop-less-2 Inv-loop μ-loop
 loop-less-2 c = search left-turn
 
--- src/full.rt:85:5
 loop-again-2 : tie.Need-loop-again-2 Inv-loop μ-loop
 loop-again-2 c = (search cells-past, search needs)
 

@@ -3,39 +3,30 @@ use borrow.Author.Needs.{needs}
 use Rattle.tables.proofs.full.row.Statement.{statement}
 use Rattle.tables.proofs.full.row.Tie as tie
 
--- src/full.rt:126:9
 level-of-requires : tie.Need-level-of-requires
 level-of-requires c κs = search needs
 
--- src/full.rt:127:22
 add-open-row : tie.Need-add-open-row
 add-open-row c = search needs
 
--- src/full.rt:127:9
 open-row-requires : tie.Need-open-row-requires
 open-row-requires c κs = search needs
 
--- src/full.rt:128:34
 add-cells : tie.Need-add-cells
 add-cells c = search needs
 
--- src/full.rt:128:9
 cells-requires : tie.Need-cells-requires
 cells-requires c κs = search needs
 
--- src/full.rt:129:15
 add-close-row : tie.Need-add-close-row
 add-close-row c = search needs
 
--- src/full.rt:129:5
 close-row-requires : tie.Need-close-row-requires
 close-row-requires c κs = search needs
 
--- src/full.rt:123:1
 same-length : tie.Need-same-length
 same-length c = search needs
 
--- src/full.rt:123:1
 returns : tie.Need-returns
 returns c = search row-whole
 

@@ -15,87 +15,66 @@ Inv-loop file tape span depth out₀ s₀ step₀ out s step = (rowsOn (tapeIn t
 abbrev μ-loop : tie.MeasureT-loop
 μ-loop file tape span depth out₀ s₀ step₀ out s step = left (tapeIn tape file) step
 
--- src/full.rt:146:5
 loop-holds : tie.Need-loop-holds Inv-loop μ-loop
 loop-holds c = (refl, refl)
 
--- src/full.rt:148:27
 enum-told : tie.Need-enum-told Inv-loop μ-loop
 enum-told c = search needs
 
--- src/full.rt:148:27
 same-length : tie.Need-same-length Inv-loop μ-loop
 same-length c = search needs
 
--- src/full.rt:148:27
 returns : tie.Need-returns Inv-loop μ-loop
 returns c = search rows-end
 
--- src/full.rt:149:22
 enum-known-step : tie.Need-enum-known-step Inv-loop μ-loop
 enum-known-step c = search needs
 
--- src/full.rt:149:34
 member-of-requires : tie.Need-member-of-requires Inv-loop μ-loop
 member-of-requires c κs = search needs
 
--- src/full.rt:150:32
 enum-told-2 : tie.Need-enum-told-2 Inv-loop μ-loop
 enum-told-2 c = search needs
 
--- src/full.rt:150:32
 same-length-2 : tie.Need-same-length-2 Inv-loop μ-loop
 same-length-2 c = search needs
 
--- src/full.rt:150:32
 returns-2 : tie.Need-returns-2 Inv-loop μ-loop
 returns-2 c = search rows-cut
 
--- src/full.rt:152:21
 enum-told-3 : tie.Need-enum-told-3 Inv-loop μ-loop
 enum-told-3 c = search needs
 
--- src/full.rt:152:21
 next-sibling-requires : tie.Need-next-sibling-requires Inv-loop μ-loop
 next-sibling-requires c κs = search needs
 
--- src/full.rt:146:5
 loop-less : tie.Need-loop-less Inv-loop μ-loop
 loop-less c = search left-turn
 
--- src/full.rt:146:5
 loop-again : tie.Need-loop-again Inv-loop μ-loop
 loop-again c = (search rows-skip, search needs)
 
--- src/full.rt:155:24
 enum-told-4 : tie.Need-enum-told-4 Inv-loop μ-loop
 enum-told-4 c = search needs
 
--- src/full.rt:155:24
 is-row-requires : tie.Need-is-row-requires Inv-loop μ-loop
 is-row-requires c κs = search needs
 
--- src/full.rt:156:25
 row-requires : tie.Need-row-requires Inv-loop μ-loop
 row-requires c κs = search needs
 
--- src/full.rt:157:25
 next-sibling-requires-2 : tie.Need-next-sibling-requires-2 Inv-loop μ-loop
 next-sibling-requires-2 c κs = search needs
 
--- src/full.rt:146:5
 loop-less-2 : tie.Need-loop-less-2 Inv-loop μ-loop
 loop-less-2 c = search left-turn
 
--- src/full.rt:146:5
 loop-again-2 : tie.Need-loop-again-2 Inv-loop μ-loop
 loop-again-2 c = (search rows-turn, search needs)
 
--- src/full.rt:159:25
 same-length-3 : tie.Need-same-length-3 Inv-loop μ-loop
 same-length-3 c = search needs
 
--- src/full.rt:159:25
 returns-3 : tie.Need-returns-3 Inv-loop μ-loop
 returns-3 c = search rows-stop
 
