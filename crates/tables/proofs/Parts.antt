@@ -1,0 +1,188 @@
+-- Cells, rows and tables from their parts, over desks.
+use mathlib.Core.Path.{_≡_, refl, sym, ap, _∙_}
+use mathlib.Core.Bool.{Bool, true, false, cond}
+use mathlib.Core.List.{List, [], _∷_, _++_, append-assoc}
+use Prim.Native.Nat.{ℕ, zero, suc, _+_, _-_}
+use native.Mathlib.Omega.{arith}
+use Rattle.parts.specs.Bytes.{Bytes, b}
+use Rattle.tape.specs.File.{Tape}
+use Rattle.tape.specs.Tree.{firstChild, nextSibling, walkFrom, children, upTo}
+use Rattle.tape.specs.Name.{markerName}
+use Rattle.tape.specs.declared.Cursor.{Cursor}
+use Rattle.tape.specs.declared.Step.{Step}
+use Rattle.tape.specs.declared.Step.the-variants.{At, Done}
+use Rattle.tape.proofs.Walk.{walk-turn, walk-end}
+use Rattle.render.specs.Shape.{isRow}
+use Rattle.render.specs.Children.{hasContent}
+use Rattle.render.specs.Note.{cellAlign, alignWord}
+use Rattle.tags.specs.Items.{Attr, start, empty, close, line, bytesOf}
+use Rattle.tags.specs.Names.{nameOf}
+use Rattle.events.specs.Event.{Event, item, escaped, element}
+use Rattle.events.specs.Walk.{asInline, inside, levelOf, isCell, style, cellIn, cellsAlong, cells, rowE, rowsE, tableE}
+use Rattle.events.specs.Emit.{Desk, emit, emitAll}
+use Rattle.events.proofs.Emits.{emit-append}
+use Rattle.lists.specs.Span.{nodesIn, memberOf}
+use Rattle.lists.specs.declared.Span.{Span}
+use Rattle.lists.specs.declared.Member.{Member}
+use Rattle.lists.specs.declared.Member.the-variants.{End, Skipped, Listed}
+use Rattle.lists.proofs.Nodes.{nodes-done}
+use Rattle.sink.specs.Desk.{deskIn, putOn}
+use Rattle.sink.specs.declared.Sink.{Sink}
+use Rattle.sink.proofs.Chains.{item-on}
+use Rattle.tagging.specs.Roles.{mannerBy}
+use Rattle.tables.specs.Rows.{isNoRow, rowOpens, rowCloses, tableOpens, tableCloses}
+use Rattle.tables.proofs.Spans.{up-row, up-other, up-none, nodes-cut, nodes-skip, nodes-go}
+
+-- ---- events in parts
+
+-- events, others behind them, and others behind those
+between : (d : Desk) {e f g : Desk} (xs ys zs : List Event) → e ≡ emitAll d xs → f ≡ emitAll e ys → g ≡ emitAll f zs → g ≡ emitAll d (xs ++ (ys ++ zs))
+between d xs ys zs ee ef eg =
+    eg ∙ ap (λ (u : Desk). emitAll u zs) (ef ∙ ap (λ (u : Desk). emitAll u ys) ee)
+    ∙ ap (λ (u : Desk). emitAll u zs) (sym (emit-append d xs ys)) ∙ sym (emit-append d (xs ++ ys) zs)
+    ∙ ap (emitAll d) (append-assoc xs ys zs)
+
+-- ---- a cell
+
+abbrev cellAttrs : Tape → ℕ → List Attr
+cellAttrs t k = style t k ∷ escaped (b "align") (alignWord (cellAlign (markerName t k))) ∷ []
+
+cell-around : (t : Tape) (k : ℕ) (d : Desk) {e f g : Desk} (ys : List Event) → e ≡ emit d (item (start 12 (cellAttrs t k))) → f ≡ emitAll e ys → g ≡ putOn f (b "</cell>")
+    → g ≡ emitAll d (element 12 (cellAttrs t k) ys)
+unfolding element emitAll bytesOf nameOf
+cell-around t k d {e} {f} ys ee ef eg =
+    between d (item (start 12 (cellAttrs t k)) ∷ []) ys (item (close 12) ∷ []) ee ef (eg ∙ item-on f (close 12))
+
+-- the desk behind a cell with something in it
+pub cell-full : (t : Tape) (k depth : ℕ) (sink a z r : Sink) (out mid now last : Bytes)
+    → deskIn (t .source) a mid ≡ emit (deskIn (t .source) sink out) (item (start 12 (style t k ∷ escaped (b "align") (alignWord (cellAlign (markerName t k))) ∷ [])))
+    → deskIn (t .source) z now ≡ emitAll (deskIn (t .source) a mid) (inside t depth (mannerBy false) k false)
+    → ((source : Bytes) → deskIn source r last ≡ putOn (deskIn source z now) (b "</cell>"))
+    → deskIn (t .source) r last
+    ≡ emitAll (deskIn (t .source) sink out) (element 12 (style t k ∷ escaped (b "align") (alignWord (cellAlign (markerName t k))) ∷ []) (inside t depth asInline k false))
+unfolding mannerBy
+cell-full t k depth sink a z r out mid now last ea ez er = cell-around t k (deskIn (t .source) sink out) (inside t depth asInline k false) ea ez (er (t .source))
+
+module _ (t : Tape) (k depth level : ℕ) (sink a r : Sink) (out mid last : Bytes)
+    (ea : (source : Bytes) → deskIn source a mid ≡ emit (deskIn source sink out) (item (line level))) {x : Bool} (ex : x ≡ hasContent t k) where
+  pub cell-with : x ≡ true
+      → deskIn (t .source) r last ≡ emitAll (deskIn (t .source) a mid) (element 12 (style t k ∷ escaped (b "align") (alignWord (cellAlign (markerName t k))) ∷ []) (inside t depth asInline k false))
+      → deskIn (t .source) r last ≡ emitAll (deskIn (t .source) sink out) (cellIn (inside t depth) t level k)
+  unfolding cellIn emitAll
+  cell-with hx er =
+      rw (← ex, hx) (er ∙ ap (λ (d : Desk). emitAll d (element 12 (cellAttrs t k) (inside t depth asInline k false))) (ea (t .source)))
+
+  pub cell-without : x ≡ false
+      → deskIn (t .source) r last ≡ emit (deskIn (t .source) a mid) (item (empty 12 (style t k ∷ escaped (b "align") (alignWord (cellAlign (markerName t k))) ∷ [])))
+      → deskIn (t .source) r last ≡ emitAll (deskIn (t .source) sink out) (cellIn (inside t depth) t level k)
+  unfolding cellIn emitAll
+  cell-without hx er = rw (← ex, hx) (er ∙ ap (λ (d : Desk). emit d (item (empty 12 (cellAttrs t k)))) (ea (t .source)))
+
+-- ---- cells along a row
+
+module _ (t : Tape) (depth level : ℕ) (d : Desk) where
+  -- what the cells from a step on still give
+  unfoldable pub cellsOn : Step → Desk
+  cellsOn s = emitAll d (cellsAlong (inside t depth) t level (walkFrom t s))
+
+module _ (t : Tape) (depth level : ℕ) (d₀ d : Desk) (s₀ s : Step) (inv : cellsOn t depth level d s ≡ cellsOn t depth level d₀ s₀) where
+  pub cells-end : s ≡ Done → d ≡ emitAll d₀ (cellsAlong (inside t depth) t level (walkFrom t s₀))
+  unfolding cellsOn cellsAlong emitAll
+  cells-end e = sym (ap (λ (ks : List ℕ). emitAll d (cellsAlong (inside t depth) t level ks)) (walk-end t e)) ∙ inv
+
+  module _ (c : Cursor) (es : s ≡ At c) {n : Step} (en : n ≡ nextSibling t (c .at)) {x : Bool} (ex : x ≡ isCell t (c .at)) where
+    here : emitAll d (cond x (cellIn (inside t depth) t level (c .at)) [] ++ cellsAlong (inside t depth) t level (walkFrom t n)) ≡ cellsOn t depth level d₀ s₀
+    unfolding cellsOn cellsAlong
+    here =
+        ap (λ (y : Bool). emitAll d (cond y (cellIn (inside t depth) t level (c .at)) [] ++ cellsAlong (inside t depth) t level (walkFrom t n))) ex
+        ∙ sym (ap (λ (ks : List ℕ). emitAll d (cellsAlong (inside t depth) t level ks)) (walk-turn t c es en)) ∙ inv
+
+    pub cells-turn : {e : Desk} → x ≡ true → e ≡ emitAll d (cellIn (inside t depth) t level (c .at)) → cellsOn t depth level e n ≡ cellsOn t depth level d₀ s₀
+    unfolding cellsOn
+    cells-turn hx ee =
+        ap (λ (u : Desk). emitAll u (cellsAlong (inside t depth) t level (walkFrom t n))) ee
+        ∙ sym (emit-append d (cellIn (inside t depth) t level (c .at)) (cellsAlong (inside t depth) t level (walkFrom t n)))
+        ∙ ap (λ (y : Bool). emitAll d (cond y (cellIn (inside t depth) t level (c .at)) [] ++ cellsAlong (inside t depth) t level (walkFrom t n))) (sym hx)
+        ∙ here
+
+    pub cells-past : x ≡ false → cellsOn t depth level d n ≡ cellsOn t depth level d₀ s₀
+    unfolding cellsOn
+    cells-past hx =
+        ap (λ (y : Bool). emitAll d (cond y (cellIn (inside t depth) t level (c .at)) [] ++ cellsAlong (inside t depth) t level (walkFrom t n))) (sym hx)
+        ∙ here
+
+module _ (t : Tape) (k level : ℕ) (d : Desk) where
+  pub cells-none : {depth : ℕ} → depth ≡ 0 → d ≡ emitAll d (cells t depth level k)
+  unfolding cells emitAll
+  cells-none h = rw h
+
+  pub cells-all : (depth : ℕ) {s : Step} {e : Desk} → (depth ≡ 0 → ⊥) → s ≡ firstChild t k → e ≡ emitAll d (cellsAlong (inside t (depth - 1)) t level (walkFrom t s))
+      → e ≡ emitAll d (cells t depth level k)
+  unfolding cells children
+  cells-all zero h es ee = absurd (h refl)
+  cells-all (suc n) {s} h es ee =
+      let one-less : suc n - 1 ≡ n = omega arith in
+      ee ∙ ap (λ (m : ℕ). emitAll d (cellsAlong (inside t m) t level (walkFrom t s))) one-less
+      ∙ ap (λ (u : Step). emitAll d (cellsAlong (inside t n) t level (walkFrom t u))) es
+
+-- ---- rows
+
+-- a row from its tags and its cells
+pub row-whole : (t : Tape) (k depth : ℕ) {level : ℕ} → level ≡ levelOf depth → (sink a z r : Sink) (out mid now last : Bytes)
+    → ((source : Bytes) → deskIn source a mid ≡ emitAll (deskIn source sink out) (rowOpens (level + 1)))
+    → deskIn (t .source) z now ≡ emitAll (deskIn (t .source) a mid) (cells t depth (level + 2) k)
+    → ((source : Bytes) → deskIn source r last ≡ emitAll (deskIn source z now) (rowCloses (level + 1)))
+    → deskIn (t .source) r last ≡ emitAll (deskIn (t .source) sink out) (rowE t depth k)
+unfolding rowE rowOpens rowCloses
+row-whole t k depth {level} el sink a z r out mid now last ea ez er =
+    between (deskIn (t .source) sink out) (rowOpens (level + 1)) (cells t depth (level + 2) k) (rowCloses (level + 1)) (ea (t .source)) ez (er (t .source))
+    ∙ ap (λ (l : ℕ). emitAll (deskIn (t .source) sink out) (rowOpens (l + 1) ++ (cells t depth (l + 2) k ++ rowCloses (l + 1)))) el
+
+-- what the rows from a step on still give
+module _ (t : Tape) (span : Span) (depth : ℕ) (d : Desk) where
+  unfoldable pub rowsOn : Step → Desk
+  rowsOn s = emitAll d (rowsE t depth (upTo (isNoRow t) (nodesIn t span s)))
+
+module _ (t : Tape) (span : Span) (depth : ℕ) (d₀ d : Desk) (s₀ s : Step) (inv : rowsOn t span depth d s ≡ rowsOn t span depth d₀ s₀) where
+  over : upTo (isNoRow t) (nodesIn t span s) ≡ [] → d ≡ emitAll d₀ (rowsE t depth (upTo (isNoRow t) (nodesIn t span s₀)))
+  unfolding rowsOn rowsE emitAll
+  over e = sym (ap (λ (ks : List ℕ). emitAll d (rowsE t depth ks)) e) ∙ inv
+
+  pub rows-end : s ≡ Done → d ≡ emitAll d₀ (rowsE t depth (upTo (isNoRow t) (nodesIn t span s₀)))
+  rows-end e = over (up-none t (nodes-done t span e))
+
+  module _ {c : Cursor} (es : s ≡ At c) {m : Member} (em : m ≡ memberOf t span (c .at)) where
+    pub rows-cut : m ≡ End → d ≡ emitAll d₀ (rowsE t depth (upTo (isNoRow t) (nodesIn t span s₀)))
+    rows-cut h = over (up-none t (nodes-cut t span es em h))
+
+    pub rows-skip : {n : Step} → m ≡ Skipped → n ≡ nextSibling t (c .at) → rowsOn t span depth d n ≡ rowsOn t span depth d₀ s₀
+    unfolding rowsOn
+    rows-skip h en = sym (ap (λ (ks : List ℕ). emitAll d (rowsE t depth (upTo (isNoRow t) ks))) (nodes-skip t span es em h en)) ∙ inv
+
+    module _ (h : m ≡ Listed) {x : Bool} (ex : x ≡ isRow t (c .at)) where
+      pub rows-stop : x ≡ false → d ≡ emitAll d₀ (rowsE t depth (upTo (isNoRow t) (nodesIn t span s₀)))
+      rows-stop hx =
+          over (ap (upTo (isNoRow t)) (nodes-go t span es em h refl) ∙ up-other t (c .at) (nodesIn t span (nextSibling t (c .at))) (sym ex ∙ hx))
+
+      pub rows-turn : {n : Step} {e : Desk} → x ≡ true → e ≡ emitAll d (rowE t depth (c .at)) → n ≡ nextSibling t (c .at)
+          → rowsOn t span depth e n ≡ rowsOn t span depth d₀ s₀
+      unfolding rowsOn rowsE
+      rows-turn {n} hx ee en =
+          ap (λ (u : Desk). emitAll u (rowsE t depth (upTo (isNoRow t) (nodesIn t span n)))) ee
+          ∙ sym (emit-append d (rowE t depth (c .at)) (rowsE t depth (upTo (isNoRow t) (nodesIn t span n))))
+          ∙ sym (ap (λ (ks : List ℕ). emitAll d (rowsE t depth ks))
+          (ap (upTo (isNoRow t)) (nodes-go t span es em h en) ∙ up-row t (c .at) (nodesIn t span n) (sym ex ∙ hx)))
+          ∙ inv
+
+-- ---- a table
+
+-- a table from its tags and its rows
+pub table-whole : (t : Tape) (depth : ℕ) (ks : List ℕ) {level : ℕ} → level ≡ levelOf depth → (sink a z r : Sink) (out mid now last : Bytes)
+    → ((source : Bytes) → deskIn source a mid ≡ emitAll (deskIn source sink out) (tableOpens level))
+    → deskIn (t .source) z now ≡ emitAll (deskIn (t .source) a mid) (rowsE t depth ks)
+    → ((source : Bytes) → deskIn source r last ≡ emitAll (deskIn source z now) (tableCloses level))
+    → deskIn (t .source) r last ≡ emitAll (deskIn (t .source) sink out) (tableE t depth ks)
+unfolding tableE tableOpens tableCloses
+table-whole t depth ks {level} el sink a z r out mid now last ea ez er =
+    between (deskIn (t .source) sink out) (tableOpens level) (rowsE t depth ks) (tableCloses level) (ea (t .source)) ez (er (t .source))
+    ∙ ap (λ (l : ℕ). emitAll (deskIn (t .source) sink out) (tableOpens l ++ (rowsE t depth ks ++ tableCloses l))) el

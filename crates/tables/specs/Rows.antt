@@ -1,0 +1,25 @@
+-- Rows that stand together, and the tags around a row and a table.
+use Prim.Native.Nat.{ℕ}
+use mathlib.Core.List.{List, [], _∷_}
+use mathlib.Core.Bool.{Bool, not}
+use Rattle.parts.specs.Bytes.{b}
+use Rattle.tape.specs.File.{Tape}
+use Rattle.render.specs.Shape.{isRow}
+use Rattle.tags.specs.Items.{start, close, line}
+use Rattle.events.specs.Event.{Event, item}
+use Rattle.events.specs.Walk.{styled}
+
+abbrev pub isNoRow : Tape → ℕ → Bool
+isNoRow t k = not (isRow t k)
+
+unfoldable pub rowOpens : ℕ → List Event
+rowOpens level = item (line level) ∷ item (start 11 (styled (b "tr"))) ∷ []
+
+unfoldable pub rowCloses : ℕ → List Event
+rowCloses level = item (line level) ∷ item (close 11) ∷ []
+
+unfoldable pub tableOpens : ℕ → List Event
+tableOpens level = item (line level) ∷ item (start 10 []) ∷ []
+
+unfoldable pub tableCloses : ℕ → List Event
+tableCloses level = item (line level) ∷ item (close 10) ∷ []

@@ -1,0 +1,181 @@
+// Cells with what stands in them, rows of cells, and tables of rows.
+ghost use mathlib.Core.Path.{_≡_};
+ghost use mathlib.Core.Bool.{false};
+ghost use mathlib.Core.List.{[], _∷_};
+ghost use Rattle.parts.specs.Bytes.{b};
+ghost use Rattle.tape.specs.File.{tapeIn};
+ghost use Rattle.tape.specs.Name.{markerName};
+ghost use Rattle.tape.specs.Tree.{upTo, walkFrom};
+ghost use Rattle.render.specs.Note.{cellAlign, alignWord};
+ghost use Rattle.events.specs.Event.{escaped, element};
+ghost use Rattle.events.specs.Walk.{asInline, inside as insideOf, style, cellIn, cellsAlong, cells as cellsOf, rowE, rowsE, tableE};
+ghost use Rattle.events.specs.Emit.{emitAll};
+ghost use Rattle.sink.specs.Desk.{deskIn};
+ghost use Rattle.lists.specs.Span.{nodesIn};
+ghost use Rattle.tables.specs.Rows.{isNoRow};
+use crate::close_row;
+use crate::close_table;
+use crate::empty_cell;
+use crate::is_cell;
+use crate::level_of;
+use crate::open_cell;
+use crate::open_row;
+use crate::open_table;
+use lists::Member;
+use lists::Span;
+use lists::member_of;
+use sink::Sink;
+use sink::line;
+use sink::literal;
+use tape::Cursor;
+use tape::Sections;
+use tape::Step;
+
+fn full_cell(
+    file: &[u8],
+    tape: Sections,
+    c: Cursor,
+    depth: usize,
+    sink: Sink,
+    out: &mut [u8],
+) -> Sink
+    ensures { λ r. ⌜ deskIn (tapeIn tape (now (file .entry)) .source) r (now (out .exit)) ≡ emitAll (deskIn (tapeIn tape (now (file .entry)) .source) sink (now (out .entry))) (element 12 (style (tapeIn tape (now (file .entry))) (c .at) ∷ escaped (b "align") (alignWord (cellAlign (markerName (tapeIn tape (now (file .entry))) (c .at)))) ∷ []) (insideOf (tapeIn tape (now (file .entry))) depth asInline (c .at) false)) ⌝ }
+{
+    let a = open_cell(file, tape, c, sink, out);
+    let z = inline::inside(file, tape, c, depth, false, false, a, out);
+    literal(z, out, b"</cell>")
+}
+
+// A cell on its line.
+fn cell(
+    file: &[u8],
+    tape: Sections,
+    c: Cursor,
+    level: usize,
+    depth: usize,
+    sink: Sink,
+    out: &mut [u8],
+) -> Sink
+    ensures { λ r. ⌜ deskIn (tapeIn tape (now (file .entry)) .source) r (now (out .exit)) ≡ emitAll (deskIn (tapeIn tape (now (file .entry)) .source) sink (now (out .entry))) (cellIn (insideOf (tapeIn tape (now (file .entry))) depth) (tapeIn tape (now (file .entry))) level (c .at)) ⌝ }
+{
+    let s = line(sink, out, level);
+    if render::has_content(file, tape, c) {
+        full_cell(file, tape, c, depth, s, out)
+    } else {
+        empty_cell(file, tape, c, s, out)
+    }
+}
+
+// The cells among a row's children.
+fn cells_along(
+    file: &[u8],
+    tape: Sections,
+    first: Step,
+    level: usize,
+    depth: usize,
+    sink: Sink,
+    out: &mut [u8],
+) -> Sink
+    ensures { λ r. ⌜ deskIn (tapeIn tape (now (file .entry)) .source) r (now (out .exit)) ≡ emitAll (deskIn (tapeIn tape (now (file .entry)) .source) sink (now (out .entry))) (cellsAlong (insideOf (tapeIn tape (now (file .entry))) depth) (tapeIn tape (now (file .entry))) level (walkFrom (tapeIn tape (now (file .entry))) first)) ⌝ }
+{
+    let mut s = sink;
+    let mut step = first;
+    loop {
+        match step {
+            Step::Done => return s,
+            Step::At(c) => {
+                step = c.next_sibling(file, tape);
+                if is_cell(file, tape, c) {
+                    s = cell(file, tape, c, level, depth, s, out);
+                }
+            }
+        }
+    }
+}
+
+fn cells(
+    file: &[u8],
+    tape: Sections,
+    row: Cursor,
+    level: usize,
+    depth: usize,
+    sink: Sink,
+    out: &mut [u8],
+) -> Sink
+    ensures { λ r. ⌜ deskIn (tapeIn tape (now (file .entry)) .source) r (now (out .exit)) ≡ emitAll (deskIn (tapeIn tape (now (file .entry)) .source) sink (now (out .entry))) (cellsOf (tapeIn tape (now (file .entry))) depth level (row .at)) ⌝ }
+{
+    if depth == 0 {
+        return sink;
+    }
+    cells_along(
+        file,
+        tape,
+        row.first_child(file, tape),
+        level,
+        depth - 1,
+        sink,
+        out,
+    )
+}
+
+fn row(file: &[u8], tape: Sections, c: Cursor, depth: usize, sink: Sink, out: &mut [u8]) -> Sink
+    ensures { λ r. ⌜ deskIn (tapeIn tape (now (file .entry)) .source) r (now (out .exit)) ≡ emitAll (deskIn (tapeIn tape (now (file .entry)) .source) sink (now (out .entry))) (rowE (tapeIn tape (now (file .entry))) depth (c .at)) ⌝ }
+{
+    let level = level_of(depth);
+    let a = open_row(level + 1, sink, out);
+    let z = cells(file, tape, c, level + 2, depth, a, out);
+    close_row(level + 1, z, out)
+}
+
+// The rows that stand together from a step on.
+fn rows(
+    file: &[u8],
+    tape: Sections,
+    span: Span,
+    first: Step,
+    depth: usize,
+    sink: Sink,
+    out: &mut [u8],
+) -> Sink
+    ensures { λ r. ⌜ deskIn (tapeIn tape (now (file .entry)) .source) r (now (out .exit)) ≡ emitAll (deskIn (tapeIn tape (now (file .entry)) .source) sink (now (out .entry))) (rowsE (tapeIn tape (now (file .entry))) depth (upTo (isNoRow (tapeIn tape (now (file .entry)))) (nodesIn (tapeIn tape (now (file .entry))) span first))) ⌝ }
+{
+    let mut s = sink;
+    let mut step = first;
+    loop {
+        match step {
+            Step::Done => return s,
+            Step::At(c) => match member_of(file, tape, span, c) {
+                Member::End => return s,
+                Member::Skipped => {
+                    step = c.next_sibling(file, tape);
+                }
+                Member::Listed => {
+                    if render::is_row(file, tape, c) {
+                        s = row(file, tape, c, depth, s, out);
+                        step = c.next_sibling(file, tape);
+                    } else {
+                        return s;
+                    }
+                }
+            },
+        }
+    }
+}
+
+// A table of the rows that stand together from a step on.
+pub fn table(
+    file: &[u8],
+    tape: Sections,
+    span: Span,
+    first: Step,
+    depth: usize,
+    sink: Sink,
+    out: &mut [u8],
+) -> Sink
+    ensures { λ r. ⌜ deskIn (tapeIn tape (now (file .entry)) .source) r (now (out .exit)) ≡ emitAll (deskIn (tapeIn tape (now (file .entry)) .source) sink (now (out .entry))) (tableE (tapeIn tape (now (file .entry))) depth (upTo (isNoRow (tapeIn tape (now (file .entry)))) (nodesIn (tapeIn tape (now (file .entry))) span first))) ⌝ }
+{
+    let level = level_of(depth);
+    let a = open_table(level, sink, out);
+    let z = rows(file, tape, span, first, depth, a, out);
+    close_table(level, z, out)
+}

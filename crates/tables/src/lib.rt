@@ -1,0 +1,152 @@
+// Tables of rows of cells.
+ghost use mathlib.Core.Path.{_≡_};
+ghost use mathlib.Core.List.{[], _∷_, _++_};
+ghost use Prim.Native.Nat.{_≤_};
+ghost use Rattle.parts.specs.Bytes.{Bytes, b};
+ghost use Rattle.window.specs.Page.{pageOf, paint};
+ghost use Rattle.tape.specs.File.{tapeIn};
+ghost use Rattle.tape.specs.Name.{markerName};
+ghost use Rattle.tape.specs.Tree.{left};
+ghost use Rattle.render.specs.Note.{cellAlign, alignWord};
+ghost use Rattle.tags.specs.Items.{start, empty};
+ghost use Rattle.events.specs.Event.{item, escaped};
+ghost use Rattle.events.specs.Walk.{levelOf, isKnown, isCell, style, fromFirst};
+ghost use Rattle.events.specs.Emit.{emit, emitAll};
+ghost use Rattle.sink.specs.Desk.{deskIn};
+ghost use Rattle.lists.specs.Span.{nodesIn};
+ghost use Rattle.tables.specs.Rows.{isNoRow, rowOpens, rowCloses, tableOpens, tableCloses};
+
+mod full;
+
+pub use full::table;
+use lists::Member;
+use lists::Span;
+use lists::member_of;
+use render::Align;
+use sink::Sink;
+use sink::line;
+use sink::literal;
+use tape::Cursor;
+use tape::Info;
+use tape::Kind;
+use tape::Sections;
+use tape::Step;
+use window::Window;
+use window::put_run;
+
+// How deep a line is indented where so many containers may still be entered.
+pub fn level_of(depth: usize) -> usize
+    ensures { λ r. ⌜ r ≡ levelOf depth ⌝ }
+    ensures { λ r. ⌜ r ≤ 65 ⌝ }
+{
+    if depth < 65 { 65 - depth } else { 0 }
+}
+
+fn is_known(known: Info) -> bool
+    ensures { λ r. ⌜ r ≡ isKnown known ⌝ }
+{
+    match known {
+        Info::Known(_) => true,
+        Info::Unknown => false,
+    }
+}
+
+// Cells are known markers.
+fn is_cell(file: &[u8], tape: Sections, c: Cursor) -> bool
+    ensures { λ r. ⌜ r ≡ isCell (tapeIn tape (now (file .entry))) (c .at) ⌝ }
+{
+    let kind = c.kind(file, tape);
+    if kind.code == Kind::MARKER_OPEN {
+        return is_known(c.marker_info(file, tape));
+    }
+    false
+}
+
+fn put_align(w: Window, out: &mut [u8], align: Align) -> Window
+    ensures { λ r. ⌜ pageOf r (now (out .exit)) ≡ paint (pageOf w (now (out .entry))) (b "\" align=\"" ++ (alignWord align ++ b "\"")) ⌝ }
+{
+    match align {
+        Align::Start => put_run(w, out, b"\" align=\"start\""),
+        Align::Center => put_run(w, out, b"\" align=\"center\""),
+        Align::End => put_run(w, out, b"\" align=\"end\""),
+    }
+}
+
+// A cell's tag up to its end: style and alignment.
+fn put_cell(w: Window, out: &mut [u8], name: &[u8]) -> Window
+    ensures { λ r. ⌜ pageOf r (now (out .exit)) ≡ paint (pageOf w (now (out .entry))) (b "<cell style=\"" ++ (now (name .entry) ++ (b "\" align=\"" ++ (alignWord (cellAlign (now (name .entry))) ++ b "\"")))) ⌝ }
+{
+    let a = put_run(w, out, b"<cell style=\"");
+    let d = put_run(a, out, name);
+    put_align(d, out, render::cell_align(name))
+}
+
+fn open_cell(file: &[u8], tape: Sections, c: Cursor, sink: Sink, out: &mut [u8]) -> Sink
+    ensures { λ r. ⌜ deskIn (tapeIn tape (now (file .entry)) .source) r (now (out .exit)) ≡ emit (deskIn (tapeIn tape (now (file .entry)) .source) sink (now (out .entry))) (item (start 12 (style (tapeIn tape (now (file .entry))) (c .at) ∷ escaped (b "align") (alignWord (cellAlign (markerName (tapeIn tape (now (file .entry))) (c .at)))) ∷ []))) ⌝ }
+{
+    let a = put_cell(sink.window(), out, c.marker_name(file, tape));
+    let z = put_run(a, out, b">");
+    sink.over(z)
+}
+
+fn empty_cell(file: &[u8], tape: Sections, c: Cursor, sink: Sink, out: &mut [u8]) -> Sink
+    ensures { λ r. ⌜ deskIn (tapeIn tape (now (file .entry)) .source) r (now (out .exit)) ≡ emit (deskIn (tapeIn tape (now (file .entry)) .source) sink (now (out .entry))) (item (empty 12 (style (tapeIn tape (now (file .entry))) (c .at) ∷ escaped (b "align") (alignWord (cellAlign (markerName (tapeIn tape (now (file .entry))) (c .at)))) ∷ []))) ⌝ }
+{
+    let a = put_cell(sink.window(), out, c.marker_name(file, tape));
+    let z = put_run(a, out, b" />");
+    sink.over(z)
+}
+
+fn open_row(level: usize, sink: Sink, out: &mut [u8]) -> Sink
+    ensures { λ r. ⌜ ((source : Bytes) → deskIn source r (now (out .exit)) ≡ emitAll (deskIn source sink (now (out .entry))) (rowOpens level)) ⌝ }
+{
+    let a = line(sink, out, level);
+    literal(a, out, b"<row style=\"tr\">")
+}
+
+fn close_row(level: usize, sink: Sink, out: &mut [u8]) -> Sink
+    ensures { λ r. ⌜ ((source : Bytes) → deskIn source r (now (out .exit)) ≡ emitAll (deskIn source sink (now (out .entry))) (rowCloses level)) ⌝ }
+{
+    let a = line(sink, out, level);
+    literal(a, out, b"</row>")
+}
+
+// Where they end.
+pub fn past_rows(file: &[u8], tape: Sections, span: Span, first: Step) -> Step
+    ensures { λ r. ⌜ nodesIn (tapeIn tape (now (file .entry))) span r ≡ fromFirst (isNoRow (tapeIn tape (now (file .entry)))) (nodesIn (tapeIn tape (now (file .entry))) span first) ⌝ }
+    ensures { λ r. ⌜ left (tapeIn tape (now (file .entry))) r ≤ left (tapeIn tape (now (file .entry))) first ⌝ }
+{
+    let mut step = first;
+    loop {
+        match step {
+            Step::Done => return step,
+            Step::At(c) => match member_of(file, tape, span, c) {
+                Member::End => return step,
+                Member::Skipped => {
+                    step = c.next_sibling(file, tape);
+                }
+                Member::Listed => {
+                    if render::is_row(file, tape, c) {
+                        step = c.next_sibling(file, tape);
+                    } else {
+                        return step;
+                    }
+                }
+            },
+        }
+    }
+}
+
+fn open_table(level: usize, sink: Sink, out: &mut [u8]) -> Sink
+    ensures { λ r. ⌜ ((source : Bytes) → deskIn source r (now (out .exit)) ≡ emitAll (deskIn source sink (now (out .entry))) (tableOpens level)) ⌝ }
+{
+    let a = line(sink, out, level);
+    literal(a, out, b"<table>")
+}
+
+fn close_table(level: usize, sink: Sink, out: &mut [u8]) -> Sink
+    ensures { λ r. ⌜ ((source : Bytes) → deskIn source r (now (out .exit)) ≡ emitAll (deskIn source sink (now (out .entry))) (tableCloses level)) ⌝ }
+{
+    let a = line(sink, out, level);
+    literal(a, out, b"</table>")
+}
