@@ -1,0 +1,4 @@
+pub mod Tags
+pub mod Finds
+pub mod Places
+pub mod Steps

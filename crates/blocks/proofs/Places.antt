@@ -1,0 +1,271 @@
+-- What a node is at block level, and the turns that enter no sidebar and no periph.
+use mathlib.Core.Path.{_≡_, refl, sym, ap, _∙_}
+use mathlib.Core.Bool.{Bool, true, false, cond, _||_}
+use mathlib.Core.List.{List, [], _∷_, _++_, append-assoc}
+use Prim.Native.Nat.{ℕ, _≤_, _<_}
+use native.Mathlib.Omega.{arith}
+use Rattle.parts.specs.Bytes.{Bytes, b}
+use Rattle.tape.specs.File.{Tape, kindAt, infoAt, numberAt}
+use Rattle.tape.specs.Tree.{nextSibling, walkFrom, upTo, left}
+use Rattle.tape.specs.declared.Cursor.{Cursor}
+use Rattle.tape.specs.declared.kinds.Kind.{Kind}
+use Rattle.tape.specs.declared.Step.{Step}
+use Rattle.tape.specs.declared.Step.the-variants.{At}
+use Rattle.tape.proofs.Walk.{left-turn, up-to-go}
+use Rattle.render.specs.Shape.{isRow, isChapter, isVerse, isElement, isTopLevelBlock}
+use Rattle.render.proofs.Shapes.{kind-is, kind-not}
+use Rattle.fold.specs.Fold.{Folded, foldAt, numberOf}
+use Rattle.fold.specs.declared.Folds.{Folds}
+use Rattle.lists.specs.Span.{nodesIn, memberOf, foldedIn, cutAt, filtered}
+use Rattle.lists.specs.declared.Span.{Span}
+use Rattle.lists.specs.declared.Member.the-variants.{Listed}
+use Rattle.tags.specs.Items.{start, close, line, valueOf, attrBytes, attrsBytes, bytesOf}
+use Rattle.tags.specs.Names.{nameOf}
+use Rattle.events.specs.Event.{Event, item, chapter, rawly, element}
+use Rattle.events.specs.Walk.{levelOf, styled, Place, aRow, aChapter, aSidebar, aPeriph, aBlock, aVerse, dropped, placeOf, fromFirst, nodeIn, inside, inlineAll, tableE, blockTurn}
+use Rattle.events.specs.Emit.{Desk, emit, emitAll}
+use Rattle.events.proofs.Emits.{emit-append}
+use Rattle.events.proofs.Turns.{blocksAll, blocksOn, blocks-turn}
+use Rattle.sink.specs.Desk.{deskIn, putOn}
+use Rattle.sink.specs.declared.Sink.{Sink}
+use Rattle.sink.proofs.Chains.{item-on}
+use Rattle.tables.specs.Rows.{isNoRow}
+use Rattle.tables.proofs.Spans.{up-row, nodes-go}
+use Rattle.blocks.specs.Blocks.{holderOf, runOpens, runIn}
+use Rattle.blocks.specs.declared.Holder.the-variants.{Sidebar, Periph, Neither}
+
+-- ---- places
+
+no-side : Neither ≡ Sidebar → ⊥
+no-side e = let no-way : _≡_ {A = ℕ} 0 1 = cc in omega arith
+
+no-peri : Neither ≡ Periph → ⊥
+no-peri e = let no-way : _≡_ {A = ℕ} 0 1 = cc in omega arith
+
+not-both : Periph ≡ Sidebar → ⊥
+not-both e = let no-way : _≡_ {A = ℕ} 0 1 = cc in omega arith
+
+module _ (t : Tape) (k : ℕ) where
+  abbrev others : Place
+  others = cond (isTopLevelBlock t k) aBlock (cond (isVerse t k) aVerse dropped)
+
+  pub place-side : holderOf t k ≡ Sidebar → placeOf t k ≡ aSidebar
+  unfolding holderOf placeOf
+  place-side e = go (isRow t k) (isChapter t k) (isElement 1 (infoAt t k)) (isElement 2 (infoAt t k)) e
+    where
+      go : (r c p q : Bool) → cond (r || c) Neither (cond p Sidebar (cond q Periph Neither)) ≡ Sidebar
+          → cond r aRow (cond c aChapter (cond p aSidebar (cond q aPeriph others))) ≡ aSidebar
+      go true c p q h = absurd (no-side h)
+      go false true p q h = absurd (no-side h)
+      go false false true q h = refl
+      go false false false true h = absurd (not-both h)
+      go false false false false h = absurd (no-side h)
+
+  pub place-peri : holderOf t k ≡ Periph → placeOf t k ≡ aPeriph
+  unfolding holderOf placeOf
+  place-peri e = go (isRow t k) (isChapter t k) (isElement 1 (infoAt t k)) (isElement 2 (infoAt t k)) e
+    where
+      go : (r c p q : Bool) → cond (r || c) Neither (cond p Sidebar (cond q Periph Neither)) ≡ Periph
+          → cond r aRow (cond c aChapter (cond p aSidebar (cond q aPeriph others))) ≡ aPeriph
+      go true c p q h = absurd (no-peri h)
+      go false true p q h = absurd (no-peri h)
+      go false false true q h = absurd (not-both (sym h))
+      go false false false true h = refl
+      go false false false false h = absurd (no-peri h)
+
+  place-others : isRow t k ≡ false → isChapter t k ≡ false → holderOf t k ≡ Neither → placeOf t k ≡ others
+  unfolding holderOf placeOf
+  place-others nr nc e = go (isRow t k) (isChapter t k) (isElement 1 (infoAt t k)) (isElement 2 (infoAt t k)) nr nc e
+    where
+      go : (r c p q : Bool) → r ≡ false → c ≡ false → cond (r || c) Neither (cond p Sidebar (cond q Periph Neither)) ≡ Neither
+          → cond r aRow (cond c aChapter (cond p aSidebar (cond q aPeriph others))) ≡ others
+      go true c p q hr hc h = absurd (let no-way : _≡_ {A = ℕ} 0 1 = cc in omega arith)
+      go false true p q hr hc h = absurd (let no-way : _≡_ {A = ℕ} 0 1 = cc in omega arith)
+      go false false true q hr hc h = absurd (no-side (sym h))
+      go false false false true hr hc h = absurd (no-peri (sym h))
+      go false false false false hr hc h = refl
+
+  place-row : isRow t k ≡ true → placeOf t k ≡ aRow
+  unfolding placeOf
+  place-row h = rw h
+
+  place-chapter : isRow t k ≡ false → isChapter t k ≡ true → placeOf t k ≡ aChapter
+  unfolding placeOf
+  place-chapter hr h = rw (hr, h)
+
+-- ---- events in parts
+
+-- events, others behind them, and others behind those
+pub between : (d : Desk) {e f g : Desk} (xs ys zs : List Event) → e ≡ emitAll d xs → f ≡ emitAll e ys → g ≡ emitAll f zs → g ≡ emitAll d (xs ++ (ys ++ zs))
+between d xs ys zs ee ef eg =
+    eg ∙ ap (λ (u : Desk). emitAll u zs) (ef ∙ ap (λ (u : Desk). emitAll u ys) ee)
+    ∙ ap (λ (u : Desk). emitAll u zs) (sym (emit-append d xs ys)) ∙ sym (emit-append d (xs ++ ys) zs)
+    ∙ ap (emitAll d) (append-assoc xs ys zs)
+
+-- what is written in a turn, and then the list behind it
+pub then : (d : Desk) {e : Desk} (xs ys : List Event) → e ≡ emitAll d xs → emitAll e ys ≡ emitAll d (xs ++ ys)
+then d xs ys ee = ap (λ (u : Desk). emitAll u ys) ee ∙ sym (emit-append d xs ys)
+
+-- ---- a chapter
+
+pub chapter-turn : (t : Tape) (span : Span) (k d : ℕ) {z : Kind} {n : Step} (f : Folds) {l m : ℕ} → z .code ≡ 6 → n ≡ nextSibling t k
+    → foldedIn t span f ≡ foldAt t (z .code) (nodesIn t span n) → l ≡ levelOf d → (sink a : Sink) (out mid : Bytes) {r : Desk}
+    → ((source : Bytes) → deskIn source a mid ≡ emit (deskIn source sink out) (item (line l))) → m ≡ numberAt t k
+    → r ≡ emit (deskIn (t .source) a mid) (chapter m (numberOf t (f .alt)) (numberOf t (f .published)))
+    → (B : List ℕ → List Event)
+    → emitAll r (blocksAll B t d (nodesIn t span (f .rest))) ≡ emitAll (deskIn (t .source) sink out) (blocksOn B t d k (nodesIn t span (nextSibling t k)) aChapter)
+unfolding blocksOn blockTurn foldedIn emitAll
+chapter-turn t span k d {z} {n} f {l} {m} ez en ef el sink a out mid {r} ea em er B =
+    let g : Folded = foldAt t 6 (nodesIn t span (nextSibling t k)) in
+    let same : foldedIn t span f ≡ g = ef ∙ rw (ez, en) in
+    let s : Desk = deskIn (t .source) sink out in
+    ap (λ (u : Desk). emitAll u (blocksAll B t d (nodesIn t span (f .rest))))
+    (er ∙ ap (λ (u : Desk). emit u (chapter m (numberOf t (f .alt)) (numberOf t (f .published)))) (ea (t .source)))
+    ∙ ap (λ (i : ℕ). emitAll (emit (emit s (item (line i))) (chapter m (numberOf t (f .alt)) (numberOf t (f .published)))) (blocksAll B t d (nodesIn t span (f .rest)))) el
+    ∙ ap (λ (i : ℕ). emitAll (emit (emit s (item (line (levelOf d)))) (chapter i (numberOf t (f .alt)) (numberOf t (f .published)))) (blocksAll B t d (nodesIn t span (f .rest)))) em
+    ∙ ap (λ (h : Folded). emitAll (emit (emit s (item (line (levelOf d)))) (chapter (numberAt t k) (h .alt) (h .published))) (blocksAll B t d (h .rest))) same
+
+pub left-past : (t : Tape) (c : Cursor) {n : Step} (r : Step) → n ≡ nextSibling t (c .at) → left t r ≤ left t n → left t r < left t (At c)
+left-past t c r en h = omega (arith, left-turn t c refl en)
+
+pub left-next : (t : Tape) (c : Cursor) {n : Step} → n ≡ nextSibling t (c .at) → left t n < left t (At c)
+left-next t c en = left-turn t c refl en
+
+-- ---- a block
+
+pub block-step : (t : Tape) (span : Span) (k d : ℕ) {l : ℕ} {n : Step} → l ≡ levelOf d → (sink a : Sink) (out mid : Bytes) {r : Desk}
+    → ((source : Bytes) → deskIn source a mid ≡ emit (deskIn source sink out) (item (line l)))
+    → r ≡ emitAll (deskIn (t .source) a mid) (nodeIn (inside t d) t k false) → n ≡ nextSibling t k
+    → (B : List ℕ → List Event) → emitAll r (blocksAll B t d (nodesIn t span n)) ≡ emitAll (deskIn (t .source) sink out) (blocksOn B t d k (nodesIn t span (nextSibling t k)) aBlock)
+unfolding blocksOn blockTurn emitAll
+block-step t span k d {l} {n} el sink a out mid {r} ea er en B =
+    ap (λ (u : Step). emitAll r (blocksAll B t d (nodesIn t span u))) en
+    ∙ then (deskIn (t .source) a mid) (nodeIn (inside t d) t k false) (blocksAll B t d (nodesIn t span (nextSibling t k))) er
+    ∙ ap (λ (u : Desk). emitAll u (nodeIn (inside t d) t k false ++ blocksAll B t d (nodesIn t span (nextSibling t k))))
+    (ea (t .source) ∙ ap (λ (i : ℕ). emit (deskIn (t .source) sink out) (item (line i))) el)
+
+-- ---- a verse
+
+-- a list without category markers, or with them, from a node on that it has
+kept-first : (t : Tape) (span : Span) (c : Cursor) → span .cut ≡ false → memberOf t span (c .at) ≡ Listed
+    → filtered t (span .sifted) (walkFrom t (At c)) ≡ c .at ∷ nodesIn t span (nextSibling t (c .at))
+unfolding nodesIn cutAt
+kept-first t span c hc hm = uncut (span .cut) hc (filtered t (span .sifted) (walkFrom t (At c))) ∙ nodes-go t span refl (sym hm) refl refl
+  where
+    uncut : (x : Bool) → x ≡ false → (ks : List ℕ) → ks ≡ cutAt t x ks
+    uncut true h ks = absurd (let no-way : _≡_ {A = ℕ} 0 1 = cc in omega arith)
+    uncut false h ks = refl
+
+run-nodes : (t : Tape) (span : Span) (c : Cursor) → span .cut ≡ false → memberOf t span (c .at) ≡ Listed → isTopLevelBlock t (c .at) ≡ false
+    → nodesIn t (record { cut = true; sifted = span .sifted }) (At c) ≡ c .at ∷ upTo (isTopLevelBlock t) (nodesIn t span (nextSibling t (c .at)))
+unfolding nodesIn cutAt
+run-nodes t span c hc hm hb =
+    ap (upTo (isTopLevelBlock t)) (kept-first t span c hc hm) ∙ up-to-go (isTopLevelBlock t) (c .at) (nodesIn t span (nextSibling t (c .at))) hb
+
+para-opens : bytesOf (start 5 (styled (b "p"))) ≡ b "<para style=\"p\">"
+unfolding bytesOf nameOf styled attrsBytes attrBytes valueOf rawly
+para-opens = refl
+
+para-closes : bytesOf (close 5) ≡ b "</para>"
+unfolding bytesOf nameOf
+para-closes = refl
+
+pub run-opened : (l : ℕ) (sink a r : Sink) (out mid last : Bytes)
+    → ((source : Bytes) → deskIn source a mid ≡ emit (deskIn source sink out) (item (line l)))
+    → ((source : Bytes) → deskIn source r last ≡ putOn (deskIn source a mid) (b "<para style=\"p\">"))
+    → (source : Bytes) → deskIn source r last ≡ emitAll (deskIn source sink out) (runOpens l)
+unfolding runOpens emitAll
+run-opened l sink a r out mid last ea er source =
+    er source ∙ ap (putOn (deskIn source a mid)) (sym para-opens) ∙ item-on (deskIn source a mid) (start 5 (styled (b "p")))
+    ∙ ap (λ (u : Desk). emit u (item (start 5 (styled (b "p"))))) (ea source)
+
+pub run-whole : (t : Tape) (span : Span) (c : Cursor) (d : ℕ) {l : ℕ} → l ≡ levelOf d → (sink a e r : Sink) (out mid now last : Bytes)
+    → ((source : Bytes) → deskIn source a mid ≡ emitAll (deskIn source sink out) (runOpens l))
+    → deskIn (t .source) e now ≡ emitAll (deskIn (t .source) a mid) (inlineAll (nodeIn (inside t d) t) t false true (nodesIn t (record { cut = true; sifted = span .sifted }) (At c)))
+    → ((source : Bytes) → deskIn source r last ≡ putOn (deskIn source e now) (b "</para>"))
+    → span .cut ≡ false → memberOf t span (c .at) ≡ Listed → isTopLevelBlock t (c .at) ≡ false
+    → deskIn (t .source) r last ≡ emitAll (deskIn (t .source) sink out) (runIn t d (c .at) (nodesIn t span (nextSibling t (c .at))))
+unfolding runOpens runIn element emitAll
+run-whole t span c d el sink a e r out mid now last ea ee er hc hm hb =
+    between (deskIn (t .source) sink out) (runOpens (levelOf d)) (inlineAll (nodeIn (inside t d) t) t false true (c .at ∷ upTo (isTopLevelBlock t) (nodesIn t span (nextSibling t (c .at))))) (item (close 5) ∷ [])
+    (ea (t .source) ∙ ap (λ (i : ℕ). emitAll (deskIn (t .source) sink out) (runOpens i)) el)
+    (ee ∙ ap (λ (is : List ℕ). emitAll (deskIn (t .source) a mid) (inlineAll (nodeIn (inside t d) t) t false true is)) (run-nodes t span c hc hm hb))
+    (er (t .source) ∙ ap (putOn (deskIn (t .source) e now)) (sym para-closes) ∙ item-on (deskIn (t .source) e now) (close 5))
+
+pub verse-turn : (t : Tape) (span : Span) (c : Cursor) (d : ℕ) (s r : Desk)
+    → (span .cut ≡ false → memberOf t span (c .at) ≡ Listed → isTopLevelBlock t (c .at) ≡ false → r ≡ emitAll s (runIn t d (c .at) (nodesIn t span (nextSibling t (c .at)))))
+    → {n : Step} → n ≡ nextSibling t (c .at) → (m : Step) → nodesIn t span m ≡ fromFirst (isTopLevelBlock t) (nodesIn t span n)
+    → span .cut ≡ false → memberOf t span (c .at) ≡ Listed → isTopLevelBlock t (c .at) ≡ false → (B : List ℕ → List Event)
+    → emitAll r (blocksAll B t d (nodesIn t span m)) ≡ emitAll s (blocksOn B t d (c .at) (nodesIn t span (nextSibling t (c .at))) aVerse)
+unfolding blocksOn blockTurn runIn
+verse-turn t span c d s r er {n} en m em hc hm hb B =
+    ap (λ (is : List ℕ). emitAll r (blocksAll B t d is)) (em ∙ ap (λ (u : Step). fromFirst (isTopLevelBlock t) (nodesIn t span u)) en)
+    ∙ then s (runIn t d (c .at) (nodesIn t span (nextSibling t (c .at)))) (blocksAll B t d (fromFirst (isTopLevelBlock t) (nodesIn t span (nextSibling t (c .at))))) (er hc hm hb)
+
+-- ---- a turn by its place
+
+turn-at : (t : Tape) (span : Span) (c : Cursor) (d : ℕ) (B : List ℕ → List Event) (p : Place) → memberOf t span (c .at) ≡ Listed → placeOf t (c .at) ≡ p
+    → blocksAll B t d (nodesIn t span (At c)) ≡ blocksOn B t d (c .at) (nodesIn t span (nextSibling t (c .at))) p
+turn-at t span c d B p hm hp =
+    ap (blocksAll B t d) (nodes-go t span refl (sym hm) refl refl)
+    ∙ blocks-turn B t d (c .at) (nodesIn t span (nextSibling t (c .at)))
+    ∙ ap (blocksOn B t d (c .at) (nodesIn t span (nextSibling t (c .at)))) hp
+
+-- the same with what a turn wrote
+pub turn-by : (t : Tape) (span : Span) (c : Cursor) (d : ℕ) (B : List ℕ → List Event) (p : Place) (s : Desk) {x : Desk} → memberOf t span (c .at) ≡ Listed → placeOf t (c .at) ≡ p
+    → x ≡ emitAll s (blocksOn B t d (c .at) (nodesIn t span (nextSibling t (c .at))) p) → x ≡ emitAll s (blocksAll B t d (nodesIn t span (At c)))
+turn-by t span c d B p s hm hp ex = ex ∙ ap (emitAll s) (sym (turn-at t span c d B p hm hp))
+
+module _ (t : Tape) (span : Span) (c : Cursor) (d : ℕ) (s : Desk) {x : Bool} (ex : x ≡ isRow t (c .at)) where
+  pub row-step : x ≡ true → {r : Desk} {n : Step} (m : Step) → r ≡ emitAll s (tableE t d (upTo (isNoRow t) (nodesIn t span (At c)))) → n ≡ nextSibling t (c .at)
+      → nodesIn t span m ≡ fromFirst (isNoRow t) (nodesIn t span n)
+      → span .cut ≡ false → memberOf t span (c .at) ≡ Listed → holderOf t (c .at) ≡ Neither → (B : List ℕ → List Event)
+      → emitAll r (blocksAll B t d (nodesIn t span m)) ≡ emitAll s (blocksAll B t d (nodesIn t span (At c)))
+  unfolding blocksOn blockTurn
+  row-step hx {r} {n} m er en em hc hm hn B = turn-by t span c d B aRow s hm (place-row t (c .at) (sym ex ∙ hx)) body
+    where
+      rows : upTo (isNoRow t) (nodesIn t span (At c)) ≡ c .at ∷ upTo (isNoRow t) (nodesIn t span (nextSibling t (c .at)))
+      rows = ap (upTo (isNoRow t)) (nodes-go t span refl (sym hm) refl refl) ∙ up-row t (c .at) (nodesIn t span (nextSibling t (c .at))) (sym ex ∙ hx)
+
+      body : emitAll r (blocksAll B t d (nodesIn t span m)) ≡ emitAll s (blocksOn B t d (c .at) (nodesIn t span (nextSibling t (c .at))) aRow)
+      body =
+          ap (λ (ks : List ℕ). emitAll r (blocksAll B t d ks)) (em ∙ ap (λ (u : Step). fromFirst (isNoRow t) (nodesIn t span u)) en)
+          ∙ then s (tableE t d (c .at ∷ upTo (isNoRow t) (nodesIn t span (nextSibling t (c .at))))) (blocksAll B t d (fromFirst (isNoRow t) (nodesIn t span (nextSibling t (c .at)))))
+          (er ∙ ap (λ (ks : List ℕ). emitAll s (tableE t d ks)) rows)
+
+  module _ (hx : x ≡ false) {z : Kind} (ek : z .code ≡ kindAt t (c .at)) (r : Desk) (m : Step) where
+    pub chapter-step : z .code ≡ 6
+        → ((B : List ℕ → List Event) → emitAll r (blocksAll B t d (nodesIn t span m)) ≡ emitAll s (blocksOn B t d (c .at) (nodesIn t span (nextSibling t (c .at))) aChapter))
+        → span .cut ≡ false → memberOf t span (c .at) ≡ Listed → holderOf t (c .at) ≡ Neither → (B : List ℕ → List Event)
+        → emitAll r (blocksAll B t d (nodesIn t span m)) ≡ emitAll s (blocksAll B t d (nodesIn t span (At c)))
+    chapter-step h er hc hm hn B = turn-by t span c d B aChapter s hm (place-chapter t (c .at) (sym ex ∙ hx) (kind-is t (c .at) ek 6 h)) (er B)
+
+    module _ (n₆ : z .code ≡ 6 → ⊥) {y : Bool} (ey : y ≡ isTopLevelBlock t (c .at)) where
+      other-place : holderOf t (c .at) ≡ Neither → {p : Place} → cond (isTopLevelBlock t (c .at)) aBlock (cond (isVerse t (c .at)) aVerse dropped) ≡ p → placeOf t (c .at) ≡ p
+      other-place hn e = place-others t (c .at) (sym ex ∙ hx) (kind-not t (c .at) ek 6 n₆) hn ∙ e
+
+      pub block-found : y ≡ true
+          → ((B : List ℕ → List Event) → emitAll r (blocksAll B t d (nodesIn t span m)) ≡ emitAll s (blocksOn B t d (c .at) (nodesIn t span (nextSibling t (c .at))) aBlock))
+          → span .cut ≡ false → memberOf t span (c .at) ≡ Listed → holderOf t (c .at) ≡ Neither → (B : List ℕ → List Event)
+          → emitAll r (blocksAll B t d (nodesIn t span m)) ≡ emitAll s (blocksAll B t d (nodesIn t span (At c)))
+      block-found h er hc hm hn B = turn-by t span c d B aBlock s hm (other-place hn (rw (sym ey ∙ h))) (er B)
+
+      pub verse-step : y ≡ false → z .code ≡ 7
+          → (span .cut ≡ false → memberOf t span (c .at) ≡ Listed → isTopLevelBlock t (c .at) ≡ false → (B : List ℕ → List Event)
+          → emitAll r (blocksAll B t d (nodesIn t span m)) ≡ emitAll s (blocksOn B t d (c .at) (nodesIn t span (nextSibling t (c .at))) aVerse))
+          → span .cut ≡ false → memberOf t span (c .at) ≡ Listed → holderOf t (c .at) ≡ Neither → (B : List ℕ → List Event)
+          → emitAll r (blocksAll B t d (nodesIn t span m)) ≡ emitAll s (blocksAll B t d (nodesIn t span (At c)))
+      verse-step hy h er hc hm hn B =
+          turn-by t span c d B aVerse s hm (other-place hn (rw (sym ey ∙ hy, kind-is t (c .at) ek 7 h))) (er hc hm (sym ey ∙ hy) B)
+
+  pub drop-step : x ≡ false → {z : Kind} → z .code ≡ kindAt t (c .at) → (z .code ≡ 6 → ⊥) → {y : Bool} → y ≡ isTopLevelBlock t (c .at) → y ≡ false
+      → (z .code ≡ 7 → ⊥) → {m : Step} → m ≡ nextSibling t (c .at)
+      → span .cut ≡ false → memberOf t span (c .at) ≡ Listed → holderOf t (c .at) ≡ Neither → (B : List ℕ → List Event)
+      → emitAll s (blocksAll B t d (nodesIn t span m)) ≡ emitAll s (blocksAll B t d (nodesIn t span (At c)))
+  unfolding blocksOn blockTurn
+  drop-step hx ek n₆ ey hy n₇ {m} em hc hm hn B =
+      turn-by t span c d B dropped s hm
+      (place-others t (c .at) (sym ex ∙ hx) (kind-not t (c .at) ek 6 n₆) hn ∙ rw (sym ey ∙ hy, kind-not t (c .at) ek 7 n₇)) body
+    where
+      body : emitAll s (blocksAll B t d (nodesIn t span m)) ≡ emitAll s (blocksOn B t d (c .at) (nodesIn t span (nextSibling t (c .at))) dropped)
+      body = ap (λ (u : Step). emitAll s (blocksAll B t d (nodesIn t span u))) em

@@ -1,0 +1,95 @@
+use mathlib.Core.Path.{_≡_, refl}
+use Prim.Native.Nat.{_≤_}
+use native.Mathlib.Omega.{arith}
+use Rattle.tape.specs.File.{tapeIn}
+use Rattle.tape.specs.Tree.{left}
+use Rattle.tape.proofs.Walk.{left-turn}
+use Rattle.lists.specs.Span.{nodesIn}
+use Rattle.render.specs.Shape.{isTopLevelBlock}
+use Rattle.events.specs.Walk.{fromFirst}
+use Rattle.lists.proofs.Nodes.{left-on, left-here}
+use Rattle.blocks.proofs.Finds.{next-ended, next-cut, next-skipped, next-found, next-past}
+use borrow.Author.Needs.{needs}
+use Rattle.blocks.proofs.next_block.Statement.{statement}
+use Rattle.blocks.proofs.next_block.Tie as tie
+
+abbrev Inv-loop : tie.InvT-loop
+Inv-loop file tape span step₀ step = (fromFirst (isTopLevelBlock (tapeIn tape file)) (nodesIn (tapeIn tape file) span step) ≡ fromFirst (isTopLevelBlock (tapeIn tape file)) (nodesIn (tapeIn tape file) span step₀)) × (left (tapeIn tape file) step ≤ left (tapeIn tape file) step₀)
+
+abbrev μ-loop : tie.MeasureT-loop
+μ-loop file tape span step₀ step = left (tapeIn tape file) step
+
+loop-holds : tie.Need-loop-holds Inv-loop μ-loop
+loop-holds c = (refl, omega arith)
+
+enum-told : tie.Need-enum-told Inv-loop μ-loop
+enum-told c = search needs
+
+returns : tie.Need-returns Inv-loop μ-loop
+returns c = (search next-ended, search needs)
+
+enum-known-step : tie.Need-enum-known-step Inv-loop μ-loop
+enum-known-step c = search needs
+
+member-of-requires : tie.Need-member-of-requires Inv-loop μ-loop
+member-of-requires c κs = search needs
+
+enum-told-2 : tie.Need-enum-told-2 Inv-loop μ-loop
+enum-told-2 c = search needs
+
+returns-2 : tie.Need-returns-2 Inv-loop μ-loop
+returns-2 c = (search next-cut, search left-here)
+
+enum-told-3 : tie.Need-enum-told-3 Inv-loop μ-loop
+enum-told-3 c = search needs
+
+next-sibling-requires : tie.Need-next-sibling-requires Inv-loop μ-loop
+next-sibling-requires c κs = search needs
+
+loop-less : tie.Need-loop-less Inv-loop μ-loop
+loop-less c = search left-turn
+
+loop-again : tie.Need-loop-again Inv-loop μ-loop
+loop-again c = (search next-skipped, search left-on)
+
+enum-told-4 : tie.Need-enum-told-4 Inv-loop μ-loop
+enum-told-4 c = search needs
+
+is-top-level-block-requires : tie.Need-is-top-level-block-requires Inv-loop μ-loop
+is-top-level-block-requires c κs = search needs
+
+returns-3 : tie.Need-returns-3 Inv-loop μ-loop
+returns-3 c = (search next-found, search left-here)
+
+next-sibling-requires-2 : tie.Need-next-sibling-requires-2 Inv-loop μ-loop
+next-sibling-requires-2 c κs = search needs
+
+loop-less-2 : tie.Need-loop-less-2 Inv-loop μ-loop
+loop-less-2 c = search left-turn
+
+loop-again-2 : tie.Need-loop-again-2 Inv-loop μ-loop
+loop-again-2 c = (search next-past, search left-on)
+
+pub next-block-spec : {M : Type 1} → statement M
+next-block-spec =
+    tie.close
+    (tie.spec
+    Inv-loop
+    μ-loop
+    loop-holds
+    enum-told
+    returns
+    enum-known-step
+    member-of-requires
+    enum-told-2
+    returns-2
+    enum-told-3
+    next-sibling-requires
+    loop-less
+    loop-again
+    enum-told-4
+    is-top-level-block-requires
+    returns-3
+    next-sibling-requires-2
+    loop-less-2
+    loop-again-2)

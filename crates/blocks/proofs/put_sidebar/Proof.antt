@@ -1,0 +1,37 @@
+use Rattle.blocks.proofs.Tags.{sidebar-put}
+use borrow.Author.Needs.{needs}
+use Rattle.blocks.proofs.put_sidebar.Statement.{statement}
+use Rattle.blocks.proofs.put_sidebar.Tie as tie
+
+slice-aggregate-put-style : tie.Need-slice-aggregate-put-style
+slice-aggregate-put-style c = search needs
+
+marker-name-requires : tie.Need-marker-name-requires
+marker-name-requires c κs = search needs
+
+put-style-requires : tie.Need-put-style-requires
+put-style-requires c κs = search needs
+
+put-category-requires : tie.Need-put-category-requires
+put-category-requires c κs = search needs
+
+put-unclosed-requires : tie.Need-put-unclosed-requires
+put-unclosed-requires c κs = search needs
+
+same-length : tie.Need-same-length
+same-length c = search needs
+
+returns : tie.Need-returns
+returns c = search sidebar-put
+
+pub put-sidebar-spec : {M : Type 1} → statement M
+put-sidebar-spec =
+    tie.close
+    (tie.spec
+    slice-aggregate-put-style
+    marker-name-requires
+    put-style-requires
+    put-category-requires
+    put-unclosed-requires
+    same-length
+    returns)

@@ -1,0 +1,461 @@
+// Lists of blocks, and the sidebars and periphs that hold them.
+ghost use mathlib.Core.Path.{_≡_};
+ghost use mathlib.Core.Bool.{false, true};
+ghost use mathlib.Core.List.{List, [], _∷_, _++_};
+ghost use Prim.Native.Nat.{ℕ, _≤_, _<_};
+ghost use Rattle.parts.specs.Bytes.{Bytes, b};
+ghost use Rattle.window.specs.Page.{pageOf, paint};
+ghost use Rattle.tape.specs.File.{tapeIn};
+ghost use Rattle.tape.specs.Tree.{left, nextSibling, firstChild};
+ghost use Rattle.tags.specs.Names.{nameOf};
+ghost use Rattle.tape.specs.declared.Step.the-variants.{At};
+ghost use Rattle.render.specs.First.{any};
+ghost use Rattle.render.specs.Shape.{isTopLevelBlock};
+ghost use Rattle.render.specs.Note.{periphAlt};
+ghost use Rattle.tags.specs.Items.{attrsBytes, line as lineItem, close, start, empty};
+ghost use Rattle.events.specs.Event.{Event, item, perhaps};
+ghost use Rattle.events.specs.Walk.{aChapter, aBlock, aVerse, fromFirst, levelOf, blocksE};
+ghost use Rattle.events.specs.Emit.{emit, emitAll};
+ghost use Rattle.events.proofs.Turns.{blocksAll, blocksOn};
+ghost use Rattle.sink.specs.Desk.{deskIn};
+ghost use Rattle.lists.specs.Span.{nodesIn, memberOf};
+ghost use Rattle.lists.specs.declared.Member.the-variants.{Listed};
+ghost use Rattle.blocks.specs.Blocks.{holderOf, isBlockOrRow, below, sidebarAttrs, periphAttrs, attrsOf, elementNo, inHolder, holderIn, runOpens, runIn};
+use lists::Member;
+use lists::Span;
+use lists::fold_in;
+use lists::member_of;
+use sink::Sink;
+use sink::line;
+use sink::literal;
+use tables::level_of;
+use tape::Cursor;
+use tape::Element;
+use tape::Kind;
+use tape::Sections;
+use tape::Step;
+use values::put_category;
+use values::put_collected;
+use window::Window;
+use window::put_run;
+use words::Set;
+
+// What a node holds blocks as.
+pub enum Holder {
+    Sidebar,
+    Periph,
+    Neither,
+}
+
+// Where a walk along blocks stands.
+pub struct Going {
+    pub sink: Sink,
+    pub next: Step,
+}
+
+fn holder_of(file: &[u8], tape: Sections, c: Cursor) -> Holder
+    ensures { λ r. ⌜ r ≡ holderOf (tapeIn tape (now (file .entry))) (c .at) ⌝ }
+{
+    if render::is_row(file, tape, c) {
+        return Holder::Neither;
+    }
+    let kind = c.kind(file, tape);
+    if kind.code == Kind::CHAPTER {
+        return Holder::Neither;
+    }
+    let info = c.marker_info(file, tape);
+    if render::is_element(info, Element::SIDEBAR) {
+        return Holder::Sidebar;
+    }
+    if render::is_element(info, Element::PERIPH) {
+        return Holder::Periph;
+    }
+    Holder::Neither
+}
+
+// A chapter on its line, with the numbers behind it.
+fn chapter(
+    file: &[u8],
+    tape: Sections,
+    span: Span,
+    c: Cursor,
+    depth: usize,
+    sink: Sink,
+    out: &mut [u8],
+) -> Going
+    ensures { λ r. ⌜ ((B : List ℕ → List Event) → emitAll (deskIn (tapeIn tape (now (file .entry)) .source) (r .sink) (now (out .exit))) (blocksAll B (tapeIn tape (now (file .entry))) depth (nodesIn (tapeIn tape (now (file .entry))) span (r .next))) ≡ emitAll (deskIn (tapeIn tape (now (file .entry)) .source) sink (now (out .entry))) (blocksOn B (tapeIn tape (now (file .entry))) depth (c .at) (nodesIn (tapeIn tape (now (file .entry))) span (nextSibling (tapeIn tape (now (file .entry))) (c .at))) aChapter)) ⌝ }
+    ensures { λ r. ⌜ left (tapeIn tape (now (file .entry))) (r .next) < left (tapeIn tape (now (file .entry))) (At c) ⌝ }
+{
+    let f = fold_in(
+        file,
+        tape,
+        span,
+        Kind::new(Kind::CHAPTER),
+        c.next_sibling(file, tape),
+    );
+    let alt = f.alt;
+    let published = f.published;
+    let next = f.rest;
+    let s = line(sink, out, level_of(depth));
+    let r = milestone::chapter(file, tape, c.number(file, tape), alt, published, s, out);
+    Going { sink: r, next }
+}
+
+// The first node from here on that is a block.
+fn next_block(file: &[u8], tape: Sections, span: Span, first: Step) -> Step
+    ensures { λ r. ⌜ nodesIn (tapeIn tape (now (file .entry))) span r ≡ fromFirst (isTopLevelBlock (tapeIn tape (now (file .entry)))) (nodesIn (tapeIn tape (now (file .entry))) span first) ⌝ }
+    ensures { λ r. ⌜ left (tapeIn tape (now (file .entry))) r ≤ left (tapeIn tape (now (file .entry))) first ⌝ }
+{
+    let mut step = first;
+    loop {
+        match step {
+            Step::Done => return step,
+            Step::At(c) => match member_of(file, tape, span, c) {
+                Member::End => return step,
+                Member::Skipped => {
+                    step = c.next_sibling(file, tape);
+                }
+                Member::Listed => {
+                    if render::is_top_level_block(file, tape, c) {
+                        return step;
+                    }
+                    step = c.next_sibling(file, tape);
+                }
+            },
+        }
+    }
+}
+
+// The line and the tag of a paragraph around a verse.
+fn open_run(level: usize, sink: Sink, out: &mut [u8]) -> Sink
+    ensures { λ r. ⌜ ((source : Bytes) → deskIn source r (now (out .exit)) ≡ emitAll (deskIn source sink (now (out .entry))) (runOpens level)) ⌝ }
+{
+    let a = line(sink, out, level);
+    literal(a, out, b"<para style=\"p\">")
+}
+
+// A verse and what follows it up to the next block, in a paragraph of its own.
+fn verse_para(
+    file: &[u8],
+    tape: Sections,
+    span: Span,
+    c: Cursor,
+    depth: usize,
+    sink: Sink,
+    out: &mut [u8],
+) -> Sink
+    ensures { λ r. ⌜ (span .cut ≡ false → memberOf (tapeIn tape (now (file .entry))) span (c .at) ≡ Listed → isTopLevelBlock (tapeIn tape (now (file .entry))) (c .at) ≡ false → deskIn (tapeIn tape (now (file .entry)) .source) r (now (out .exit)) ≡ emitAll (deskIn (tapeIn tape (now (file .entry)) .source) sink (now (out .entry))) (runIn (tapeIn tape (now (file .entry))) depth (c .at) (nodesIn (tapeIn tape (now (file .entry))) span (nextSibling (tapeIn tape (now (file .entry))) (c .at))))) ⌝ }
+{
+    let run = Span {
+        cut: true,
+        sifted: span.sifted,
+    };
+    let a = open_run(level_of(depth), sink, out);
+    let e = inline::inline(file, tape, run, Step::At(c), depth, false, a, out);
+    literal(e, out, b"</para>")
+}
+
+// Such a paragraph, and the list behind it.
+fn verse_run(
+    file: &[u8],
+    tape: Sections,
+    span: Span,
+    c: Cursor,
+    depth: usize,
+    sink: Sink,
+    out: &mut [u8],
+) -> Going
+    ensures { λ r. ⌜ (span .cut ≡ false → memberOf (tapeIn tape (now (file .entry))) span (c .at) ≡ Listed → isTopLevelBlock (tapeIn tape (now (file .entry))) (c .at) ≡ false → (B : List ℕ → List Event) → emitAll (deskIn (tapeIn tape (now (file .entry)) .source) (r .sink) (now (out .exit))) (blocksAll B (tapeIn tape (now (file .entry))) depth (nodesIn (tapeIn tape (now (file .entry))) span (r .next))) ≡ emitAll (deskIn (tapeIn tape (now (file .entry)) .source) sink (now (out .entry))) (blocksOn B (tapeIn tape (now (file .entry))) depth (c .at) (nodesIn (tapeIn tape (now (file .entry))) span (nextSibling (tapeIn tape (now (file .entry))) (c .at))) aVerse)) ⌝ }
+    ensures { λ r. ⌜ left (tapeIn tape (now (file .entry))) (r .next) < left (tapeIn tape (now (file .entry))) (At c) ⌝ }
+{
+    let s = verse_para(file, tape, span, c, depth, sink, out);
+    let next = next_block(file, tape, span, c.next_sibling(file, tape));
+    Going { sink: s, next }
+}
+
+// A block on its line.
+fn block(
+    file: &[u8],
+    tape: Sections,
+    span: Span,
+    c: Cursor,
+    depth: usize,
+    sink: Sink,
+    out: &mut [u8],
+) -> Going
+    ensures { λ r. ⌜ ((B : List ℕ → List Event) → emitAll (deskIn (tapeIn tape (now (file .entry)) .source) (r .sink) (now (out .exit))) (blocksAll B (tapeIn tape (now (file .entry))) depth (nodesIn (tapeIn tape (now (file .entry))) span (r .next))) ≡ emitAll (deskIn (tapeIn tape (now (file .entry)) .source) sink (now (out .entry))) (blocksOn B (tapeIn tape (now (file .entry))) depth (c .at) (nodesIn (tapeIn tape (now (file .entry))) span (nextSibling (tapeIn tape (now (file .entry))) (c .at))) aBlock)) ⌝ }
+    ensures { λ r. ⌜ left (tapeIn tape (now (file .entry))) (r .next) < left (tapeIn tape (now (file .entry))) (At c) ⌝ }
+{
+    let a = line(sink, out, level_of(depth));
+    Going {
+        sink: inline::node(file, tape, c, depth, false, a, out),
+        next: c.next_sibling(file, tape),
+    }
+}
+
+// A turn along blocks that enters no sidebar and no periph.
+fn block_turn(
+    file: &[u8],
+    tape: Sections,
+    span: Span,
+    c: Cursor,
+    depth: usize,
+    sink: Sink,
+    out: &mut [u8],
+) -> Going
+    ensures { λ r. ⌜ (span .cut ≡ false → memberOf (tapeIn tape (now (file .entry))) span (c .at) ≡ Listed → holderOf (tapeIn tape (now (file .entry))) (c .at) ≡ Holder.Neither → (B : List ℕ → List Event) → emitAll (deskIn (tapeIn tape (now (file .entry)) .source) (r .sink) (now (out .exit))) (blocksAll B (tapeIn tape (now (file .entry))) depth (nodesIn (tapeIn tape (now (file .entry))) span (r .next))) ≡ emitAll (deskIn (tapeIn tape (now (file .entry)) .source) sink (now (out .entry))) (blocksAll B (tapeIn tape (now (file .entry))) depth (nodesIn (tapeIn tape (now (file .entry))) span (At c)))) ⌝ }
+    ensures { λ r. ⌜ left (tapeIn tape (now (file .entry))) (r .next) < left (tapeIn tape (now (file .entry))) (At c) ⌝ }
+{
+    if render::is_row(file, tape, c) {
+        return Going {
+            sink: tables::table(file, tape, span, Step::At(c), depth, sink, out),
+            next: tables::past_rows(file, tape, span, c.next_sibling(file, tape)),
+        };
+    }
+    let kind = c.kind(file, tape);
+    if kind.code == Kind::CHAPTER {
+        return chapter(file, tape, span, c, depth, sink, out);
+    }
+    if render::is_top_level_block(file, tape, c) {
+        return block(file, tape, span, c, depth, sink, out);
+    }
+    if kind.code == Kind::VERSE {
+        return verse_run(file, tape, span, c, depth, sink, out);
+    }
+    Going {
+        sink,
+        next: c.next_sibling(file, tape),
+    }
+}
+
+// Whether a node is a block or a row.
+fn is_block(file: &[u8], tape: Sections, c: Cursor) -> bool
+    ensures { λ r. ⌜ r ≡ isBlockOrRow (tapeIn tape (now (file .entry))) (c .at) ⌝ }
+{
+    if render::is_top_level_block(file, tape, c) {
+        return true;
+    }
+    render::is_row(file, tape, c)
+}
+
+// Whether a list has a block or a row.
+fn has_block(file: &[u8], tape: Sections, span: Span, first: Step) -> bool
+    ensures { λ r. ⌜ r ≡ any (isBlockOrRow (tapeIn tape (now (file .entry)))) (nodesIn (tapeIn tape (now (file .entry))) span first) ⌝ }
+{
+    let mut step = first;
+    loop {
+        match step {
+            Step::Done => return false,
+            Step::At(c) => match member_of(file, tape, span, c) {
+                Member::End => return false,
+                Member::Skipped => {
+                    step = c.next_sibling(file, tape);
+                }
+                Member::Listed => {
+                    if is_block(file, tape, c) {
+                        return true;
+                    }
+                    step = c.next_sibling(file, tape);
+                }
+            },
+        }
+    }
+}
+
+// A sidebar's tag up to its end: style, category, closed.
+fn put_sidebar(w: Window, out: &mut [u8], file: &[u8], tape: Sections, c: Cursor) -> Window
+    ensures { λ r. ⌜ pageOf r (now (out .exit)) ≡ paint (pageOf w (now (out .entry))) (b "<sidebar" ++ attrsBytes (sidebarAttrs (tapeIn tape (now (file .entry))) (c .at))) ⌝ }
+{
+    let a = tagging::put_style(w, out, b"<sidebar style=\"", c.marker_name(file, tape));
+    let d = put_category(a, out, file, tape, c);
+    tagging::put_unclosed(d, out, file, tape, c)
+}
+
+// A periph's alt: the words of its first text.
+fn put_alt(w: Window, out: &mut [u8], file: &[u8], tape: Sections, c: Cursor) -> Window
+    ensures { λ r. ⌜ pageOf r (now (out .exit)) ≡ paint (pageOf w (now (out .entry))) (attrsBytes (perhaps (b "alt") (periphAlt (tapeIn tape (now (file .entry))) (c .at)))) ⌝ }
+{
+    let text = render::leading_text(file, tape, c);
+    if words::is_blank(text, Set::Unicode) {
+        return w;
+    }
+    let a = put_run(w, out, b" alt=\"");
+    let d = prose::put_words(a, out, text, true);
+    put_run(d, out, b"\"")
+}
+
+// A periph's tag up to its end: alt and its attributes.
+fn put_periph(w: Window, out: &mut [u8], file: &[u8], tape: Sections, c: Cursor) -> Window
+    ensures { λ r. ⌜ pageOf r (now (out .exit)) ≡ paint (pageOf w (now (out .entry))) (b "<periph" ++ attrsBytes (periphAttrs (tapeIn tape (now (file .entry))) (c .at))) ⌝ }
+{
+    let a = put_run(w, out, b"<periph");
+    let d = put_alt(a, out, file, tape, c);
+    put_collected(d, out, file, tape, c, b"periph")
+}
+
+// A holder's tag up to its end.
+fn put_holder(
+    w: Window,
+    out: &mut [u8],
+    file: &[u8],
+    tape: Sections,
+    c: Cursor,
+    sidebar: bool,
+) -> Window
+    ensures { λ r. ⌜ pageOf r (now (out .exit)) ≡ paint (pageOf w (now (out .entry))) (b "<" ++ (nameOf (elementNo sidebar) ++ attrsBytes (attrsOf (tapeIn tape (now (file .entry))) (c .at) sidebar))) ⌝ }
+{
+    if sidebar {
+        put_sidebar(w, out, file, tape, c)
+    } else {
+        put_periph(w, out, file, tape, c)
+    }
+}
+
+// A holder's tag with blocks behind it.
+fn open_holder(
+    file: &[u8],
+    tape: Sections,
+    c: Cursor,
+    sidebar: bool,
+    sink: Sink,
+    out: &mut [u8],
+) -> Sink
+    ensures { λ r. ⌜ deskIn (tapeIn tape (now (file .entry)) .source) r (now (out .exit)) ≡ emit (deskIn (tapeIn tape (now (file .entry)) .source) sink (now (out .entry))) (item (start (elementNo sidebar) (attrsOf (tapeIn tape (now (file .entry))) (c .at) sidebar))) ⌝ }
+{
+    let a = put_holder(sink.window(), out, file, tape, c, sidebar);
+    let z = put_run(a, out, b">");
+    sink.over(z)
+}
+
+// A holder with nothing inside.
+fn empty_holder(
+    file: &[u8],
+    tape: Sections,
+    c: Cursor,
+    sidebar: bool,
+    sink: Sink,
+    out: &mut [u8],
+) -> Sink
+    ensures { λ r. ⌜ deskIn (tapeIn tape (now (file .entry)) .source) r (now (out .exit)) ≡ emit (deskIn (tapeIn tape (now (file .entry)) .source) sink (now (out .entry))) (item (empty (elementNo sidebar) (attrsOf (tapeIn tape (now (file .entry))) (c .at) sidebar))) ⌝ }
+{
+    let a = put_holder(sink.window(), out, file, tape, c, sidebar);
+    let z = put_run(a, out, b" />");
+    sink.over(z)
+}
+
+// A holder's end on its line.
+fn close_holder(level: usize, sidebar: bool, sink: Sink, out: &mut [u8]) -> Sink
+    ensures { λ r. ⌜ ((source : Bytes) → deskIn source r (now (out .exit)) ≡ emitAll (deskIn source sink (now (out .entry))) (item (lineItem level) ∷ item (close (elementNo sidebar)) ∷ [])) ⌝ }
+{
+    let a = line(sink, out, level);
+    if sidebar {
+        literal(a, out, b"</sidebar>")
+    } else {
+        literal(a, out, b"</periph>")
+    }
+}
+
+// A holder with blocks inside.
+fn full_holder(
+    file: &[u8],
+    tape: Sections,
+    c: Cursor,
+    sidebar: bool,
+    depth: usize,
+    sink: Sink,
+    out: &mut [u8],
+) -> Sink
+    ensures { λ r. ⌜ deskIn (tapeIn tape (now (file .entry)) .source) r (now (out .exit)) ≡ emitAll (deskIn (tapeIn tape (now (file .entry)) .source) sink (now (out .entry))) (item (start (elementNo sidebar) (attrsOf (tapeIn tape (now (file .entry))) (c .at) sidebar)) ∷ (below (tapeIn tape (now (file .entry))) depth (nodesIn (tapeIn tape (now (file .entry))) (inHolder sidebar) (firstChild (tapeIn tape (now (file .entry))) (c .at))) ++ (item (lineItem (levelOf depth)) ∷ item (close (elementNo sidebar)) ∷ []))) ⌝ }
+{
+    let span = Span {
+        cut: false,
+        sifted: sidebar,
+    };
+    let d = open_holder(file, tape, c, sidebar, sink, out);
+    let e = inner(file, tape, span, c.first_child(file, tape), depth, d, out);
+    close_holder(level_of(depth), sidebar, e, out)
+}
+
+// A sidebar or periph: blocks inside, or nothing.
+fn held(
+    file: &[u8],
+    tape: Sections,
+    c: Cursor,
+    sidebar: bool,
+    depth: usize,
+    sink: Sink,
+    out: &mut [u8],
+) -> Sink
+    ensures { λ r. ⌜ deskIn (tapeIn tape (now (file .entry)) .source) r (now (out .exit)) ≡ emitAll (deskIn (tapeIn tape (now (file .entry)) .source) sink (now (out .entry))) (item (lineItem (levelOf depth)) ∷ holderIn (tapeIn tape (now (file .entry))) depth (levelOf depth) sidebar (c .at)) ⌝ }
+{
+    let span = Span {
+        cut: false,
+        sifted: sidebar,
+    };
+    let a = line(sink, out, level_of(depth));
+    if has_block(file, tape, span, c.first_child(file, tape)) {
+        full_holder(file, tape, c, sidebar, depth, a, out)
+    } else {
+        empty_holder(file, tape, c, sidebar, a, out)
+    }
+}
+
+// The blocks inside a sidebar or periph.
+fn inner(
+    file: &[u8],
+    tape: Sections,
+    span: Span,
+    first: Step,
+    depth: usize,
+    sink: Sink,
+    out: &mut [u8],
+) -> Sink
+    ensures { λ r. ⌜ (span .cut ≡ false → deskIn (tapeIn tape (now (file .entry)) .source) r (now (out .exit)) ≡ emitAll (deskIn (tapeIn tape (now (file .entry)) .source) sink (now (out .entry))) (below (tapeIn tape (now (file .entry))) depth (nodesIn (tapeIn tape (now (file .entry))) span first))) ⌝ }
+{
+    if depth == 0 {
+        return sink;
+    }
+    blocks(file, tape, span, first, depth - 1, sink, out)
+}
+
+// A list of blocks.
+pub fn blocks(
+    file: &[u8],
+    tape: Sections,
+    span: Span,
+    first: Step,
+    depth: usize,
+    sink: Sink,
+    out: &mut [u8],
+) -> Sink
+    ensures { λ r. ⌜ (span .cut ≡ false → deskIn (tapeIn tape (now (file .entry)) .source) r (now (out .exit)) ≡ emitAll (deskIn (tapeIn tape (now (file .entry)) .source) sink (now (out .entry))) (blocksE (tapeIn tape (now (file .entry))) depth (nodesIn (tapeIn tape (now (file .entry))) span first))) ⌝ }
+{
+    let mut s = sink;
+    let mut step = first;
+    loop {
+        match step {
+            Step::Done => return s,
+            Step::At(c) => match member_of(file, tape, span, c) {
+                Member::End => return s,
+                Member::Skipped => {
+                    step = c.next_sibling(file, tape);
+                }
+                Member::Listed => match holder_of(file, tape, c) {
+                    Holder::Sidebar => {
+                        s = held(file, tape, c, true, depth, s, out);
+                        step = c.next_sibling(file, tape);
+                    }
+                    Holder::Periph => {
+                        s = held(file, tape, c, false, depth, s, out);
+                        step = c.next_sibling(file, tape);
+                    }
+                    Holder::Neither => {
+                        let g = block_turn(file, tape, span, c, depth, s, out);
+                        s = g.sink;
+                        step = g.next;
+                    }
+                },
+            },
+        }
+    }
+}

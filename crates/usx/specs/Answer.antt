@@ -1,0 +1,28 @@
+-- What an answer says in document 01's numbers, and what a walk over the whole text leaves.
+use Prim.Native.Nat.{ℕ}
+use Rattle.parts.specs.Bytes.{Bytes}
+use Rattle.window.specs.Page.{Page, paint}
+use Rattle.tape.specs.File.{Tape}
+use Rattle.events.specs.Text.{Outcome, textOf}
+use Rattle.usx.specs.declared.Answer.{Answer}
+use Rattle.usx.specs.declared.Answer.the-variants.{Written, Refused, NoRoom}
+
+-- document 01's number
+unfoldable pub numberOf : Answer → ℕ
+numberOf (Written n) = 0
+numberOf (Refused n) = n
+numberOf (NoRoom n) = 8
+
+-- the length that goes with it
+unfoldable pub givenOf : Answer → ℕ
+givenOf (Written n) = n
+givenOf (Refused n) = 0
+givenOf (NoRoom n) = n
+
+-- an answer and the buffer behind it
+unfoldable pub outcomeOf : Answer → Bytes → Outcome
+outcomeOf a buffer = record { number = numberOf a; given = givenOf a; buffer = buffer }
+
+-- the page that the whole text leaves in a buffer, from the text's first byte on
+unfoldable pub wholeIn : Tape → Bytes → Page
+wholeIn t out = paint (record { at = 0; from = 0; buf = out }) (textOf t)

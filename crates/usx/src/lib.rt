@@ -1,0 +1,84 @@
+// The USX text of a tape file: admission, a measuring walk, a writing walk.
+ghost use mathlib.Core.Path.{_≡_};
+ghost use Prim.Native.Nat.{_<_, _^_};
+ghost use lib.ListN.{length};
+ghost use Rattle.tape.specs.File.{tapeIn};
+ghost use Rattle.events.specs.Text.{firstState, textOf, fitting, outcome};
+ghost use Rattle.usx.specs.Answer.{outcomeOf, wholeIn};
+use admit::Admitted;
+use blocks::blocks;
+use lists::Span;
+use marks::Marks;
+use sink::Sink;
+use sink::literal;
+use tape::Cursor;
+use tape::Kind;
+use tape::Sections;
+
+// Written with its length; refused by document 01's number; no room for a text of this length.
+pub enum Answer {
+    Written(usize),
+    Refused(u8),
+    NoRoom(usize),
+}
+
+// The chapter's number before any chapter: 0 where the tape has one, else 1.
+fn first_number(file: &[u8], tape: Sections) -> u32
+    ensures { λ r. ⌜ r ≡ firstState (tapeIn tape (now (file .entry))) .number ⌝ }
+{
+    let mut i: u32 = 0;
+    while i < tape.nodes {
+        let kind = Cursor::new(i).kind(file, tape);
+        if kind.code == Kind::CHAPTER {
+            return 0;
+        }
+        i += 1;
+    }
+    1
+}
+
+// The whole text from its first byte on; its length.
+fn write_text(file: &[u8], tape: Sections, number: u32, out: &mut [u8]) -> usize
+    ensures { λ r. ⌜ (number ≡ firstState (tapeIn tape (now (file .entry))) .number → r ≡ wholeIn (tapeIn tape (now (file .entry))) (now (out .entry)) .at) ⌝ }
+    ensures { λ _. ⌜ (number ≡ firstState (tapeIn tape (now (file .entry))) .number → now (out .exit) ≡ wholeIn (tapeIn tape (now (file .entry))) (now (out .entry)) .buf) ⌝ }
+{
+    let sink = Sink {
+        at: 0,
+        from: 0,
+        marks: Marks::new(number),
+    };
+    let span = Span {
+        cut: false,
+        sifted: false,
+    };
+    let first = Cursor::new(0).first_child(file, tape);
+    let a = literal(sink, out, b"<usx version=\"3.0\">");
+    let d = blocks(file, tape, span, first, 64, a, out);
+    let e = milestone::last_ends(file, tape, d, out);
+    let z = literal(e, out, b"\n</usx>");
+    z.at
+}
+
+// The text of an admitted tape, where there is room for it.
+fn write_in(file: &[u8], tape: Sections, out: &mut [u8]) -> Answer
+    ensures { λ r. ⌜ (length (textOf (tapeIn tape (now (file .entry)))) < 2 ^ 60 → outcomeOf r (now (out .exit)) ≡ fitting (textOf (tapeIn tape (now (file .entry)))) (now (out .entry))) ⌝ }
+{
+    let number = first_number(file, tape);
+    let n = write_text(file, tape, number, &mut out[..0]);
+    if n <= out.len() {
+        let _ = write_text(file, tape, number, out);
+        Answer::Written(n)
+    } else {
+        Answer::NoRoom(n)
+    }
+}
+
+// Writes the USX text of a tape file at the front of a buffer, or says why not.
+pub fn serialize(file: &[u8], out: &mut [u8]) -> Answer
+    ensures { λ r. ⌜ outcomeOf r (now (out .exit)) ≡ outcome (now (file .entry)) (now (out .entry)) ⌝ }
+{
+    match admit::admit(file) {
+        Admitted::Refused(n) => Answer::Refused(n),
+        Admitted::Tape(tape) => write_in(file, tape, out),
+    }
+}
