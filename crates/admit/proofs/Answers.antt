@@ -9,7 +9,7 @@ use Rattle.tape.specs.File.{tapeIn, sectionsOf, tapeOf}
 use Rattle.tape.specs.declared.Sections.{Sections}
 use Rattle.nest.specs.Nest.{TooDeep, Sound}
 use Rattle.nest.proofs.Tape.{clash}
-use Rattle.admit.specs.Rules.{LaidOut, Small, Utf8, GoodNames, GoodNodes}
+use Rattle.admit.specs.Rules.{LaidOut, Small, GoodNames, GoodNodes}
 use Rattle.admit.specs.Refusal.{Kept₁, Kept₂, Kept₃, Kept₄, Kept₅, Kept₆, Refusal, none, first, second, third, fourth, fifth, sixth, seventh, numberOf, answerWith}
 use Rattle.admit.specs.declared.Admitted.{Admitted}
 use Rattle.admit.specs.declared.Admitted.the-variants.{Tape, Refused}

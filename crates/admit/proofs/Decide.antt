@@ -16,7 +16,7 @@ use Rattle.nest.specs.Decide.{tooDeep, sound}
 use Rattle.nest.proofs.Tape.{yes-is, no-is, clash}
 use Rattle.nest.proofs.Walk.{by-test}
 use Rattle.nest.proofs.Decide.{decides-6, decides-7}
-use Rattle.admit.specs.Rules.{LaidOut, Small, Utf8, GoodEntry, GoodNames, GoodNode, GoodNodes, LabelCut}
+use Rattle.admit.specs.Rules.{LaidOut, Small, GoodEntry, GoodNames, GoodNode, GoodNodes, LabelCut}
 use Rattle.admit.specs.Pieces.{GoodByte}
 use Rattle.admit.specs.Refusal.{Kept₁, Kept₂, Kept₃, Kept₄, Kept₅, Kept₆, Refusal, none, first, second, third, fourth, fifth, sixth, seventh, numberOf, answerWith}
 use Rattle.admit.specs.Decide.{allBelow, laidOut, small, goodByte, goodEntry, goodNames, labelCut, goodNode, goodNodes, refusalIn, refusal}

@@ -16,7 +16,6 @@ use Rattle.tape.specs.File.{Tape, tapeIn, tapeOf, sectionsOf, nowhere, nameless
 use Rattle.tape.specs.Tree.{isClose, holds, childBefore, firstChild, lastOf, siblingPast, nextSibling, walkFrom, children}
 use Rattle.tape.specs.declared.Node.{Node}
 use Rattle.tape.specs.declared.Entry.{Entry}
-use Rattle.tape.specs.declared.Info.{Info}
 use Rattle.tape.specs.declared.Info.the-variants.{Known, Unknown}
 use Rattle.tape.specs.declared.Step.{Step}
 use Rattle.tape.specs.declared.Step.the-variants.{At, Done}

@@ -8,13 +8,13 @@ use native.Mathlib.Omega.{arith}
 use lib.ListN.{length, take, drop, length-take, length-drop}
 use lib.Seq.{getD-take, length-take-le}
 use lib.Dec.{ltb}
-use borrow.Author.Tests.{ne-eqb, lt-ltb, ltb-true, ltb-false, not-true, not-false}
+use borrow.Author.Tests.{ne-eqb, lt-ltb, ltb-true, ltb-false, not-false}
 use borrow.Author.Count.{below-more}
 use Rattle.parts.specs.Bytes.{Bytes, part}
 use Rattle.chars.specs.Utf8.{characters, isBoundary}
 use Rattle.words.specs.Words.{words}
 use Rattle.words.specs.declared.Set.the-variants.{Unicode}
-use Rattle.tape.specs.File.{sourceAt, tapeIn, nodeAt, kindAt, textAt, infoAt}
+use Rattle.tape.specs.File.{sourceAt, tapeIn, nodeAt, textAt, infoAt}
 use Rattle.tape.specs.Name.{bare, nameLen, nameIn, markerName}
 use Rattle.tape.specs.declared.Node.{Node}
 use Rattle.tape.specs.declared.Entry.{Entry}

@@ -1,15 +1,15 @@
 -- Refusal 5: each answer of the functions on nodes, from the tests that led there.
-use mathlib.Core.Path.{_≡_, refl, sym, ap, _∙_}
+use mathlib.Core.Path.{_≡_, sym, ap, _∙_}
 use mathlib.Core.Bool.{Bool, true, false, not}
 use mathlib.Core.Logic.{_↔_, _⊎_, inl, inr, ⊎-elim}
 use Prim.Native.Nat.{ℕ, _+_, _≤_, _<_}
 use native.Mathlib.Omega.{arith}
 use lib.ListN.{length}
 use lib.Dec.{eqb}
-use borrow.Author.Tests.{eq-eqb, ne-eqb, lt-ltb, not-true, not-false}
+use borrow.Author.Tests.{eq-eqb, ne-eqb, not-true, not-false}
 use Rattle.parts.specs.Bytes.{Bytes}
 use Rattle.chars.specs.Utf8.{isBoundary}
-use Rattle.tape.specs.File.{Tape, tapeIn, nodeAt, kindAt, textAt, infoAt}
+use Rattle.tape.specs.File.{Tape, tapeIn, nodeAt, kindAt, infoAt}
 use Rattle.tape.specs.declared.Node.{Node}
 use Rattle.tape.specs.declared.Entry.{Entry}
 use Rattle.tape.specs.declared.Info.{Info}

@@ -5,7 +5,7 @@ ghost use Rattle.chars.specs.Utf8.{isUtf8};
 ghost use Rattle.chars.specs.Escape.{escape};
 ghost use Rattle.chars.specs.Decimal.{decimal};
 ghost use Rattle.texts.specs.Text.{bodyOf};
-ghost use Rattle.window.specs.Page.{Page, paint};
+ghost use Rattle.window.specs.Page.{paint};
 ghost use Rattle.admit.specs.Refusal.{Refusal};
 ghost use Rattle.checker.specs.Check.{answerOf, numberOf};
 use admit::Admitted;

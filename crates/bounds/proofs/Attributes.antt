@@ -14,7 +14,6 @@ use Rattle.words.specs.declared.Set.the-variants.{Unicode}
 use Rattle.words.proofs.Texts.{white-le}
 use Rattle.tape.specs.File.{Tape, kindAt, textAt}
 use Rattle.tape.specs.Name.{strip}
-use Rattle.tape.specs.Tree.{children}
 use Rattle.attrs.specs.Attr.{Pair, quotedFrom, quotedLen, unquoted, shown, valueFrom, valueAt, equals, hasEquals, keyIn, keyed, pairsFrom, pairsIn, isWordMarker, defaultKey, keyFor, keyedFor, bodyOf, pairsOf, pairsAt, pairsAlong}
 use Rattle.attrs.specs.Walk.{firstOf}
 use Rattle.attrs.proofs.Values.{value-within}

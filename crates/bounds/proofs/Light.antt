@@ -7,7 +7,7 @@ use lib.ListN.{length, length-append}
 use Rattle.parts.specs.Bytes.{Bytes, b}
 use Rattle.chars.specs.Decimal.{decimal}
 use Rattle.chars.proofs.Digits.{decimal-length}
-use Rattle.tags.specs.Items.{Attr, Item, empty, close, text, bytesOf}
+use Rattle.tags.specs.Items.{Attr, Item, empty, close, bytesOf}
 use Rattle.events.specs.Event.{Event, item, chapter, verse, book, rawly, escaped, perhaps, element}
 use Rattle.events.specs.Pairing.{State, chapterId, verseId, after, endOf, chapterAttrs, verseAttrs, bookAttrs, bookItems, itemsOf, lastEnds, paired}
 use Rattle.bounds.proofs.Items.{attrCost, attrsCost, attrs-append, start-most, empty-most, close-most, text-most, itemsCost, items-append}

@@ -11,7 +11,7 @@ use Rattle.parts.specs.Bytes.{Bytes}
 use Rattle.tape.specs.File.{Tape, tapeOf}
 use Rattle.tape.specs.Tree.{children, upTo, without}
 use Rattle.nest.specs.Tape.{linkAt}
-use Rattle.nest.specs.Nest.{container, Container}
+use Rattle.nest.specs.Nest.{Container}
 use Rattle.nest.specs.Walk.{past, Tiles}
 use Rattle.nest.proofs.Walk.{past-open, by-part, past-forward}
 use Rattle.admit.specs.Refusal.{Kept₇}

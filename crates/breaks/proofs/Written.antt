@@ -1,8 +1,8 @@
 -- Texts as events: whole, and segment by segment.
 use mathlib.Core.Path.{_≡_, refl, sym, ap, _∙_}
 use mathlib.Core.Bool.{Bool, true, false, cond}
-use mathlib.Core.List.{List, [], _∷_, _++_, map}
-use Prim.Native.Nat.{ℕ, _+_, _-_, _≤_, _<_}
+use mathlib.Core.List.{List, [], _∷_, map}
+use Prim.Native.Nat.{ℕ, _+_, _≤_, _<_}
 use native.Mathlib.Omega.{arith}
 use lib.ListN.{length, take, drop, length-drop}
 use lib.Seq.{drop-drop, take-all}
@@ -16,9 +16,9 @@ use Rattle.words.specs.declared.Set.the-variants.{Unicode}
 use Rattle.texts.specs.Text.{bodyOf, written, hasBreak, splitBreaks, segments}
 use Rattle.texts.specs.declared.Normalized.{Normalized}
 use Rattle.texts.proofs.Segments.{split-last, split-next, segments-bodies}
-use Rattle.window.specs.Page.{Page, pageOf, paint}
+use Rattle.window.specs.Page.{pageOf, paint}
 use Rattle.window.specs.declared.Window.{Window}
-use Rattle.tags.specs.Items.{Item, text, empty, bytesOf, attrsBytes}
+use Rattle.tags.specs.Items.{text, empty, bytesOf, attrsBytes}
 use Rattle.tags.specs.Names.{nameOf}
 use Rattle.events.specs.Event.{Event, item}
 use Rattle.events.specs.Walk.{unbroken, breaks, segmented, broken}

@@ -8,7 +8,7 @@ use lib.ListN.{length, getD, drop, drop-of-length-le}
 use lib.Dec.{leb, eqb}
 use borrow.Author.Tests.{ne-eqb, le-leb, lt-leb, eqb-false, leb-true, leb-false}
 use Rattle.parts.proofs.Laws.{and-true as both-true, drop-at}
-use Rattle.chars.specs.Range.{Range, _to_, within, inAny}
+use Rattle.chars.specs.Range.{Range, within, inAny}
 use Rattle.chars.specs.Space.{whiteSpace, isWhite, found}
 
 abbrev pub table : List ℕ

@@ -13,7 +13,7 @@ use Rattle.parts.specs.Bytes.{Bytes, b}
 use Rattle.parts.proofs.Laws.{and-true}
 use Rattle.tags.specs.Form.{Pair, Token, text, opens, closes, empty}
 use Rattle.tags.specs.Write.{TagForm}
-use Rattle.checker.specs.Rules.{Mark, bare, plain, start, ends, View, single, markOn, view, rise, Trunk, broke, growIn, grow, Held, shut, held, Pairs, isShut, pairUp}
+use Rattle.checker.specs.Rules.{Mark, bare, start, ends, View, single, markOn, view, rise, Trunk, broke, growIn, grow, Held, shut, held, Pairs, isShut, pairUp}
 use Rattle.checker.specs.Check.{Run, stepOn, atStart, oneTree, pairedOff, answerOf}
 use Rattle.checker.specs.Meaning.{SomeHigh, since, Fits, of-words, of-open, of-close, of-single, chapter-start, chapter-end, verse-start, verse-end}
 use Rattle.checker.specs.Words.{views, Kind, IsStart, Demand, startsIn, UsxTree, is-0}

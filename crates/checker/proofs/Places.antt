@@ -1,5 +1,5 @@
 -- Laws of the search for the place where the first rule broke.
-use mathlib.Core.Path.{_≡_, refl, sym, ap, _∙_, subst}
+use mathlib.Core.Path.{_≡_, refl, sym, ap, _∙_}
 use mathlib.Core.Bool.{Bool, true, false, cond}
 use mathlib.Core.List.{List, [], _∷_}
 use Prim.Native.Nat.{ℕ, zero, suc, _+_, _-_, _≤_, _<_}
@@ -9,9 +9,9 @@ use lib.Seq.{drop-cons}
 use lib.Dec.{eqb}
 use native.Mathlib.Numerals.{add-one}
 use Rattle.parts.specs.Bytes.{Bytes, begins, part}
-use Rattle.tags.specs.Form.{Token, Read, bad, got, next, opening}
+use Rattle.tags.specs.Form.{Read, bad, got, next, opening}
 use Rattle.tags.proofs.Tokens.{Shorter, next-shorter}
-use Rattle.checker.specs.Rules.{View, view}
+use Rattle.checker.specs.Rules.{view}
 use Rattle.checker.specs.Check.{Run, stepOn, atStart, viewIn, brief, sightIn, stackOf, heldIn, runIn, stateAtStart}
 use Rattle.checker.specs.Place.{isBroken, moreBroken, brokenAt, brokenFrom, placeOf, lineEnd, lineEnds, lineOf}
 use Rattle.checker.specs.declared.Tag.{Tag}

@@ -1,7 +1,7 @@
 -- Where a text breaks its first rule, for people: the bytes before that place, and its line.
 use Prim.Native.Nat.{ℕ, zero, suc, _+_, _-_}
-use mathlib.Core.List.{List, [], _∷_}
-use mathlib.Core.Bool.{Bool, true, false, cond}
+use mathlib.Core.List.{[], _∷_}
+use mathlib.Core.Bool.{Bool, false, cond}
 use lib.ListN.{length}
 use lib.Dec.{eqb}
 use Rattle.parts.specs.Bytes.{Bytes, begins, part}

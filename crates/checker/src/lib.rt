@@ -1,6 +1,6 @@
 // The checker of finished text: one pass over the bytes, a state folded over the tokens, no heap.
 ghost use mathlib.Core.Path.{_≡_};
-ghost use Prim.Native.Nat.{ℕ, suc, _+_, _-_, _≤_, _<_, _^_};
+ghost use Prim.Native.Nat.{ℕ, _+_, _-_, _≤_, _<_, _^_};
 ghost use mathlib.Core.List.{List};
 ghost use mathlib.Core.Bool.{_||_};
 ghost use lib.ListN.{length, drop};
@@ -8,7 +8,7 @@ ghost use lib.IntN.{pos, _+ℤ_, _-ℤ_};
 ghost use lib.Signed.{mag, ltZ};
 ghost use mir.Syntax.{w64};
 ghost use mir.Val.{SFits};
-ghost use Rattle.tags.specs.Form.{Pair, pairsFrom, tagged, next, tokensFrom};
+ghost use Rattle.tags.specs.Form.{pairsFrom, tagged, next, tokensFrom};
 ghost use Rattle.checker.specs.Rules.{bare, notedBy, noted, markOn, single as singleV, rise, broke, push, pop, grow, turn, missed, chapterTo, verseTo, isShut, isHeld, isMilestone, pairUp};
 ghost use Rattle.checker.specs.Check.{bytesOf, markIn, viewIn, brief, sightIn, stackOf, trunkOf, heldIn, turnIn, pairsIn, runIn, stepOn, atStart, stateAtStart, oneTree, pairedOff, verdictOf, settle, answerOf};
 ghost use Rattle.checker.specs.Place.{isBroken, brokenFrom, placeOf, lineEnd, lineEnds, lineOf};

@@ -1,14 +1,13 @@
 -- Emission and pairing along a list of events.
 use mathlib.Core.Path.{_≡_, refl, sym, ap, _∙_}
 use mathlib.Core.List.{List, [], _∷_, _++_, append-assoc}
-use Rattle.parts.specs.Bytes.{Bytes}
 use Rattle.window.specs.Page.{Page, paint}
 use Rattle.window.proofs.Paint.{paint-append}
 use Rattle.tags.specs.Items.{Item, render}
 use Rattle.tags.proofs.Rendered.{render-append}
 use Rattle.events.specs.Event.{Event}
 use Rattle.events.specs.Pairing.{State, itemsOf, after, paired, lastEnds}
-use Rattle.events.specs.Emit.{Desk, lay, emit, emitAll, emitted, afterAll}
+use Rattle.events.specs.Emit.{Desk, emit, emitAll, emitted, afterAll}
 
 -- what a list and another behind it emit
 pub emit-append : (w : Desk) (a z : List Event) → emitAll w (a ++ z) ≡ emitAll (emitAll w a) z

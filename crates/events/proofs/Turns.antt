@@ -1,5 +1,5 @@
 -- One turn along a list of children or of blocks: the number of turns that a list may take does not matter, so long as it is enough.
-use mathlib.Core.Path.{_≡_, refl, sym, ap, _∙_}
+use mathlib.Core.Path.{_≡_, refl, ap}
 use mathlib.Core.Bool.{Bool, true, false, cond, not}
 use mathlib.Core.List.{List, [], _∷_, _++_}
 use mathlib.Core.Option.{Option, none, some}
@@ -9,12 +9,12 @@ use lib.ListN.{length}
 use Rattle.parts.specs.Bytes.{Bytes}
 use Rattle.tape.specs.File.{Tape, kindAt}
 use Rattle.render.specs.Shape.{isRow, isTopLevelBlock}
-use Rattle.fold.specs.Fold.{claimOf, numberIn, Folded, isSome, foldFrom, foldAt}
+use Rattle.fold.specs.Fold.{claimOf, numberIn, isSome, foldFrom, foldAt}
 use Rattle.fold.specs.declared.Claim.{Claim}
 use Rattle.fold.specs.declared.Claim.the-variants.{Blank, Alt, Pub, Stops}
 use Rattle.fold.proofs.Folding.{fold-blank, fold-alt, fold-pub, fold-stops, fold-nil}
 use Rattle.events.specs.Event.{Event}
-use Rattle.events.specs.Walk.{Child, anchor, words, passed, marker, childOf, Turn, inlineTurn, inlineFrom, inlineAll, Place, aRow, aChapter, aSidebar, aPeriph, aBlock, aVerse, dropped, placeOf, fromFirst, Blocks, blockTurn, blocksFrom, blocksE}
+use Rattle.events.specs.Walk.{Child, anchor, words, passed, marker, childOf, Turn, inlineTurn, inlineFrom, inlineAll, Place, aRow, aChapter, aSidebar, aPeriph, aBlock, aVerse, dropped, placeOf, fromFirst, Blocks, blockTurn, blocksFrom}
 
 -- ---- a fold goes on in its list
 

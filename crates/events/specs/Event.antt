@@ -1,6 +1,6 @@
 -- Events: what a walk over a tape finds, in order. They know nothing of ends and identifiers.
 use Prim.Native.Nat.{ℕ}
-use mathlib.Core.List.{List, [], _∷_, _++_, map}
+use mathlib.Core.List.{List, [], _∷_, _++_}
 use mathlib.Core.Bool.{true, false}
 use mathlib.Core.Option.{Option, none, some}
 use Rattle.parts.specs.Bytes.{Bytes}

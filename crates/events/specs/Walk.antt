@@ -13,10 +13,9 @@ use Rattle.tape.specs.Tree.{children, firstChild, upTo, without}
 use Rattle.tape.specs.Name.{markerName}
 use Rattle.tape.specs.declared.Info.{Info}
 use Rattle.tape.specs.declared.Info.the-variants.{Known, Unknown}
-use Rattle.tape.specs.declared.Entry.{Entry}
 use Rattle.tape.specs.declared.Step.{Step}
 use Rattle.tape.specs.declared.Step.the-variants.{At, Done}
-use Rattle.render.specs.Shape.{isOpen, isChapter, isVerse, isInline, isRow, isElement, isTopLevelBlock, isCategoryMarker, trimsAfter, unknownShape}
+use Rattle.render.specs.Shape.{isOpen, isChapter, isVerse, isRow, isElement, isTopLevelBlock, isCategoryMarker, trimsAfter, unknownShape}
 use Rattle.render.specs.First.{any, found}
 use Rattle.render.specs.Follow.{inlineFollows, followed}
 use Rattle.render.specs.Children.{hasContent}
@@ -26,7 +25,7 @@ use Rattle.render.specs.declared.shape.Shape.{Shape}
 use Rattle.render.specs.declared.shape.Shape.the-variants.{Block, Inline, Leaf, Other}
 use Rattle.attrs.specs.Attr.{attributesOf}
 use Rattle.attrs.specs.Walk.{firstOf}
-use Rattle.fold.specs.Fold.{Folded, foldAt}
+use Rattle.fold.specs.Fold.{foldAt}
 use Rattle.figure.specs.Figure.{legacyAt, legacyPairs, captionOf}
 use Rattle.tags.specs.Items.{Attr, start, empty, close, text, line}
 use Rattle.events.specs.Event.{Event, item, chapter, verse, book, rawly, escaped, perhaps, collected, element}

@@ -1,12 +1,10 @@
 -- What a marker, a node, the inside of a container and a turn along a list emit.
 use mathlib.Core.Path.{_≡_, refl, sym, ap, _∙_, subst}
 use mathlib.Core.Logic.{inl}
-use mathlib.Core.Bool.{Bool, true, false, cond, _&&_, _||_}
-use mathlib.Core.List.{List, [], _∷_, _++_}
-use mathlib.Core.Option.{none}
+use mathlib.Core.Bool.{Bool, true, false, cond}
+use mathlib.Core.List.{List, _++_}
 use Prim.Native.Nat.{ℕ, zero, suc, _+_, _-_, _<_}
 use native.Mathlib.Omega.{arith}
-use lib.Dec.{eqb}
 use borrow.Author.Tests.{eq-eqb, ne-eqb}
 use Rattle.tape.specs.File.{Tape, kindAt, numberAt}
 use Rattle.tape.specs.Tree.{nextSibling, firstChild, children, walkFrom, left}
@@ -14,8 +12,8 @@ use Rattle.tape.specs.declared.Cursor.{Cursor}
 use Rattle.tape.specs.declared.kinds.Kind.{Kind}
 use Rattle.tape.specs.declared.Step.{Step}
 use Rattle.tape.specs.declared.Step.the-variants.{At, Done}
-use Rattle.tape.proofs.Walk.{walk-turn, walk-end, children-walk}
-use Rattle.render.specs.Shape.{isChapter, isVerse, isOpen, trimsAfter}
+use Rattle.tape.proofs.Walk.{walk-end, children-walk}
+use Rattle.render.specs.Shape.{trimsAfter}
 use Rattle.render.specs.Follow.{followed, Kept}
 use Rattle.render.specs.Label.{labelOf}
 use Rattle.fold.specs.Fold.{numberOf}

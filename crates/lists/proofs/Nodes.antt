@@ -1,11 +1,9 @@
 -- Lists of siblings, cut or filtered: one turn along them, and the fold.
 use mathlib.Core.Path.{_≡_, refl, sym, ap, _∙_}
-use mathlib.Core.Bool.{Bool, true, false, cond, _&&_}
+use mathlib.Core.Bool.{Bool, true, false, _&&_}
 use mathlib.Core.List.{List, [], _∷_}
-use mathlib.Core.Option.{Option, none, some}
-use Prim.Native.Nat.{ℕ, _≤_, _<_}
+use Prim.Native.Nat.{ℕ, _≤_}
 use native.Mathlib.Omega.{arith}
-use Rattle.parts.specs.Bytes.{Bytes}
 use Rattle.tape.specs.File.{Tape}
 use Rattle.tape.specs.Tree.{nextSibling, walkFrom, upTo, without, left}
 use Rattle.tape.specs.declared.Cursor.{Cursor}
@@ -13,7 +11,7 @@ use Rattle.tape.specs.declared.Step.{Step}
 use Rattle.tape.specs.declared.Step.the-variants.{At, Done}
 use Rattle.tape.proofs.Walk.{walk-turn, walk-end, left-turn}
 use Rattle.render.specs.Shape.{isTopLevelBlock, isCategoryMarker}
-use Rattle.fold.specs.Fold.{claimOf, numberIn, Folded, isSome, foldFrom, foldAt, numberOf, isAt}
+use Rattle.fold.specs.Fold.{claimOf, Folded, isSome, foldFrom, foldAt, numberOf, isAt}
 use Rattle.fold.specs.declared.Claim.{Claim}
 use Rattle.fold.specs.declared.Claim.the-variants.{Blank, Alt, Pub, Stops}
 use Rattle.fold.proofs.Folding.{fold-blank, fold-alt, fold-pub, fold-stops, fold-nil}

@@ -3,7 +3,7 @@ use Prim.Native.Nat.{ℕ}
 use mathlib.Core.List.{List, [], _∷_}
 use mathlib.Core.Bool.{Bool, true, false, cond, _&&_}
 use Rattle.tape.specs.File.{Tape}
-use Rattle.tape.specs.Tree.{nextSibling, walkFrom, upTo, without}
+use Rattle.tape.specs.Tree.{walkFrom, upTo, without}
 use Rattle.tape.specs.declared.Step.{Step}
 use Rattle.render.specs.Shape.{isTopLevelBlock, isCategoryMarker}
 use Rattle.fold.specs.Fold.{Folded, numberOf}

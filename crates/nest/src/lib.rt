@@ -5,7 +5,6 @@ ghost use mathlib.Core.Logic.{_↔_};
 ghost use Rattle.tape.specs.File.{tapeIn};
 ghost use Rattle.nest.specs.Tape.{linkAt};
 ghost use Rattle.nest.specs.Nest.{partOf, TooDeep, RootEnds, Sound};
-use tape::Cursor;
 use tape::Kind;
 use tape::Sections;
 

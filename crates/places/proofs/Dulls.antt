@@ -1,19 +1,19 @@
 -- A dull byte begins no white space and no character that ends a name.
 use mathlib.Core.Path.{_≡_, refl, sym, ap, _∙_}
-use mathlib.Core.Bool.{Bool, true, false, cond, not, _&&_, _||_}
-use mathlib.Core.List.{List, [], _∷_}
+use mathlib.Core.Bool.{Bool, true, false, cond, _&&_, _||_}
+use mathlib.Core.List.{[], _∷_}
 use Prim.Native.Nat.{ℕ, _+_, _-_, _*_, _≤_, _<_}
 use native.Mathlib.Omega.{arith}
-use lib.ListN.{length, getD, take, drop}
+use lib.ListN.{length, getD, take}
 use lib.Dec.{eqb, ltb, leb}
-use borrow.Author.Tests.{ltb-true, ltb-false, leb-true, leb-false, eqb-true, eqb-false, eq-eqb, ne-eqb}
+use borrow.Author.Tests.{ltb-true, ltb-false, leb-true, leb-false, eqb-true, eqb-false, ne-eqb}
 use Rattle.parts.specs.Bytes.{Bytes}
 use Rattle.parts.proofs.Laws.{and-true as both-true}
-use Rattle.chars.specs.Range.{Range, _to_, within, inAny}
+use Rattle.chars.specs.Range.{_to_, within, inAny}
 use Rattle.chars.specs.Utf8.{tail, seqLen, step, point, codeOf, firstChar}
 use Rattle.chars.specs.Space.{isWhite, whiteSpace}
 use Rattle.chars.specs.declared.Char.{Char}
-use Rattle.chars.proofs.Laws.{below, beyond, one-row, two-rows, second3, three-rows, second4, four-rows, no-rows, len-at, len-one, first-odd, first-one, first-two, first-three, first-four}
+use Rattle.chars.proofs.Laws.{below, beyond, two-rows, second3, three-rows, second4, four-rows, no-rows, len-at, len-one, first-odd, first-one, first-two, first-three, first-four}
 use Rattle.tape.specs.Name.{endsName}
 use Rattle.places.specs.Seek.{Dull}
 

@@ -1,13 +1,13 @@
 -- The first place that passes a test.
 use mathlib.Core.Path.{_≡_, refl, sym, ap, _∙_}
-use mathlib.Core.Bool.{Bool, true, false, cond, not, _&&_}
-use mathlib.Core.List.{List, [], _∷_}
+use mathlib.Core.Bool.{Bool, true, false, not}
+use mathlib.Core.List.{[], _∷_}
 use Prim.Native.Nat.{ℕ, zero, suc, _+_, _-_, _≤_, _<_, max}
 use native.Mathlib.Omega.{arith}
 use lib.ListN.{length, getD, take, drop, length-drop, drop-of-length-le}
-use lib.Seq.{drop-drop, drop-cons, getD-drop}
+use lib.Seq.{drop-drop, getD-drop}
 use lib.Dec.{ltb}
-use borrow.Author.Tests.{lt-ltb, le-ltb, ltb-true, ltb-false}
+use borrow.Author.Tests.{lt-ltb, ltb-true, ltb-false}
 use Rattle.parts.specs.Bytes.{Bytes, firstAt}
 use Rattle.chars.specs.Range.{within, inAny}
 use Rattle.chars.specs.Utf8.{fits, rowLen, table37, seqLen, step, isSequence, point, codeOf, firstChar}
@@ -15,7 +15,6 @@ use Rattle.chars.specs.Space.{isWhite, whiteSpace}
 use Rattle.chars.specs.declared.Char.{Char}
 use Rattle.chars.proofs.Characters.{step-le}
 use Rattle.words.specs.Words.{white}
-use Rattle.words.specs.declared.Set.the-variants.{Unicode}
 use Rattle.tape.specs.Name.{endsName}
 use Rattle.places.specs.Seek.{endsAt, whiteAt, solidAt, gapAt, passesAt, nextFrom, Sought, Dull}
 use Rattle.places.specs.declared.Test.{Test}

@@ -1,18 +1,18 @@
 -- Names and words by places: the first that ends a name, and the first gap before a word.
 use mathlib.Core.Path.{_≡_, refl, sym, ap, _∙_}
-use mathlib.Core.Bool.{Bool, true, false, cond, not, _&&_}
+use mathlib.Core.Bool.{Bool, true, false, not, _&&_}
 use mathlib.Core.List.{List, [], _∷_, flatten}
 use Prim.Native.Nat.{ℕ, zero, suc, _+_, _-_, _≤_, _<_}
 use native.Mathlib.Omega.{arith}
 use lib.ListN.{length, getD, take, drop, length-drop, length-append}
 use lib.Seq.{drop-drop, length-take-le, getD-drop}
 use lib.Dec.{ltb}
-use borrow.Author.Tests.{lt-ltb, le-ltb, ltb-true, ltb-false, leb-true, not-false}
+use borrow.Author.Tests.{lt-ltb, le-ltb, ltb-true, leb-true, not-false}
 use Rattle.parts.specs.Bytes.{Bytes, firstAt}
 use Rattle.parts.proofs.Laws.{and-true as both-true}
 use Rattle.chars.specs.Range.{within}
-use Rattle.chars.specs.Utf8.{tail, seqLen, step, cutAt, cut, characters, codeOf}
-use Rattle.chars.proofs.Characters.{seq-inner, step-seq, step-byte, step-some, step-le, cut-nil, cut-first, cut-induct}
+use Rattle.chars.specs.Utf8.{tail, seqLen, step, cutAt, characters, codeOf}
+use Rattle.chars.proofs.Characters.{seq-inner, step-seq, step-byte, step-some, step-le, cut-first, cut-induct}
 use Rattle.words.specs.Words.{takeWhile, white}
 use Rattle.words.specs.declared.Set.the-variants.{Unicode}
 use Rattle.tape.specs.Name.{endsName, inName, nameLen}

@@ -1,6 +1,6 @@
 -- Names and words of a span whose end lies between characters, read in the text that it is a part of.
 use mathlib.Core.Path.{_≡_, refl, sym, ap, _∙_}
-use mathlib.Core.Bool.{Bool, true, false, cond, not, _&&_, _||_}
+use mathlib.Core.Bool.{Bool, true, false, cond, not, _&&_}
 use mathlib.Core.Logic.{_↔_, _⊎_, inl, inr, ⊎-elim}
 use mathlib.Core.List.{List, [], _∷_, _++_, flatten}
 use Prim.Native.Nat.{ℕ, zero, suc, _+_, _-_, _≤_, _<_}
@@ -13,9 +13,9 @@ use borrow.Author.Tests.{lt-ltb, le-ltb, ltb-true, ltb-false, eqb-true, not-true
 use Rattle.parts.specs.Bytes.{Bytes, part, begins}
 use Rattle.parts.proofs.Laws.{and-true as both-true, begins-fits, begins-split}
 use Rattle.chars.specs.Range.{within, inAny}
-use Rattle.chars.specs.Utf8.{tail, fits, rowLen, table37, seqLen, step, isSequence, point, codeOf, cutAt, cut, characters, isBoundary}
+use Rattle.chars.specs.Utf8.{tail, fits, rowLen, table37, seqLen, step, isSequence, point, codeOf, cut, characters, isBoundary}
 use Rattle.chars.specs.Space.{isWhite, whiteSpace}
-use Rattle.chars.proofs.Characters.{seq-inner, step-some, step-le, cut-first, cut-whole, characters-flatten}
+use Rattle.chars.proofs.Characters.{seq-inner, step-some, step-le, cut-whole, characters-flatten}
 use Rattle.words.specs.Words.{stepOf, charsOf, white, takeWhile, onto, pieces, nonempty, words}
 use Rattle.words.specs.declared.Set.the-variants.{Unicode}
 use Rattle.words.proofs.Rows.{Row, none, more, row-cut, row-whole, row-join, flatten-append}

@@ -5,7 +5,7 @@ use mathlib.Core.List.{List, _∷_}
 use Prim.Native.Nat.{ℕ}
 use lib.Dec.{eqb}
 use Rattle.tape.specs.File.{Tape, kindAt}
-use Rattle.tape.specs.Tree.{firstChild, nextSibling, walkFrom, children}
+use Rattle.tape.specs.Tree.{firstChild, nextSibling, walkFrom}
 use Rattle.tape.specs.declared.kinds.Kind.{Kind}
 use Rattle.tape.specs.declared.Cursor.{Cursor}
 use Rattle.tape.specs.declared.Step.{Step}

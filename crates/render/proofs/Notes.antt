@@ -23,7 +23,6 @@ use Rattle.tape.specs.declared.Step.{Step}
 use Rattle.tape.specs.declared.Step.the-variants.{At, Done}
 use Rattle.tape.proofs.Walk.{children-walk}
 use Rattle.render.specs.declared.children.Test.the-variants.{Category}
-use Rattle.render.specs.declared.note.Align.{Align}
 use Rattle.render.specs.declared.note.Align.the-variants.{Start, Center, End}
 use Rattle.render.specs.Shape.{isCategoryMarker}
 use Rattle.render.specs.First.{firstWith}

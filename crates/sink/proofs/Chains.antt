@@ -1,15 +1,15 @@
 -- Runs painted one behind the other, and the desk that they make.
-use mathlib.Core.Path.{_≡_, refl, sym, ap, _∙_}
-use mathlib.Core.List.{List, [], _∷_, _++_, append-assoc, append-nil}
+use mathlib.Core.Path.{_≡_, sym, ap, _∙_}
+use mathlib.Core.List.{_++_, append-nil}
 use Rattle.parts.specs.Bytes.{Bytes}
 use Rattle.window.specs.Page.{Page, pageOf, paint}
 use Rattle.window.specs.declared.Window.{Window}
-use Rattle.window.proofs.Paint.{paint-append, paint-two}
+use Rattle.window.proofs.Paint.{paint-two}
 use Rattle.tags.specs.Items.{Item, render, bytesOf}
-use Rattle.events.specs.Event.{Event, item}
-use Rattle.events.specs.Pairing.{State, itemsOf, after}
-use Rattle.events.specs.Emit.{Desk, emit, emitAll}
-use Rattle.sink.specs.Desk.{windowIn, overBy, stateIn, pageIn, deskIn, putOn}
+use Rattle.events.specs.Event.{item}
+use Rattle.events.specs.Pairing.{itemsOf, after}
+use Rattle.events.specs.Emit.{Desk, emit}
+use Rattle.sink.specs.Desk.{windowIn, overBy, stateIn, deskIn, putOn}
 use Rattle.sink.specs.declared.Sink.{Sink}
 
 module _ (p : Page) {a c d : Page} (x y z : Bytes) where

@@ -1,5 +1,4 @@
 -- What the sink, the buffer beside it and the source stand for.
-
 use mathlib.Core.Bool.{Bool, true, cond}
 use Prim.Native.Nat.{ℕ, _*_}
 use lib.ListN.{replicate}

@@ -3,14 +3,13 @@ ghost use mathlib.Core.Path.{_≡_};
 ghost use Rattle.window.specs.Page.{pageOf, paint};
 ghost use Rattle.tags.specs.Items.{render};
 ghost use Rattle.events.specs.Pairing.{chapterId, verseId, endOf};
-ghost use Rattle.sink.specs.Desk.{bytesOf, chapterIn, verseIn, shownAs};
+ghost use Rattle.sink.specs.Desk.{chapterIn, verseIn, shownAs};
 use marks::OpenChapter;
 use marks::OpenVerse;
 use window::Window;
 use window::escape_xml_attr;
 use window::put_number;
 use window::put_run;
-use words::Part;
 
 // A value as it is, or with its escapes.
 pub fn put_shown(w: Window, out: &mut [u8], s: &[u8], raw: bool) -> Window

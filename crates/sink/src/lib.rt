@@ -9,7 +9,6 @@ pub use ident::put_verse_id;
 use marks::Marks;
 pub use plain::line;
 pub use plain::literal;
-use window::Window;
 
 // How much of the text is written, which byte of it the buffer starts with, and what is open.
 pub struct Sink {

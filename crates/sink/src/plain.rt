@@ -1,7 +1,7 @@
 // The window of a sink, runs that stand in no source, and new lines.
 ghost use mathlib.Core.Path.{_≡_};
 ghost use Rattle.parts.specs.Bytes.{Bytes};
-ghost use Rattle.tags.specs.Items.{line as lineItem, newLine};
+ghost use Rattle.tags.specs.Items.{line as lineItem};
 ghost use Rattle.window.specs.Page.{pageOf, paint};
 ghost use Rattle.events.specs.Event.{item};
 ghost use Rattle.events.specs.Emit.{emit};

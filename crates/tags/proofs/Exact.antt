@@ -21,9 +21,7 @@ use Rattle.tags.specs.declared.Named.{Named}
 use Rattle.tags.specs.declared.Named.the-variants.{Name, Unnamed}
 use Rattle.tags.specs.declared.Found.{Found}
 use Rattle.tags.specs.declared.Found.the-variants.{Got, Nothing}
-use Rattle.tags.specs.declared.Head.{Head}
 use Rattle.tags.specs.declared.Head.the-variants.{Bad, Words, Closing}
-use Rattle.tags.specs.declared.Tail.{Tail}
 use Rattle.tags.specs.declared.Tail.the-variants.{Open, Empty, Neither}
 use Rattle.tags.proofs.Laws.{run-le, pair-says}
 use Rattle.tags.proofs.ReadBack.{ok-more, clean-first, read-back}

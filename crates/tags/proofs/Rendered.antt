@@ -1,16 +1,16 @@
 -- What is rendered is read back: the tokens of the bytes of items are those items.
 use mathlib.Core.Path.{_≡_, refl, sym, ap, _∙_}
-use mathlib.Core.Bool.{Bool, true, false, cond, not, _||_}
+use mathlib.Core.Bool.{Bool, true, false, cond, _||_}
 use mathlib.Core.List.{List, [], _∷_, _++_, append-assoc, List·Memᴰ, List·Memᴰ·head, List·Memᴰ·tail}
 use mathlib.Core.Option.{some}
-use Prim.Native.Nat.{ℕ, zero, suc, _+_, _*_}
+use Prim.Native.Nat.{ℕ, zero, suc, _*_}
 use native.Mathlib.Omega.{arith}
 use lib.ListN.{length, replicate}
 use lib.Dec.{eqb}
 use Rattle.parts.specs.Bytes.{Bytes, b, begins}
 use Rattle.chars.specs.Escape.{escaped, escape, special}
 use Rattle.tags.specs.Names.{nameOf, IsName}
-use Rattle.tags.specs.Form.{plain, keyByte, escape as escapeAt, ok, run, Token, text as textToken, opens, closes, empty as emptyToken, tokensFrom, tokens, closing}
+use Rattle.tags.specs.Form.{plain, keyByte, escape as escapeAt, ok, run, Token, text as textToken, opens, closes, empty as emptyToken, tokensFrom, closing}
 use Rattle.tags.specs.Write.{writePair, writePairs, write, writeAll, Clean, CleanPairs, none as no-pair, more as more-pairs, Legal, nil as no-token, a-text as text-legal, an-open, a-close as close-legal, an-empty as empty-legal, TagForm}
 use Rattle.tags.specs.Items.{Attr, Item, start, empty, close, text, line, valueOf, attrBytes, attrsBytes, newLine, bytesOf, render, join, pairsOf, tokensOf, LegalAttr, LegalAttrs, none, more, LegalItems, nil, a-start, an-empty, a-close, a-text, a-line, framed}
 use Rattle.tags.specs.declared.Class.{Class}

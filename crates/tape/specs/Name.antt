@@ -1,5 +1,5 @@
 -- Marker names, as they stand in the source, and the names that decide.
-use Prim.Native.Nat.{ℕ, _-_}
+use Prim.Native.Nat.{ℕ}
 use mathlib.Core.List.{[], _∷_, flatten}
 use mathlib.Core.Bool.{Bool, false, cond, not, _||_}
 use lib.ListN.{length, drop}

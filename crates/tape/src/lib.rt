@@ -10,9 +10,8 @@ pub use kinds::Kind;
 pub use name::bare;
 pub use name::ends_name;
 ghost use mathlib.Core.Path.{_≡_};
-ghost use lib.ListN.{getD};
 ghost use Rattle.parts.specs.Bytes.{part, same};
-ghost use Rattle.tape.specs.File.{le16 as le16Of, le32 as le32Of, nodeOf, entryOf, sectionsOf, entriesAt, namesAt, sourceAt, tapeIn, nodeAt, entryAt, kindAt, textAt, entryName, nameless, isSynthetic, isNested, bearsMarker, infoAt, numberAt, categoryOf, elementOf, nameOf};
+ghost use Rattle.tape.specs.File.{le32 as le32Of, nodeOf, entryOf, sectionsOf, entriesAt, namesAt, sourceAt, tapeIn, nodeAt, entryAt, kindAt, textAt, entryName, isSynthetic, isNested, bearsMarker, infoAt, numberAt, categoryOf, elementOf, nameOf};
 ghost use Rattle.tape.specs.Name.{markerName, entryIs};
 ghost use Rattle.tape.specs.Tree.{isClose, holds, matchingClose, childBefore, firstChild, lastOf, siblingPast, nextSibling};
 

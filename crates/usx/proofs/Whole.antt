@@ -1,19 +1,19 @@
 -- The whole text: from its parts, measured, written, and the answer to every file.
 use mathlib.Core.Path.{_≡_, refl, sym, ap, _∙_, subst}
-use mathlib.Core.Bool.{Bool, true, false, cond, _||_}
-use mathlib.Core.List.{List, [], _∷_, _++_, append-assoc, append-nil}
+use mathlib.Core.Bool.{Bool, false, cond, _||_}
+use mathlib.Core.List.{List, [], _∷_, _++_, append-assoc}
 use mathlib.Core.Option.{none as nothing}
-use Prim.Native.Nat.{ℕ, zero, suc, _+_, _-_, _^_, _≤_, _<_, min}
+use Prim.Native.Nat.{ℕ, zero, suc, _+_, _^_, _≤_, _<_}
 use native.Mathlib.Omega.{arith}
 use lib.ListN.{length, getD, drop, drop-of-length-le}
-use lib.Dec.{eqb, leb}
+use lib.Dec.{eqb}
 use borrow.Author.Tests.{eq-eqb, ne-eqb, le-leb, lt-leb}
-use Rattle.parts.specs.Bytes.{Bytes, b, part}
+use Rattle.parts.specs.Bytes.{Bytes, b}
 use Rattle.chars.specs.Escape.{escape, escaped}
 use Rattle.window.specs.Page.{Page, paint}
 use Rattle.window.proofs.Paint.{paint-append, paint-at, paint-front}
 use Rattle.tape.specs.File.{Tape, tapeIn, tapeOf, sectionsOf, nodeAt, kindAt, nowhere}
-use Rattle.tape.specs.Tree.{firstChild, children, walkFrom}
+use Rattle.tape.specs.Tree.{firstChild}
 use Rattle.tape.specs.declared.Node.{Node}
 use Rattle.tape.specs.declared.Sections.{Sections}
 use Rattle.tape.specs.declared.kinds.Kind.{Kind}
@@ -27,7 +27,7 @@ use Rattle.admit.specs.declared.Admitted.{Admitted}
 use Rattle.admit.specs.declared.Admitted.the-variants.{Tape as Admitted-tape, Refused as Admitted-refused}
 use Rattle.admit.proofs.Decide.{refusal-right, refusal-unique}
 use Rattle.bounds.proofs.Whole.{text-small}
-use Rattle.tags.specs.Items.{Item, start, close, line, bytesOf, attrsBytes, attrBytes, valueOf, newLine, render, framed}
+use Rattle.tags.specs.Items.{Item, close, line, bytesOf, attrsBytes, attrBytes, valueOf, newLine, render, framed}
 use Rattle.tags.specs.Names.{nameOf}
 use Rattle.tags.proofs.Rendered.{render-append}
 use Rattle.lists.specs.Span.{filtered, cutAt, nodesIn}
@@ -35,7 +35,7 @@ use Rattle.lists.specs.declared.Span.{Span}
 use Rattle.events.specs.Event.{Event}
 use Rattle.events.specs.Pairing.{State, lastEnds, paired}
 use Rattle.events.specs.Walk.{blocksE, eventsOf}
-use Rattle.events.specs.Text.{anyChapter, firstState, itemsOfTape, textOf, Outcome, fitting, outcomeBy, outcome}
+use Rattle.events.specs.Text.{anyChapter, firstState, itemsOfTape, textOf, fitting, outcomeBy, outcome}
 use Rattle.events.specs.Emit.{Desk, lay, emitAll, emitted, afterAll}
 use Rattle.events.proofs.Emits.{paired-emitted, emit-page, emit-state}
 use Rattle.marks.specs.Mark.{newMarks}

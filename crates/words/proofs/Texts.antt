@@ -7,7 +7,6 @@ use native.Mathlib.Omega.{arith}
 use lib.ListN.{length, take, drop, length-append}
 use lib.Seq.{take-append-seam, drop-append-seam}
 use Rattle.parts.specs.Bytes.{Bytes}
-use Rattle.chars.specs.Utf8.{cut}
 use Rattle.chars.proofs.Characters.{cut-whole}
 use Rattle.words.specs.Words.{stepOf, charsOf, white, solid, takeWhile, dropWhile, dropEnd, pieces, nonempty, words, trimStart, trimEnd, trim, whiteLen, wordLen}
 use Rattle.words.specs.declared.Set.{Set}

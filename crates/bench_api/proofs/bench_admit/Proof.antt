@@ -2,10 +2,6 @@ use Rattle.bench_api.proofs.Laws.{number-none, number-given}
 use borrow.Author.Needs.{needs}
 use Rattle.bench_api.proofs.bench_admit.Statement.{statement}
 use Rattle.bench_api.proofs.bench_admit.Tie as tie
-use Rattle.bench_api.proofs.bench_admit.Reads as reads
-use Rattle.bench_api.proofs.bench_admit.Lts as lts
-use Rattle.admit.proofs.admit.Reads as admit-reads
-use Rattle.bench_api.proofs.wide.Reads as wide-reads
 
 admit-requires : tie.Need-admit-requires
 admit-requires c κs = search needs

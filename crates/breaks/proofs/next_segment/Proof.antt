@@ -3,13 +3,6 @@ use Rattle.breaks.proofs.Written.{split-sum, segments-turn}
 use borrow.Author.Needs.{needs}
 use Rattle.breaks.proofs.next_segment.Statement.{statement}
 use Rattle.breaks.proofs.next_segment.Tie as tie
-use Rattle.breaks.proofs.next_segment.Reads as reads
-use Rattle.breaks.proofs.next_segment.Lts as lts
-use Rattle.breaks.proofs.put_segment.Reads as put-segment-reads
-use Rattle.parts.proofs.find_pair.Reads as find-pair-reads
-use Rattle.parts.proofs.from.Reads as from-reads
-use Rattle.parts.proofs.part.Reads as part-reads
-use Rattle.sink.proofs.literal.Reads as literal-reads
 
 -- src/lib.rt:50:17
 add-start : tie.Need-add-start

@@ -2,11 +2,6 @@ use Rattle.breaks.proofs.Written.{broken-split, broken-whole}
 use borrow.Author.Needs.{needs}
 use Rattle.breaks.proofs.put_broken.Statement.{statement}
 use Rattle.breaks.proofs.put_broken.Tie as tie
-use Rattle.breaks.proofs.put_broken.Reads as reads
-use Rattle.breaks.proofs.put_broken.Lts as lts
-use Rattle.breaks.proofs.put_segments.Reads as put-segments-reads
-use Rattle.breaks.proofs.put_unbroken.Reads as put-unbroken-reads
-use Rattle.texts.proofs.has_break.Reads as has-break-reads
 
 -- src/lib.rt:56:8
 has-break-requires : tie.Need-has-break-requires

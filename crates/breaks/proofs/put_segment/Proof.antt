@@ -2,11 +2,6 @@ use Rattle.breaks.proofs.Written.{segment-put}
 use borrow.Author.Needs.{needs}
 use Rattle.breaks.proofs.put_segment.Statement.{statement}
 use Rattle.breaks.proofs.put_segment.Tie as tie
-use Rattle.breaks.proofs.put_segment.Reads as reads
-use Rattle.breaks.proofs.put_segment.Lts as lts
-use Rattle.prose.proofs.put_segment.Reads as put-segment-reads
-use Rattle.sink.proofs.Sink.over.Reads as over-reads
-use Rattle.sink.proofs.Sink.window.Reads as window-reads
 
 -- src/lib.rt:32:32
 window-requires : tie.Need-window-requires

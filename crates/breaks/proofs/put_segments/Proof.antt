@@ -10,12 +10,6 @@ use Rattle.breaks.proofs.Written.{segments-on, segments-end}
 use borrow.Author.Needs.{needs}
 use Rattle.breaks.proofs.put_segments.Statement.{statement}
 use Rattle.breaks.proofs.put_segments.Tie as tie
-use Rattle.breaks.proofs.put_segments.Reads as reads
-use Rattle.breaks.proofs.put_segments.Lts as lts
-use Rattle.breaks.proofs.next_segment.Reads as next-segment-reads
-use Rattle.breaks.proofs.put_segment.Reads as put-segment-reads
-use Rattle.parts.proofs.find_pair.Reads as find-pair-reads
-use Rattle.parts.proofs.part.Reads as part-reads
 
 abbrev Inv-loop : tie.InvT-loop
 Inv-loop s out₀ at₀ v₀ out at v = ((source : Bytes) → emitAll (deskIn source v out) (breaksFrom s at) ≡ emitAll (deskIn source v₀ out₀) (breaksFrom s at₀)) × (length out ≡ length out₀)

@@ -2,11 +2,6 @@ use Rattle.breaks.proofs.Written.{unbroken-shows, unbroken-hidden}
 use borrow.Author.Needs.{needs}
 use Rattle.breaks.proofs.put_unbroken.Statement.{statement}
 use Rattle.breaks.proofs.put_unbroken.Tie as tie
-use Rattle.breaks.proofs.put_unbroken.Reads as reads
-use Rattle.breaks.proofs.put_unbroken.Lts as lts
-use Rattle.prose.proofs.put_written.Reads as put-written-reads
-use Rattle.sink.proofs.Sink.over.Reads as over-reads
-use Rattle.sink.proofs.Sink.window.Reads as window-reads
 
 -- src/lib.rt:21:36
 window-requires : tie.Need-window-requires

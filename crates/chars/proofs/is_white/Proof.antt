@@ -2,9 +2,6 @@ use Rattle.chars.proofs.White.{white-listed}
 use borrow.Author.Needs.{needs}
 use Rattle.chars.proofs.is_white.Statement.{statement}
 use Rattle.chars.proofs.is_white.Tie as tie
-use Rattle.chars.proofs.is_white.Reads as reads
-use Rattle.chars.proofs.is_white.Lts as lts
-use Rattle.chars.proofs.listed.Reads as listed-reads
 
 -- src/lib.rt:262:12
 slice-aggregate-listed : tie.Need-slice-aggregate-listed

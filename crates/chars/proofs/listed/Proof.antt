@@ -7,8 +7,6 @@ use Rattle.chars.proofs.White.{white-stop, white-turn, white-end}
 use borrow.Author.Needs.{needs}
 use Rattle.chars.proofs.listed.Statement.{statement}
 use Rattle.chars.proofs.listed.Tie as tie
-use Rattle.chars.proofs.listed.Reads as reads
-use Rattle.chars.proofs.listed.Lts as lts
 
 abbrev Inv-loop : tie.InvT-loop
 Inv-loop table code i₀ i = (i ≤ length table) × (found code (drop i table) ≡ found code table)

@@ -1,6 +1,6 @@
 use Rattle.checker.specs.Place.{lineEnds}
 use Rattle.checker.proofs.Places.{line-turn, line-done, line-one}
-use mathlib.Core.Path.{_≡_, refl}
+use mathlib.Core.Path.{_≡_}
 use Prim.Native.Nat.{_+_, _-_, _≤_}
 use native.Mathlib.Omega.{arith}
 use lib.ListN.{length, drop}

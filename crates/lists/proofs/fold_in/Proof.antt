@@ -8,12 +8,6 @@ use Rattle.lists.proofs.Nodes.{onward, fold-ended, fold-cut, fold-stopp
 use borrow.Author.Needs.{needs}
 use Rattle.lists.proofs.fold_in.Statement.{statement}
 use Rattle.lists.proofs.fold_in.Tie as tie
-use Rattle.lists.proofs.fold_in.Reads as reads
-use Rattle.lists.proofs.fold_in.Lts as lts
-use Rattle.fold.proofs.claims.Reads as claims-reads
-use Rattle.lists.proofs.is_at.Reads as is-at-reads
-use Rattle.lists.proofs.member_of.Reads as member-of-reads
-use Rattle.tape.proofs.Cursor.next_sibling.Reads as next-sibling-reads
 
 abbrev Inv-loop : tie.InvT-loop
 Inv-loop file tape span kind alt₀ published₀ rest₀ alt published rest = (onward (tapeIn tape file) span (kind .code) alt published rest ≡ onward (tapeIn tape file) span (kind .code) alt₀ published₀ rest₀) × (left (tapeIn tape file) rest ≤ left (tapeIn tape file) rest₀)

@@ -2,8 +2,6 @@ use Rattle.fold.proofs.Folding.{at-some, at-none}
 use borrow.Author.Needs.{needs}
 use Rattle.lists.proofs.is_at.Statement.{statement}
 use Rattle.lists.proofs.is_at.Tie as tie
-use Rattle.lists.proofs.is_at.Reads as reads
-use Rattle.lists.proofs.is_at.Lts as lts
 
 -- src/lib.rt:67:24
 enum-told : tie.Need-enum-told

@@ -1,10 +1,7 @@
-use Rattle.lists.proofs.Nodes.{both-yes, both-no}
+use Rattle.lists.proofs.Nodes.{both-yes}
 use borrow.Author.Needs.{needs}
 use Rattle.lists.proofs.is_end.Statement.{statement}
 use Rattle.lists.proofs.is_end.Tie as tie
-use Rattle.lists.proofs.is_end.Reads as reads
-use Rattle.lists.proofs.is_end.Lts as lts
-use Rattle.render.proofs.is_top_level_block.Reads as is-top-level-block-reads
 
 -- src/lib.rt:46:9
 is-top-level-block-requires : tie.Need-is-top-level-block-requires

@@ -1,10 +1,7 @@
-use Rattle.lists.proofs.Nodes.{both-yes, both-no}
+use Rattle.lists.proofs.Nodes.{both-yes}
 use borrow.Author.Needs.{needs}
 use Rattle.lists.proofs.is_skipped.Statement.{statement}
 use Rattle.lists.proofs.is_skipped.Tie as tie
-use Rattle.lists.proofs.is_skipped.Reads as reads
-use Rattle.lists.proofs.is_skipped.Lts as lts
-use Rattle.render.proofs.is_category_marker.Reads as is-category-marker-reads
 
 -- src/lib.rt:36:9
 is-category-marker-requires : tie.Need-is-category-marker-requires

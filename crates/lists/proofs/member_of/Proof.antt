@@ -2,10 +2,6 @@ use Rattle.lists.proofs.Nodes.{member-skipped, member-ends, member-list
 use borrow.Author.Needs.{needs}
 use Rattle.lists.proofs.member_of.Statement.{statement}
 use Rattle.lists.proofs.member_of.Tie as tie
-use Rattle.lists.proofs.member_of.Reads as reads
-use Rattle.lists.proofs.member_of.Lts as lts
-use Rattle.lists.proofs.is_end.Reads as is-end-reads
-use Rattle.lists.proofs.is_skipped.Reads as is-skipped-reads
 
 -- src/lib.rt:54:8
 is-skipped-requires : tie.Need-is-skipped-requires

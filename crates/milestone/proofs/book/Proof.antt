@@ -2,15 +2,6 @@ use Rattle.milestone.proofs.Marked.{book-emitted}
 use borrow.Author.Needs.{needs}
 use Rattle.milestone.proofs.book.Statement.{statement}
 use Rattle.milestone.proofs.book.Tie as tie
-use Rattle.milestone.proofs.book.Reads as reads
-use Rattle.milestone.proofs.book.Lts as lts
-use Rattle.marks.proofs.Marks.named_book.Reads as named-book-reads
-use Rattle.milestone.proofs.put_book.Reads as put-book-reads
-use Rattle.parts.proofs.part.Reads as part-reads
-use Rattle.render.proofs.book_code.Reads as book-code-reads
-use Rattle.render.proofs.book_rest.Reads as book-rest-reads
-use Rattle.sink.proofs.Sink.window.Reads as window-reads
-use Rattle.tape.proofs.source.Reads as source-reads
 
 -- src/lib.rt:208:9
 book-code-requires : tie.Need-book-code-requires

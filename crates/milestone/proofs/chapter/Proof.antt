@@ -2,13 +2,6 @@ use Rattle.milestone.proofs.Marked.{chapter-emitted}
 use borrow.Author.Needs.{needs}
 use Rattle.milestone.proofs.chapter.Statement.{statement}
 use Rattle.milestone.proofs.chapter.Tie as tie
-use Rattle.milestone.proofs.chapter.Reads as reads
-use Rattle.milestone.proofs.chapter.Lts as lts
-use Rattle.marks.proofs.next_chapter.Reads as next-chapter-reads
-use Rattle.milestone.proofs.put_chapter.Reads as put-chapter-reads
-use Rattle.milestone.proofs.put_ends.Reads as put-ends-reads
-use Rattle.sink.proofs.Sink.window.Reads as window-reads
-use Rattle.tape.proofs.source.Reads as source-reads
 
 -- src/lib.rt:148:22
 window-requires : tie.Need-window-requires

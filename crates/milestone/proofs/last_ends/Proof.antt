@@ -2,12 +2,6 @@ use Rattle.milestone.proofs.Marked.{ends-laid}
 use borrow.Author.Needs.{needs}
 use Rattle.milestone.proofs.last_ends.Statement.{statement}
 use Rattle.milestone.proofs.last_ends.Tie as tie
-use Rattle.milestone.proofs.last_ends.Reads as reads
-use Rattle.milestone.proofs.last_ends.Lts as lts
-use Rattle.milestone.proofs.put_ends.Reads as put-ends-reads
-use Rattle.sink.proofs.Sink.over.Reads as over-reads
-use Rattle.sink.proofs.Sink.window.Reads as window-reads
-use Rattle.tape.proofs.source.Reads as source-reads
 
 -- src/lib.rt:234:22
 window-requires : tie.Need-window-requires

@@ -2,12 +2,6 @@ use Rattle.milestone.proofs.Marked.{book-alone, book-around}
 use borrow.Author.Needs.{needs}
 use Rattle.milestone.proofs.put_book.Statement.{statement}
 use Rattle.milestone.proofs.put_book.Tie as tie
-use Rattle.milestone.proofs.put_book.Reads as reads
-use Rattle.milestone.proofs.put_book.Lts as lts
-use Rattle.milestone.proofs.put_book_head.Reads as put-book-head-reads
-use Rattle.milestone.proofs.put_book_rest.Reads as put-book-rest-reads
-use Rattle.window.proofs.put_run.Reads as put-run-reads
-use Rattle.words.proofs.is_blank.Reads as is-blank-reads
 
 -- src/lib.rt:195:9
 put-book-head-requires : tie.Need-put-book-head-requires

@@ -2,9 +2,6 @@ use Rattle.milestone.proofs.Marked.{book-head}
 use borrow.Author.Needs.{needs}
 use Rattle.milestone.proofs.put_book_head.Statement.{statement}
 use Rattle.milestone.proofs.put_book_head.Tie as tie
-use Rattle.milestone.proofs.put_book_head.Reads as reads
-use Rattle.milestone.proofs.put_book_head.Lts as lts
-use Rattle.window.proofs.put_run.Reads as put-run-reads
 
 -- src/lib.rt:177:29
 slice-aggregate-put-run : tie.Need-slice-aggregate-put-run

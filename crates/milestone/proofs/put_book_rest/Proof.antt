@@ -2,10 +2,6 @@ use Rattle.milestone.proofs.Marked.{book-held}
 use borrow.Author.Needs.{needs}
 use Rattle.milestone.proofs.put_book_rest.Statement.{statement}
 use Rattle.milestone.proofs.put_book_rest.Tie as tie
-use Rattle.milestone.proofs.put_book_rest.Reads as reads
-use Rattle.milestone.proofs.put_book_rest.Lts as lts
-use Rattle.prose.proofs.put_words.Reads as put-words-reads
-use Rattle.window.proofs.put_run.Reads as put-run-reads
 
 -- src/lib.rt:186:29
 slice-aggregate-put-run : tie.Need-slice-aggregate-put-run

@@ -2,13 +2,6 @@ use Rattle.milestone.proofs.Marked.{chapter-tag}
 use borrow.Author.Needs.{needs}
 use Rattle.milestone.proofs.put_chapter.Statement.{statement}
 use Rattle.milestone.proofs.put_chapter.Tie as tie
-use Rattle.milestone.proofs.put_chapter.Reads as reads
-use Rattle.milestone.proofs.put_chapter.Lts as lts
-use Rattle.milestone.proofs.put_chapter_head.Reads as put-chapter-head-reads
-use Rattle.milestone.proofs.put_chapter_sid.Reads as put-chapter-sid-reads
-use Rattle.parts.proofs.part.Reads as part-reads
-use Rattle.tape.proofs.source.Reads as source-reads
-use Rattle.values.proofs.put_numbered.Reads as put-numbered-reads
 
 -- src/lib.rt:68:9
 put-chapter-head-requires : tie.Need-put-chapter-head-requires

@@ -2,10 +2,6 @@ use Rattle.milestone.proofs.Marked.{chapter-head}
 use borrow.Author.Needs.{needs}
 use Rattle.milestone.proofs.put_chapter_head.Statement.{statement}
 use Rattle.milestone.proofs.put_chapter_head.Tie as tie
-use Rattle.milestone.proofs.put_chapter_head.Reads as reads
-use Rattle.milestone.proofs.put_chapter_head.Lts as lts
-use Rattle.window.proofs.put_number.Reads as put-number-reads
-use Rattle.window.proofs.put_run.Reads as put-run-reads
 
 -- src/lib.rt:41:29
 slice-aggregate-put-run : tie.Need-slice-aggregate-put-run

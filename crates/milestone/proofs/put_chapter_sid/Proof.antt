@@ -2,10 +2,6 @@ use Rattle.milestone.proofs.Marked.{chapter-sid}
 use borrow.Author.Needs.{needs}
 use Rattle.milestone.proofs.put_chapter_sid.Statement.{statement}
 use Rattle.milestone.proofs.put_chapter_sid.Tie as tie
-use Rattle.milestone.proofs.put_chapter_sid.Reads as reads
-use Rattle.milestone.proofs.put_chapter_sid.Lts as lts
-use Rattle.sink.proofs.put_chapter_id.Reads as put-chapter-id-reads
-use Rattle.window.proofs.put_run.Reads as put-run-reads
 
 -- src/lib.rt:50:29
 slice-aggregate-put-run : tie.Need-slice-aggregate-put-run

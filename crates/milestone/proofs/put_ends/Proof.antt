@@ -2,10 +2,6 @@ use Rattle.milestone.proofs.Marked.{ends-put}
 use borrow.Author.Needs.{needs}
 use Rattle.milestone.proofs.put_ends.Statement.{statement}
 use Rattle.milestone.proofs.put_ends.Tie as tie
-use Rattle.milestone.proofs.put_ends.Reads as reads
-use Rattle.milestone.proofs.put_ends.Lts as lts
-use Rattle.sink.proofs.end_chapter.Reads as end-chapter-reads
-use Rattle.sink.proofs.end_verse.Reads as end-verse-reads
 
 -- src/lib.rt:130:9
 end-verse-requires : tie.Need-end-verse-requires

@@ -2,14 +2,6 @@ use Rattle.milestone.proofs.Marked.{verse-tag}
 use borrow.Author.Needs.{needs}
 use Rattle.milestone.proofs.put_verse.Statement.{statement}
 use Rattle.milestone.proofs.put_verse.Tie as tie
-use Rattle.milestone.proofs.put_verse.Reads as reads
-use Rattle.milestone.proofs.put_verse.Lts as lts
-use Rattle.milestone.proofs.put_verse_head.Reads as put-verse-head-reads
-use Rattle.milestone.proofs.put_verse_sid.Reads as put-verse-sid-reads
-use Rattle.milestone.proofs.put_verse_tail.Reads as put-verse-tail-reads
-use Rattle.parts.proofs.part.Reads as part-reads
-use Rattle.tape.proofs.source.Reads as source-reads
-use Rattle.values.proofs.put_numbered.Reads as put-numbered-reads
 
 -- src/lib.rt:115:9
 source-requires : tie.Need-source-requires

@@ -2,10 +2,6 @@ use Rattle.milestone.proofs.Marked.{verse-head}
 use borrow.Author.Needs.{needs}
 use Rattle.milestone.proofs.put_verse_head.Statement.{statement}
 use Rattle.milestone.proofs.put_verse_head.Tie as tie
-use Rattle.milestone.proofs.put_verse_head.Reads as reads
-use Rattle.milestone.proofs.put_verse_head.Lts as lts
-use Rattle.window.proofs.escape_xml_attr.Reads as escape-xml-attr-reads
-use Rattle.window.proofs.put_run.Reads as put-run-reads
 
 -- src/lib.rt:79:29
 slice-aggregate-put-run : tie.Need-slice-aggregate-put-run

@@ -2,10 +2,6 @@ use Rattle.milestone.proofs.Marked.{verse-sid}
 use borrow.Author.Needs.{needs}
 use Rattle.milestone.proofs.put_verse_sid.Statement.{statement}
 use Rattle.milestone.proofs.put_verse_sid.Tie as tie
-use Rattle.milestone.proofs.put_verse_sid.Reads as reads
-use Rattle.milestone.proofs.put_verse_sid.Lts as lts
-use Rattle.sink.proofs.put_verse_id.Reads as put-verse-id-reads
-use Rattle.window.proofs.put_run.Reads as put-run-reads
 
 -- src/lib.rt:88:29
 slice-aggregate-put-run : tie.Need-slice-aggregate-put-run

@@ -2,10 +2,6 @@ use Rattle.milestone.proofs.Marked.{verse-tail}
 use borrow.Author.Needs.{needs}
 use Rattle.milestone.proofs.put_verse_tail.Statement.{statement}
 use Rattle.milestone.proofs.put_verse_tail.Tie as tie
-use Rattle.milestone.proofs.put_verse_tail.Reads as reads
-use Rattle.milestone.proofs.put_verse_tail.Lts as lts
-use Rattle.values.proofs.put_numbered.Reads as put-numbered-reads
-use Rattle.window.proofs.put_run.Reads as put-run-reads
 
 -- src/lib.rt:97:46
 slice-aggregate-put-numbered : tie.Need-slice-aggregate-put-numbered

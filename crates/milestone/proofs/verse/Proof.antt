@@ -2,14 +2,6 @@ use Rattle.milestone.proofs.Marked.{verse-emitted}
 use borrow.Author.Needs.{needs}
 use Rattle.milestone.proofs.verse.Statement.{statement}
 use Rattle.milestone.proofs.verse.Tie as tie
-use Rattle.milestone.proofs.verse.Reads as reads
-use Rattle.milestone.proofs.verse.Lts as lts
-use Rattle.marks.proofs.next_verse.Reads as next-verse-reads
-use Rattle.milestone.proofs.put_verse.Reads as put-verse-reads
-use Rattle.render.proofs.verse_label.Reads as verse-label-reads
-use Rattle.sink.proofs.Sink.window.Reads as window-reads
-use Rattle.sink.proofs.end_verse.Reads as end-verse-reads
-use Rattle.tape.proofs.source.Reads as source-reads
 
 -- src/lib.rt:164:9
 verse-label-requires : tie.Need-verse-label-requires

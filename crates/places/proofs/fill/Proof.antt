@@ -1,6 +1,5 @@
-use native.Mathlib.Omega.{arith}
-use lib.ListN.{length, length-set}
-use mathlib.Core.Path.{_≡_, _∙_}
+use lib.ListN.{length}
+use mathlib.Core.Path.{_≡_}
 use borrow.Author.Needs.{needs}
 use Rattle.places.proofs.Blocks.{Filled, fill-start, fill-turn, fill-done}
 use Rattle.places.proofs.fill.Statement.{statement}

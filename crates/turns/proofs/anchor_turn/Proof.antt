@@ -2,12 +2,6 @@ use Rattle.turns.proofs.Laws.{anchor-left, anchor-written, kept-here}
 use borrow.Author.Needs.{needs}
 use Rattle.turns.proofs.anchor_turn.Statement.{statement}
 use Rattle.turns.proofs.anchor_turn.Tie as tie
-use Rattle.turns.proofs.anchor_turn.Reads as reads
-use Rattle.turns.proofs.anchor_turn.Lts as lts
-use Rattle.lists.proofs.fold_in.Reads as fold-in-reads
-use Rattle.milestone.proofs.verse.Reads as verse-reads
-use Rattle.tape.proofs.Cursor.next_sibling.Reads as next-sibling-reads
-use Rattle.tape.proofs.kinds.Kind.new.Reads as new-reads
 
 -- src/lib.rt:210:9
 new-requires : tie.Need-new-requires

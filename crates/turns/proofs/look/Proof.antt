@@ -2,13 +2,6 @@ use Rattle.turns.proofs.Laws.{kept-next, kept-solid, look-behind, look-
 use borrow.Author.Needs.{needs}
 use Rattle.turns.proofs.look.Statement.{statement}
 use Rattle.turns.proofs.look.Tie as tie
-use Rattle.turns.proofs.look.Reads as reads
-use Rattle.turns.proofs.look.Lts as lts
-use Rattle.render.proofs.inline_at.Reads as inline-at-reads
-use Rattle.render.proofs.solid_behind.Reads as solid-behind-reads
-use Rattle.texts.proofs.ends_white.Reads as ends-white-reads
-use Rattle.texts.proofs.normalize_text.Reads as normalize-text-reads
-use Rattle.turns.proofs.past.Reads as past-reads
 
 -- src/lib.rt:137:19
 normalize-text-requires : tie.Need-normalize-text-requires

@@ -2,10 +2,6 @@ use Rattle.turns.proofs.Sorts.{note-attribute, note-enter, note-error, 
 use borrow.Author.Needs.{needs}
 use Rattle.turns.proofs.note_sort.Statement.{statement}
 use Rattle.turns.proofs.note_sort.Tie as tie
-use Rattle.turns.proofs.note_sort.Reads as reads
-use Rattle.turns.proofs.note_sort.Lts as lts
-use Rattle.render.proofs.is_category_marker.Reads as is-category-marker-reads
-use Rattle.tape.proofs.Cursor.kind.Reads as kind-reads
 
 -- src/lib.rt:90:8
 is-category-marker-requires : tie.Need-is-category-marker-requires

@@ -2,10 +2,6 @@ use Rattle.turns.proofs.Laws.{first-text, later-text, root-text}
 use borrow.Author.Needs.{needs}
 use Rattle.turns.proofs.note_text.Statement.{statement}
 use Rattle.turns.proofs.note_text.Tie as tie
-use Rattle.turns.proofs.note_text.Reads as reads
-use Rattle.turns.proofs.note_text.Lts as lts
-use Rattle.render.proofs.remainder.Reads as remainder-reads
-use Rattle.tape.proofs.Cursor.text.Reads as text-reads
 
 -- src/lib.rt:268:9
 text-requires : tie.Need-text-requires

@@ -2,10 +2,6 @@ use Rattle.turns.proofs.Laws.{note-turn-anchor, note-turn-passed, note-
 use borrow.Author.Needs.{needs}
 use Rattle.turns.proofs.note_turn.Statement.{statement}
 use Rattle.turns.proofs.note_turn.Tie as tie
-use Rattle.turns.proofs.note_turn.Reads as reads
-use Rattle.turns.proofs.note_turn.Lts as lts
-use Rattle.turns.proofs.note_words.Reads as note-words-reads
-use Rattle.turns.proofs.passed_turn.Reads as passed-turn-reads
 
 -- src/lib.rt:328:85
 enum-told : tie.Need-enum-told

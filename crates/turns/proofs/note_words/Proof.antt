@@ -2,13 +2,6 @@ use Rattle.turns.proofs.Laws.{note-written, words-kept}
 use borrow.Author.Needs.{needs}
 use Rattle.turns.proofs.note_words.Statement.{statement}
 use Rattle.turns.proofs.note_words.Tie as tie
-use Rattle.turns.proofs.note_words.Reads as reads
-use Rattle.turns.proofs.note_words.Lts as lts
-use Rattle.breaks.proofs.put_unbroken.Reads as put-unbroken-reads
-use Rattle.tape.proofs.Cursor.next_sibling.Reads as next-sibling-reads
-use Rattle.turns.proofs.look.Reads as look-reads
-use Rattle.turns.proofs.note_text.Reads as note-text-reads
-use Rattle.turns.proofs.still.Reads as still-reads
 
 -- src/lib.rt:296:9
 next-sibling-requires : tie.Need-next-sibling-requires

@@ -2,10 +2,6 @@ use Rattle.turns.proofs.Laws.{passed-kept}
 use borrow.Author.Needs.{needs}
 use Rattle.turns.proofs.passed_turn.Statement.{statement}
 use Rattle.turns.proofs.passed_turn.Tie as tie
-use Rattle.turns.proofs.passed_turn.Reads as reads
-use Rattle.turns.proofs.passed_turn.Lts as lts
-use Rattle.tape.proofs.Cursor.next_sibling.Reads as next-sibling-reads
-use Rattle.turns.proofs.past.Reads as past-reads
 
 -- src/lib.rt:228:9
 next-sibling-requires : tie.Need-next-sibling-requires

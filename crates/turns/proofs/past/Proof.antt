@@ -2,8 +2,6 @@ use Rattle.turns.proofs.Laws.{past-done, past-far, past-here}
 use borrow.Author.Needs.{needs}
 use Rattle.turns.proofs.past.Statement.{statement}
 use Rattle.turns.proofs.past.Tie as tie
-use Rattle.turns.proofs.past.Reads as reads
-use Rattle.turns.proofs.past.Lts as lts
 
 -- src/lib.rt:111:23
 enum-told : tie.Need-enum-told

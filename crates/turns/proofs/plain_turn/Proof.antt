@@ -2,11 +2,6 @@ use Rattle.turns.proofs.Laws.{anchor-kept, plain-anchor, plain-passed, 
 use borrow.Author.Needs.{needs}
 use Rattle.turns.proofs.plain_turn.Statement.{statement}
 use Rattle.turns.proofs.plain_turn.Tie as tie
-use Rattle.turns.proofs.plain_turn.Reads as reads
-use Rattle.turns.proofs.plain_turn.Lts as lts
-use Rattle.turns.proofs.anchor_turn.Reads as anchor-turn-reads
-use Rattle.turns.proofs.passed_turn.Reads as passed-turn-reads
-use Rattle.turns.proofs.words_turn.Reads as words-turn-reads
 
 -- src/lib.rt:259:65
 enum-told : tie.Need-enum-told

@@ -2,11 +2,6 @@ use Rattle.turns.proofs.Sorts.{in-end, in-listed, in-skipped}
 use borrow.Author.Needs.{needs}
 use Rattle.turns.proofs.sort_in.Statement.{statement}
 use Rattle.turns.proofs.sort_in.Tie as tie
-use Rattle.turns.proofs.sort_in.Reads as reads
-use Rattle.turns.proofs.sort_in.Lts as lts
-use Rattle.lists.proofs.member_of.Reads as member-of-reads
-use Rattle.tape.proofs.Cursor.kind.Reads as kind-reads
-use Rattle.turns.proofs.sort_of.Reads as sort-of-reads
 
 -- src/lib.rt:79:11
 member-of-requires : tie.Need-member-of-requires

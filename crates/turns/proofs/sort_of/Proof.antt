@@ -1,8 +1,6 @@
 use Rattle.turns.proofs.Sorts.{sort-anchor, sort-attribute, sort-enter, sort-error, sort-words}
 use Rattle.turns.proofs.sort_of.Statement.{statement}
 use Rattle.turns.proofs.sort_of.Tie as tie
-use Rattle.turns.proofs.sort_of.Reads as reads
-use Rattle.turns.proofs.sort_of.Lts as lts
 
 -- src/lib.rt:61:9
 returns : tie.Need-returns

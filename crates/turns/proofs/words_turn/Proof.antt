@@ -2,13 +2,6 @@ use Rattle.turns.proofs.Laws.{words-kept, words-written}
 use borrow.Author.Needs.{needs}
 use Rattle.turns.proofs.words_turn.Statement.{statement}
 use Rattle.turns.proofs.words_turn.Tie as tie
-use Rattle.turns.proofs.words_turn.Reads as reads
-use Rattle.turns.proofs.words_turn.Lts as lts
-use Rattle.breaks.proofs.put_broken.Reads as put-broken-reads
-use Rattle.tape.proofs.Cursor.next_sibling.Reads as next-sibling-reads
-use Rattle.tape.proofs.Cursor.text.Reads as text-reads
-use Rattle.turns.proofs.look.Reads as look-reads
-use Rattle.turns.proofs.still.Reads as still-reads
 
 -- src/lib.rt:179:9
 next-sibling-requires : tie.Need-next-sibling-requires

@@ -5,10 +5,6 @@ use Rattle.usx.proofs.Whole.{Ahead, ahead-start, ahead-turn, number-zer
 use borrow.Author.Needs.{needs}
 use Rattle.usx.proofs.first_number.Statement.{statement}
 use Rattle.usx.proofs.first_number.Tie as tie
-use Rattle.usx.proofs.first_number.Reads as reads
-use Rattle.usx.proofs.first_number.Lts as lts
-use Rattle.tape.proofs.Cursor.kind.Reads as kind-reads
-use Rattle.tape.proofs.Cursor.new.Reads as new-reads
 
 abbrev Inv-loop : tie.InvT-loop
 Inv-loop file tape i₀ i = Ahead (tapeIn tape file) i × (i ≤ tape .nodes)

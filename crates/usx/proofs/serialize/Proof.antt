@@ -2,10 +2,6 @@ use Rattle.usx.proofs.Whole.{refused, written}
 use borrow.Author.Needs.{needs}
 use Rattle.usx.proofs.serialize.Statement.{statement}
 use Rattle.usx.proofs.serialize.Tie as tie
-use Rattle.usx.proofs.serialize.Reads as reads
-use Rattle.usx.proofs.serialize.Lts as lts
-use Rattle.admit.proofs.admit.Reads as admit-reads
-use Rattle.usx.proofs.write_in.Reads as write-in-reads
 
 -- src/lib.rt:86:11
 admit-requires : tie.Need-admit-requires

@@ -3,10 +3,6 @@ use Rattle.usx.proofs.Whole.{room, no-room}
 use borrow.Author.Needs.{needs}
 use Rattle.usx.proofs.write_in.Statement.{statement}
 use Rattle.usx.proofs.write_in.Tie as tie
-use Rattle.usx.proofs.write_in.Reads as reads
-use Rattle.usx.proofs.write_in.Lts as lts
-use Rattle.usx.proofs.first_number.Reads as first-number-reads
-use Rattle.usx.proofs.write_text.Reads as write-text-reads
 
 -- src/lib.rt:72:9
 first-number-requires : tie.Need-first-number-requires

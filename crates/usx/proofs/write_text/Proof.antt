@@ -3,14 +3,6 @@ use Rattle.usx.proofs.Whole.{whole-length, whole-buffer}
 use borrow.Author.Needs.{needs}
 use Rattle.usx.proofs.write_text.Statement.{statement}
 use Rattle.usx.proofs.write_text.Tie as tie
-use Rattle.usx.proofs.write_text.Reads as reads
-use Rattle.usx.proofs.write_text.Lts as lts
-use Rattle.marks.proofs.Marks.new.Reads as Marks-new-reads
-use Rattle.milestone.proofs.last_ends.Reads as last-ends-reads
-use Rattle.sink.proofs.literal.Reads as literal-reads
-use Rattle.tape.proofs.Cursor.first_child.Reads as first-child-reads
-use Rattle.tape.proofs.Cursor.new.Reads as Cursor-new-reads
-use Rattle.blocks.proofs.blocks.Reads as blocks-reads
 
 -- src/lib.rt:54:16
 new-requires : tie.Need-new-requires

@@ -2,11 +2,6 @@ use Rattle.sink.proofs.Idents.{chapter-shut, chapter-ended}
 use borrow.Author.Needs.{needs}
 use Rattle.sink.proofs.ident.end_chapter.Statement.{statement}
 use Rattle.sink.proofs.ident.end_chapter.Tie as tie
-use Rattle.sink.proofs.ident.end_chapter.Reads as reads
-use Rattle.sink.proofs.ident.end_chapter.Lts as lts
-use Rattle.parts.proofs.part.Reads as part-reads
-use Rattle.sink.proofs.ident.put_chapter_id.Reads as put-chapter-id-reads
-use Rattle.window.proofs.put_run.Reads as put-run-reads
 
 -- src/ident.rt:50:35
 enum-told : tie.Need-enum-told

@@ -2,11 +2,6 @@ use Rattle.sink.proofs.Idents.{verse-shut, verse-ended}
 use borrow.Author.Needs.{needs}
 use Rattle.sink.proofs.ident.end_verse.Statement.{statement}
 use Rattle.sink.proofs.ident.end_verse.Tie as tie
-use Rattle.sink.proofs.ident.end_verse.Reads as reads
-use Rattle.sink.proofs.ident.end_verse.Lts as lts
-use Rattle.parts.proofs.part.Reads as part-reads
-use Rattle.sink.proofs.ident.put_verse_id.Reads as put-verse-id-reads
-use Rattle.window.proofs.put_run.Reads as put-run-reads
 
 -- src/ident.rt:64:31
 enum-told : tie.Need-enum-told

@@ -2,11 +2,6 @@ use Rattle.sink.proofs.Idents.{chapter-id}
 use borrow.Author.Needs.{needs}
 use Rattle.sink.proofs.ident.put_chapter_id.Statement.{statement}
 use Rattle.sink.proofs.ident.put_chapter_id.Tie as tie
-use Rattle.sink.proofs.ident.put_chapter_id.Reads as reads
-use Rattle.sink.proofs.ident.put_chapter_id.Lts as lts
-use Rattle.sink.proofs.ident.put_shown.Reads as put-shown-reads
-use Rattle.window.proofs.put_number.Reads as put-number-reads
-use Rattle.window.proofs.put_run.Reads as put-run-reads
 
 -- src/ident.rt:31:9
 put-shown-requires : tie.Need-put-shown-requires

@@ -2,10 +2,6 @@ use Rattle.sink.proofs.Idents.{shown-raw, shown-escaped}
 use borrow.Author.Needs.{needs}
 use Rattle.sink.proofs.ident.put_shown.Statement.{statement}
 use Rattle.sink.proofs.ident.put_shown.Tie as tie
-use Rattle.sink.proofs.ident.put_shown.Reads as reads
-use Rattle.sink.proofs.ident.put_shown.Lts as lts
-use Rattle.window.proofs.escape_xml_attr.Reads as escape-xml-attr-reads
-use Rattle.window.proofs.put_run.Reads as put-run-reads
 
 -- src/ident.rt:21:9
 put-run-requires : tie.Need-put-run-requires

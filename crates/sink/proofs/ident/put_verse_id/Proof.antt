@@ -2,11 +2,6 @@ use Rattle.sink.proofs.Idents.{verse-id}
 use borrow.Author.Needs.{needs}
 use Rattle.sink.proofs.ident.put_verse_id.Statement.{statement}
 use Rattle.sink.proofs.ident.put_verse_id.Tie as tie
-use Rattle.sink.proofs.ident.put_verse_id.Reads as reads
-use Rattle.sink.proofs.ident.put_verse_id.Lts as lts
-use Rattle.sink.proofs.ident.put_chapter_id.Reads as put-chapter-id-reads
-use Rattle.sink.proofs.ident.put_shown.Reads as put-shown-reads
-use Rattle.window.proofs.put_run.Reads as put-run-reads
 
 -- src/ident.rt:40:9
 put-chapter-id-requires : tie.Need-put-chapter-id-requires

@@ -3,12 +3,6 @@ use Rattle.sink.proofs.Idents.{line-bytes}
 use borrow.Author.Needs.{needs}
 use Rattle.sink.proofs.plain.line.Statement.{statement}
 use Rattle.sink.proofs.plain.line.Tie as tie
-use Rattle.sink.proofs.plain.line.Reads as reads
-use Rattle.sink.proofs.plain.line.Lts as lts
-use Rattle.sink.proofs.Sink.over.Reads as over-reads
-use Rattle.sink.proofs.Sink.window.Reads as window-reads
-use Rattle.sink.proofs.plain.put_indent.Reads as put-indent-reads
-use Rattle.window.proofs.put_run.Reads as put-run-reads
 
 -- src/plain.rt:62:21
 window-requires : tie.Need-window-requires

@@ -2,11 +2,6 @@ use Rattle.sink.proofs.Chains.{desk-on}
 use borrow.Author.Needs.{needs}
 use Rattle.sink.proofs.plain.literal.Statement.{statement}
 use Rattle.sink.proofs.plain.literal.Tie as tie
-use Rattle.sink.proofs.plain.literal.Reads as reads
-use Rattle.sink.proofs.plain.literal.Lts as lts
-use Rattle.sink.proofs.Sink.over.Reads as over-reads
-use Rattle.sink.proofs.Sink.window.Reads as window-reads
-use Rattle.window.proofs.put_run.Reads as put-run-reads
 
 -- src/plain.rt:41:21
 window-requires : tie.Need-window-requires

@@ -7,9 +7,6 @@ use Rattle.sink.specs.Desk.{indent}
 use Rattle.sink.proofs.Idents.{indent-turn, indent-end}
 use Rattle.sink.proofs.plain.put_indent.Statement.{statement}
 use Rattle.sink.proofs.plain.put_indent.Tie as tie
-use Rattle.sink.proofs.plain.put_indent.Reads as reads
-use Rattle.sink.proofs.plain.put_indent.Lts as lts
-use Rattle.window.proofs.put_run.Reads as put-run-reads
 
 abbrev Inv-loop : tie.InvT-loop
 Inv-loop out₀ level v₀ left₀ t6 out v left = (paint (pageOf v out) (indent left) ≡ paint (pageOf v₀ out₀) (indent left₀)) × (length out ≡ length out₀)
