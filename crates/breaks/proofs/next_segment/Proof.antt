@@ -4,43 +4,33 @@ use borrow.Author.Needs.{needs}
 use Rattle.breaks.proofs.next_segment.Statement.{statement}
 use Rattle.breaks.proofs.next_segment.Tie as tie
 
--- src/lib.rt:50:17
 add-start : tie.Need-add-start
 add-start c = search needs
 
--- src/lib.rt:51:9
 from-requires : tie.Need-from-requires
 from-requires c κs = search needs
 
--- src/lib.rt:52:9
 find-pair-requires : tie.Need-find-pair-requires
 find-pair-requires c κs = search needs
 
--- src/lib.rt:53:16
 add-next : tie.Need-add-next
 add-next c = omega (arith, split-sum _ _ (c .before .before .before .before .pre) (c .before .from .ensures) (c .find-pair .ensures))
 
--- src/lib.rt:54:32
 slice-aggregate-literal : tie.Need-slice-aggregate-literal
 slice-aggregate-literal c = search needs
 
--- src/lib.rt:54:9
 literal-requires : tie.Need-literal-requires
 literal-requires c κs = search needs
 
--- src/lib.rt:56:27
 part-requires : tie.Need-part-requires
 part-requires c κs = search needs
 
--- src/lib.rt:56:15
 put-segment-requires : tie.Need-put-segment-requires
 put-segment-requires c κs = search needs
 
--- src/lib.rt:45:1
 same-length : tie.Need-same-length
 same-length c = search needs
 
--- src/lib.rt:45:1
 returns : tie.Need-returns
 returns c = (
   segments-turn _ _ _ _ (c .before .before .before .before .before .before .before .before .before .before .before .before .before .before .pre) (c .before .before .before .before .before .before .before .before .before .before .before .from .ensures) (c .before .before .before .before .before .before .before .before .before .before .find-pair .ensures) _ _ (c .before .before .before .before .before .before .before .literal .ensures) (c .before .before .before .before .part .ensures) _ _ (c .before .before .put-segment .ensures),

@@ -17,39 +17,30 @@ Inv-loop s out₀ at₀ v₀ out at v = ((source : Bytes) → emitAll (deskIn so
 abbrev μ-loop : tie.MeasureT-loop
 μ-loop s out₀ at₀ v₀ out at v = length s - at
 
--- src/lib.rt:63:9
 find-pair-requires : tie.Need-find-pair-requires Inv-loop μ-loop
 find-pair-requires c κs = search needs
 
--- src/lib.rt:64:29
 part-requires : tie.Need-part-requires Inv-loop μ-loop
 part-requires c κs = search needs
 
--- src/lib.rt:64:9
 put-segment-requires : tie.Need-put-segment-requires Inv-loop μ-loop
 put-segment-requires c κs = search needs
 
--- src/lib.rt:65:5
 loop-holds : tie.Need-loop-holds Inv-loop μ-loop
 loop-holds c = (λ source. refl, refl)
 
--- src/lib.rt:66:13
 next-segment-requires : tie.Need-next-segment-requires Inv-loop μ-loop
 next-segment-requires c κs = search needs
 
--- src/lib.rt:65:5
 loop-less : tie.Need-loop-less Inv-loop μ-loop
 loop-less c = omega arith
 
--- src/lib.rt:65:5
 loop-again : tie.Need-loop-again Inv-loop μ-loop
 loop-again c = (segments-on _ _ _ _ _ _ _ _ (c .before .before .before .before .before .before .loop .inv .0) (c .before .before .before .next-segment .ensures .0), search needs)
 
--- src/lib.rt:60:1
 same-length : tie.Need-same-length Inv-loop μ-loop
 same-length c = search needs
 
--- src/lib.rt:60:1
 returns : tie.Need-returns Inv-loop μ-loop
 returns c = segments-end _ _ _ _ (c .before .before .before .before .before .before .before .find-pair .ensures) (c .before .before .before .before .before .before .part .ensures) _ _ (c .before .before .before .before .put-segment .ensures) _ _ _ (c .before .loop .inv .0) (c .loop-test .left)
 

@@ -3,27 +3,21 @@ use borrow.Author.Needs.{needs}
 use Rattle.breaks.proofs.put_unbroken.Statement.{statement}
 use Rattle.breaks.proofs.put_unbroken.Tie as tie
 
--- src/lib.rt:21:36
 window-requires : tie.Need-window-requires
 window-requires c κs = search needs
 
--- src/lib.rt:21:13
 put-written-requires : tie.Need-put-written-requires
 put-written-requires c κs = search needs
 
--- src/lib.rt:22:9
 over-requires : tie.Need-over-requires
 over-requires c κs = search needs
 
--- src/lib.rt:17:1
 same-length : tie.Need-same-length
 same-length c = search needs
 
--- src/lib.rt:17:1
 returns : tie.Need-returns
 returns c = search unbroken-shows
 
--- src/lib.rt:17:1
 returns-2 : tie.Need-returns-2
 returns-2 c = search unbroken-hidden
 

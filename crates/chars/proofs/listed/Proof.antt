@@ -14,35 +14,27 @@ Inv-loop table code i₀ i = (i ≤ length table) × (found code (drop i table) 
 abbrev μ-loop : tie.MeasureT-loop
 μ-loop table code i₀ i = length table - i
 
--- src/lib.rt:247:5
 loop-holds : tie.Need-loop-holds Inv-loop μ-loop
 loop-holds c = (omega arith, refl)
 
--- src/lib.rt:248:17
 mul-w : tie.Need-mul-w Inv-loop μ-loop
 mul-w c = search needs
 
--- src/lib.rt:248:17
 shared-slice-read-w : tie.Need-shared-slice-read-w Inv-loop μ-loop
 shared-slice-read-w c = search needs
 
--- src/lib.rt:250:13
 returns : tie.Need-returns Inv-loop μ-loop
 returns c = search white-stop
 
--- src/lib.rt:252:9
 add-i : tie.Need-add-i Inv-loop μ-loop
 add-i c = omega arith
 
--- src/lib.rt:247:5
 loop-less : tie.Need-loop-less Inv-loop μ-loop
 loop-less c = omega arith
 
--- src/lib.rt:247:5
 loop-again : tie.Need-loop-again Inv-loop μ-loop
 loop-again c = (omega arith, search white-turn)
 
--- src/lib.rt:243:1
 returns-2 : tie.Need-returns-2 Inv-loop μ-loop
 returns-2 c = search white-end
 

@@ -15,119 +15,90 @@ Inv-loop file tape span kind alt₀ published₀ rest₀ alt published rest = (o
 abbrev μ-loop : tie.MeasureT-loop
 μ-loop file tape span kind alt₀ published₀ rest₀ alt published rest = left (tapeIn tape file) rest
 
--- src/lib.rt:80:5
 loop-holds : tie.Need-loop-holds Inv-loop μ-loop
 loop-holds c = (refl, omega arith)
 
--- src/lib.rt:82:27
 enum-told : tie.Need-enum-told Inv-loop μ-loop
 enum-told c = search needs
 
--- src/lib.rt:82:27
 returns : tie.Need-returns Inv-loop μ-loop
 returns c = (search fold-ended, search needs)
 
--- src/lib.rt:83:22
 enum-known-rest : tie.Need-enum-known-rest Inv-loop μ-loop
 enum-known-rest c = search needs
 
--- src/lib.rt:83:34
 member-of-requires : tie.Need-member-of-requires Inv-loop μ-loop
 member-of-requires c κs = search needs
 
--- src/lib.rt:84:32
 enum-told-2 : tie.Need-enum-told-2 Inv-loop μ-loop
 enum-told-2 c = search needs
 
--- src/lib.rt:84:32
 returns-2 : tie.Need-returns-2 Inv-loop μ-loop
 returns-2 c = (search fold-cut, search left-here)
 
--- src/lib.rt:86:21
 enum-told-3 : tie.Need-enum-told-3 Inv-loop μ-loop
 enum-told-3 c = search needs
 
--- src/lib.rt:86:21
 next-sibling-requires : tie.Need-next-sibling-requires Inv-loop μ-loop
 next-sibling-requires c κs = search needs
 
--- src/lib.rt:80:5
 loop-less : tie.Need-loop-less Inv-loop μ-loop
 loop-less c = search left-turn
 
--- src/lib.rt:80:5
 loop-again : tie.Need-loop-again Inv-loop μ-loop
 loop-again c = (search fold-skipped, search left-on)
 
--- src/lib.rt:88:75
 enum-told-4 : tie.Need-enum-told-4 Inv-loop μ-loop
 enum-told-4 c = search needs
 
--- src/lib.rt:88:75
 is-at-requires : tie.Need-is-at-requires Inv-loop μ-loop
 is-at-requires c κs = search needs
 
--- src/lib.rt:88:87
 is-at-requires-2 : tie.Need-is-at-requires-2 Inv-loop μ-loop
 is-at-requires-2 c κs = search needs
 
--- src/lib.rt:88:41
 claims-requires : tie.Need-claims-requires Inv-loop μ-loop
 claims-requires c κs = search needs
 
--- src/lib.rt:89:37
 enum-told-5 : tie.Need-enum-told-5 Inv-loop μ-loop
 enum-told-5 c = search needs
 
--- src/lib.rt:89:37
 returns-3 : tie.Need-returns-3 Inv-loop μ-loop
 returns-3 c = (search fold-stopped, search left-here)
 
--- src/lib.rt:91:25
 enum-told-6 : tie.Need-enum-told-6 Inv-loop μ-loop
 enum-told-6 c = search needs
 
--- src/lib.rt:91:25
 next-sibling-requires-2 : tie.Need-next-sibling-requires-2 Inv-loop μ-loop
 next-sibling-requires-2 c κs = search needs
 
--- src/lib.rt:80:5
 loop-less-2 : tie.Need-loop-less-2 Inv-loop μ-loop
 loop-less-2 c = search left-turn
 
--- src/lib.rt:80:5
 loop-again-2 : tie.Need-loop-again-2 Inv-loop μ-loop
 loop-again-2 c = (search fold-passed, search left-on)
 
--- src/lib.rt:94:25
 enum-told-7 : tie.Need-enum-told-7 Inv-loop μ-loop
 enum-told-7 c = search needs
 
--- src/lib.rt:95:25
 next-sibling-requires-3 : tie.Need-next-sibling-requires-3 Inv-loop μ-loop
 next-sibling-requires-3 c κs = search needs
 
--- src/lib.rt:80:5
 loop-less-3 : tie.Need-loop-less-3 Inv-loop μ-loop
 loop-less-3 c = search left-turn
 
--- src/lib.rt:80:5
 loop-again-3 : tie.Need-loop-again-3 Inv-loop μ-loop
 loop-again-3 c = (search fold-took-alt, search left-on)
 
--- src/lib.rt:98:25
 enum-told-8 : tie.Need-enum-told-8 Inv-loop μ-loop
 enum-told-8 c = search needs
 
--- src/lib.rt:99:25
 next-sibling-requires-4 : tie.Need-next-sibling-requires-4 Inv-loop μ-loop
 next-sibling-requires-4 c κs = search needs
 
--- src/lib.rt:80:5
 loop-less-4 : tie.Need-loop-less-4 Inv-loop μ-loop
 loop-less-4 c = search left-turn
 
--- src/lib.rt:80:5
 loop-again-4 : tie.Need-loop-again-4 Inv-loop μ-loop
 loop-again-4 c = (search fold-took-pub, search left-on)
 

@@ -3,19 +3,15 @@ use borrow.Author.Needs.{needs}
 use Rattle.lists.proofs.is_at.Statement.{statement}
 use Rattle.lists.proofs.is_at.Tie as tie
 
--- src/lib.rt:67:24
 enum-told : tie.Need-enum-told
 enum-told c = search needs
 
--- src/lib.rt:68:23
 enum-told-2 : tie.Need-enum-told-2
 enum-told-2 c = search needs
 
--- src/lib.rt:63:1
 returns : tie.Need-returns
 returns c = search at-some
 
--- src/lib.rt:63:1
 returns-2 : tie.Need-returns-2
 returns-2 c = search at-none
 

@@ -3,15 +3,12 @@ use borrow.Author.Needs.{needs}
 use Rattle.lists.proofs.is_end.Statement.{statement}
 use Rattle.lists.proofs.is_end.Tie as tie
 
--- src/lib.rt:46:9
 is-top-level-block-requires : tie.Need-is-top-level-block-requires
 is-top-level-block-requires c κs = search needs
 
--- src/lib.rt:46:9
 returns : tie.Need-returns
 returns c = search both-yes
 
--- src/lib.rt:42:1
 returns-2 : tie.Need-returns-2
 returns-2 c = search needs
 

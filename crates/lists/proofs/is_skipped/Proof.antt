@@ -3,15 +3,12 @@ use borrow.Author.Needs.{needs}
 use Rattle.lists.proofs.is_skipped.Statement.{statement}
 use Rattle.lists.proofs.is_skipped.Tie as tie
 
--- src/lib.rt:36:9
 is-category-marker-requires : tie.Need-is-category-marker-requires
 is-category-marker-requires c κs = search needs
 
--- src/lib.rt:36:9
 returns : tie.Need-returns
 returns c = search both-yes
 
--- src/lib.rt:32:1
 returns-2 : tie.Need-returns-2
 returns-2 c = search needs
 

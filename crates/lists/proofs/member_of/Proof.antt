@@ -3,23 +3,18 @@ use borrow.Author.Needs.{needs}
 use Rattle.lists.proofs.member_of.Statement.{statement}
 use Rattle.lists.proofs.member_of.Tie as tie
 
--- src/lib.rt:54:8
 is-skipped-requires : tie.Need-is-skipped-requires
 is-skipped-requires c κs = search needs
 
--- src/lib.rt:55:9
 returns : tie.Need-returns
 returns c = search member-skipped
 
--- src/lib.rt:57:8
 is-end-requires : tie.Need-is-end-requires
 is-end-requires c κs = search needs
 
--- src/lib.rt:58:9
 returns-2 : tie.Need-returns-2
 returns-2 c = search member-ends
 
--- src/lib.rt:51:1
 returns-3 : tie.Need-returns-3
 returns-3 c = search member-listed
 

@@ -3,39 +3,30 @@ use borrow.Author.Needs.{needs}
 use Rattle.milestone.proofs.book.Statement.{statement}
 use Rattle.milestone.proofs.book.Tie as tie
 
--- src/lib.rt:208:9
 book-code-requires : tie.Need-book-code-requires
 book-code-requires c κs = search needs
 
--- src/lib.rt:209:28
 source-requires : tie.Need-source-requires
 source-requires c κs = search needs
 
--- src/lib.rt:209:9
 part-requires : tie.Need-part-requires
 part-requires c κs = search needs
 
--- src/lib.rt:210:22
 window-requires : tie.Need-window-requires
 window-requires c κs = search needs
 
--- src/lib.rt:210:48
 book-rest-requires : tie.Need-book-rest-requires
 book-rest-requires c κs = search needs
 
--- src/lib.rt:210:9
 put-book-requires : tie.Need-put-book-requires
 put-book-requires c κs = search needs
 
--- src/lib.rt:211:9
 named-book-requires : tie.Need-named-book-requires
 named-book-requires c κs = search needs
 
--- src/lib.rt:204:1
 same-length : tie.Need-same-length
 same-length c = search needs
 
--- src/lib.rt:204:1
 returns : tie.Need-returns
 returns c = search book-emitted
 

@@ -3,39 +3,30 @@ use borrow.Author.Needs.{needs}
 use Rattle.milestone.proofs.put_book.Statement.{statement}
 use Rattle.milestone.proofs.put_book.Tie as tie
 
--- src/lib.rt:195:9
 put-book-head-requires : tie.Need-put-book-head-requires
 put-book-head-requires c κs = search needs
 
--- src/lib.rt:196:8
 is-blank-requires : tie.Need-is-blank-requires
 is-blank-requires c κs = search needs
 
--- src/lib.rt:197:25
 slice-aggregate-put-run : tie.Need-slice-aggregate-put-run
 slice-aggregate-put-run c = search needs
 
--- src/lib.rt:197:9
 put-run-requires : tie.Need-put-run-requires
 put-run-requires c κs = search needs
 
--- src/lib.rt:199:9
 put-book-rest-requires : tie.Need-put-book-rest-requires
 put-book-rest-requires c κs = search needs
 
--- src/lib.rt:192:1
 same-length : tie.Need-same-length
 same-length c = search needs
 
--- src/lib.rt:192:1
 returns : tie.Need-returns
 returns c = search book-alone
 
--- src/lib.rt:192:1
 same-length-2 : tie.Need-same-length-2
 same-length-2 c = search needs
 
--- src/lib.rt:192:1
 returns-2 : tie.Need-returns-2
 returns-2 c = search book-around
 

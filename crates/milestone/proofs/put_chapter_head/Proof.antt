@@ -3,31 +3,24 @@ use borrow.Author.Needs.{needs}
 use Rattle.milestone.proofs.put_chapter_head.Statement.{statement}
 use Rattle.milestone.proofs.put_chapter_head.Tie as tie
 
--- src/lib.rt:41:29
 slice-aggregate-put-run : tie.Need-slice-aggregate-put-run
 slice-aggregate-put-run c = search needs
 
--- src/lib.rt:41:9
 put-run-requires : tie.Need-put-run-requires
 put-run-requires c κs = search needs
 
--- src/lib.rt:42:9
 put-number-requires : tie.Need-put-number-requires
 put-number-requires c κs = search needs
 
--- src/lib.rt:43:21
 slice-aggregate-put-run-2 : tie.Need-slice-aggregate-put-run-2
 slice-aggregate-put-run-2 c = search needs
 
--- src/lib.rt:43:5
 put-run-requires-2 : tie.Need-put-run-requires-2
 put-run-requires-2 c κs = search needs
 
--- src/lib.rt:38:1
 same-length : tie.Need-same-length
 same-length c = search needs
 
--- src/lib.rt:38:1
 returns : tie.Need-returns
 returns c = search chapter-head
 

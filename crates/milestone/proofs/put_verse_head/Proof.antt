@@ -3,31 +3,24 @@ use borrow.Author.Needs.{needs}
 use Rattle.milestone.proofs.put_verse_head.Statement.{statement}
 use Rattle.milestone.proofs.put_verse_head.Tie as tie
 
--- src/lib.rt:79:29
 slice-aggregate-put-run : tie.Need-slice-aggregate-put-run
 slice-aggregate-put-run c = search needs
 
--- src/lib.rt:79:9
 put-run-requires : tie.Need-put-run-requires
 put-run-requires c κs = search needs
 
--- src/lib.rt:80:9
 escape-xml-attr-requires : tie.Need-escape-xml-attr-requires
 escape-xml-attr-requires c κs = search needs
 
--- src/lib.rt:81:21
 slice-aggregate-put-run-2 : tie.Need-slice-aggregate-put-run-2
 slice-aggregate-put-run-2 c = search needs
 
--- src/lib.rt:81:5
 put-run-requires-2 : tie.Need-put-run-requires-2
 put-run-requires-2 c κs = search needs
 
--- src/lib.rt:76:1
 same-length : tie.Need-same-length
 same-length c = search needs
 
--- src/lib.rt:76:1
 returns : tie.Need-returns
 returns c = search verse-head
 

@@ -3,31 +3,24 @@ use borrow.Author.Needs.{needs}
 use Rattle.milestone.proofs.put_verse_sid.Statement.{statement}
 use Rattle.milestone.proofs.put_verse_sid.Tie as tie
 
--- src/lib.rt:88:29
 slice-aggregate-put-run : tie.Need-slice-aggregate-put-run
 slice-aggregate-put-run c = search needs
 
--- src/lib.rt:88:9
 put-run-requires : tie.Need-put-run-requires
 put-run-requires c κs = search needs
 
--- src/lib.rt:89:9
 put-verse-id-requires : tie.Need-put-verse-id-requires
 put-verse-id-requires c κs = search needs
 
--- src/lib.rt:90:21
 slice-aggregate-put-run-2 : tie.Need-slice-aggregate-put-run-2
 slice-aggregate-put-run-2 c = search needs
 
--- src/lib.rt:90:5
 put-run-requires-2 : tie.Need-put-run-requires-2
 put-run-requires-2 c κs = search needs
 
--- src/lib.rt:85:1
 same-length : tie.Need-same-length
 same-length c = search needs
 
--- src/lib.rt:85:1
 returns : tie.Need-returns
 returns c = search verse-sid
 

@@ -3,43 +3,33 @@ use borrow.Author.Needs.{needs}
 use Rattle.turns.proofs.look.Statement.{statement}
 use Rattle.turns.proofs.look.Tie as tie
 
--- src/lib.rt:137:19
 normalize-text-requires : tie.Need-normalize-text-requires
 normalize-text-requires c κs = search needs
 
--- src/lib.rt:136:9
 returns : tie.Need-returns
 returns c = (search look-behind, search kept-next)
 
--- src/lib.rt:141:8
 ends-white-requires : tie.Need-ends-white-requires
 ends-white-requires c κs = search needs
 
--- src/lib.rt:142:13
 solid-behind-requires : tie.Need-solid-behind-requires
 solid-behind-requires c κs = search needs
 
--- src/lib.rt:144:51
 inline-at-requires : tie.Need-inline-at-requires
 inline-at-requires c κs = search needs
 
--- src/lib.rt:144:19
 normalize-text-requires-2 : tie.Need-normalize-text-requires-2
 normalize-text-requires-2 c κs = search needs
 
--- src/lib.rt:143:9
 returns-2 : tie.Need-returns-2
 returns-2 c = (search look-solid, search kept-solid)
 
--- src/lib.rt:149:15
 normalize-text-requires-3 : tie.Need-normalize-text-requires-3
 normalize-text-requires-3 c κs = search needs
 
--- src/lib.rt:150:15
 past-requires : tie.Need-past-requires
 past-requires c κs = search needs
 
--- src/lib.rt:122:1
 returns-3 : tie.Need-returns-3
 returns-3 c = (search look-unasked, search look-past)
 

@@ -3,27 +3,21 @@ use borrow.Author.Needs.{needs}
 use Rattle.turns.proofs.note_text.Statement.{statement}
 use Rattle.turns.proofs.note_text.Tie as tie
 
--- src/lib.rt:268:9
 text-requires : tie.Need-text-requires
 text-requires c κs = search needs
 
--- src/lib.rt:270:12
 sub-if2 : tie.Need-sub-if2
 sub-if2 c = search needs
 
--- src/lib.rt:271:13
 remainder-requires : tie.Need-remainder-requires
 remainder-requires c κs = search needs
 
--- src/lib.rt:271:13
 returns : tie.Need-returns
 returns c = search first-text
 
--- src/lib.rt:265:1
 returns-2 : tie.Need-returns-2
 returns-2 c = search later-text
 
--- src/lib.rt:265:1
 returns-3 : tie.Need-returns-3
 returns-3 c = search root-text
 

@@ -3,55 +3,42 @@ use borrow.Author.Needs.{needs}
 use Rattle.turns.proofs.note_turn.Statement.{statement}
 use Rattle.turns.proofs.note_turn.Tie as tie
 
--- src/lib.rt:328:85
 enum-told : tie.Need-enum-told
 enum-told c = search needs
 
--- src/lib.rt:328:25
 note-words-requires : tie.Need-note-words-requires
 note-words-requires c κs = search needs
 
--- src/lib.rt:329:26
 enum-told-2 : tie.Need-enum-told-2
 enum-told-2 c = search needs
 
--- src/lib.rt:329:26
 passed-turn-requires : tie.Need-passed-turn-requires
 passed-turn-requires c κs = search needs
 
--- src/lib.rt:330:26
 enum-told-3 : tie.Need-enum-told-3
 enum-told-3 c = search needs
 
--- src/lib.rt:330:26
 passed-turn-requires-2 : tie.Need-passed-turn-requires-2
 passed-turn-requires-2 c κs = search needs
 
--- src/lib.rt:331:27
 enum-told-4 : tie.Need-enum-told-4
 enum-told-4 c = search needs
 
--- src/lib.rt:331:27
 passed-turn-requires-3 : tie.Need-passed-turn-requires-3
 passed-turn-requires-3 c κs = search needs
 
--- src/lib.rt:311:1
 same-length : tie.Need-same-length
 same-length c = search needs
 
--- src/lib.rt:311:1
 returns : tie.Need-returns
 returns c = (search note-turn-words, (search needs, search turn-left))
 
--- src/lib.rt:311:1
 returns-2 : tie.Need-returns-2
 returns-2 c = (search note-turn-passed, (search needs, search turn-left))
 
--- src/lib.rt:311:1
 returns-3 : tie.Need-returns-3
 returns-3 c = (search note-turn-anchor, (search needs, search turn-left))
 
--- src/lib.rt:311:1
 returns-4 : tie.Need-returns-4
 returns-4 c = (search note-turn-skipped, (search needs, search turn-left))
 

@@ -3,15 +3,12 @@ use borrow.Author.Needs.{needs}
 use Rattle.turns.proofs.passed_turn.Statement.{statement}
 use Rattle.turns.proofs.passed_turn.Tie as tie
 
--- src/lib.rt:228:9
 next-sibling-requires : tie.Need-next-sibling-requires
 next-sibling-requires c κs = search needs
 
--- src/lib.rt:232:15
 past-requires : tie.Need-past-requires
 past-requires c κs = search needs
 
--- src/lib.rt:222:1
 returns : tie.Need-returns
 returns c = (search needs, (search needs, (search passed-kept, search needs)))
 

@@ -3,59 +3,45 @@ use borrow.Author.Needs.{needs}
 use Rattle.turns.proofs.plain_turn.Statement.{statement}
 use Rattle.turns.proofs.plain_turn.Tie as tie
 
--- src/lib.rt:259:65
 enum-told : tie.Need-enum-told
 enum-told c = search needs
 
--- src/lib.rt:259:26
 anchor-turn-requires : tie.Need-anchor-turn-requires
 anchor-turn-requires c κs = search needs
 
--- src/lib.rt:260:77
 enum-told-2 : tie.Need-enum-told-2
 enum-told-2 c = search needs
 
--- src/lib.rt:260:25
 words-turn-requires : tie.Need-words-turn-requires
 words-turn-requires c κs = search needs
 
--- src/lib.rt:261:26
 enum-told-3 : tie.Need-enum-told-3
 enum-told-3 c = search needs
 
--- src/lib.rt:261:26
 passed-turn-requires : tie.Need-passed-turn-requires
 passed-turn-requires c κs = search needs
 
--- src/lib.rt:262:27
 enum-told-4 : tie.Need-enum-told-4
 enum-told-4 c = search needs
 
--- src/lib.rt:262:27
 passed-turn-requires-2 : tie.Need-passed-turn-requires-2
 passed-turn-requires-2 c κs = search needs
 
--- src/lib.rt:242:1
 same-length : tie.Need-same-length
 same-length c = search needs
 
--- src/lib.rt:242:1
 returns : tie.Need-returns
 returns c = (search plain-anchor, (search anchor-kept, search needs))
 
--- src/lib.rt:242:1
 same-length-2 : tie.Need-same-length-2
 same-length-2 c = search needs
 
--- src/lib.rt:242:1
 returns-2 : tie.Need-returns-2
 returns-2 c = (search plain-words, (search needs, search turn-left))
 
--- src/lib.rt:242:1
 returns-3 : tie.Need-returns-3
 returns-3 c = (search plain-passed, (search needs, search turn-left))
 
--- src/lib.rt:242:1
 returns-4 : tie.Need-returns-4
 returns-4 c = (search plain-skipped, (search needs, search turn-left))
 

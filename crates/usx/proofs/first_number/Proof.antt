@@ -12,35 +12,27 @@ Inv-loop file tape i₀ i = Ahead (tapeIn tape file) i × (i ≤ tape .nodes)
 abbrev μ-loop : tie.MeasureT-loop
 μ-loop file tape i₀ i = tape .nodes - i
 
--- src/lib.rt:26:5
 loop-holds : tie.Need-loop-holds Inv-loop μ-loop
 loop-holds c = (search ahead-start, omega arith)
 
--- src/lib.rt:27:20
 new-requires : tie.Need-new-requires Inv-loop μ-loop
 new-requires c κs = search needs
 
--- src/lib.rt:27:13
 kind-requires : tie.Need-kind-requires Inv-loop μ-loop
 kind-requires c κs = search needs
 
--- src/lib.rt:29:13
 returns : tie.Need-returns Inv-loop μ-loop
 returns c = search number-zero
 
--- src/lib.rt:31:9
 add-i : tie.Need-add-i Inv-loop μ-loop
 add-i c = omega arith
 
--- src/lib.rt:26:5
 loop-less : tie.Need-loop-less Inv-loop μ-loop
 loop-less c = omega arith
 
--- src/lib.rt:26:5
 loop-again : tie.Need-loop-again Inv-loop μ-loop
 loop-again c = (search ahead-turn, omega arith)
 
--- src/lib.rt:21:1
 returns-2 : tie.Need-returns-2 Inv-loop μ-loop
 returns-2 c = search number-one
 

@@ -4,39 +4,30 @@ use borrow.Author.Needs.{needs}
 use Rattle.usx.proofs.write_in.Statement.{statement}
 use Rattle.usx.proofs.write_in.Tie as tie
 
--- src/lib.rt:72:9
 first-number-requires : tie.Need-first-number-requires
 first-number-requires c κs = search needs
 
--- src/lib.rt:73:44
 slice-relend-prefix-write-text : tie.Need-slice-relend-prefix-write-text
 slice-relend-prefix-write-text c = search needs
 
--- src/lib.rt:73:44
 slice-aggregate-write-text : tie.Need-slice-aggregate-write-text
 slice-aggregate-write-text c = search needs
 
--- src/lib.rt:73:9
 write-text-requires : tie.Need-write-text-requires
 write-text-requires c κs = search needs
 
--- src/lib.rt:75:17
 write-text-requires-2 : tie.Need-write-text-requires-2
 write-text-requires-2 c κs = search needs
 
--- src/lib.rt:69:1
 same-length : tie.Need-same-length
 same-length c = search needs
 
--- src/lib.rt:69:1
 returns : tie.Need-returns
 returns c = room (tapeIn (c .before .before .before .before .before .before .before .before .before .before .before .before .args .tape) (c .before .before .before .before .before .before .before .before .before .before .before .before .args .file .now)) _ (c .before .before .before .before .before .before .before .before .before .before .before .before .args .out .now) (c .before .before .before .before .before .before .before .write-text .last .1 .1 .1 .0) _ _ (c .before .before .before .before .before .before .before .write-text .ensures .0 (c .before .before .before .before .before .before .before .before .before .first-number .ensures)) (c .before .before .before .before .before .before .before .write-text .kept .1 .1 .1 .0) (c .before .before .before .before .if1 .taken) (c .before .before .write-text2 .ensures .1 (c .before .before .before .before .before .before .before .before .before .first-number .ensures))
 
--- src/lib.rt:69:1
 same-length-2 : tie.Need-same-length-2
 same-length-2 c = search needs
 
--- src/lib.rt:69:1
 returns-2 : tie.Need-returns-2
 returns-2 c = no-room (tapeIn (c .before .before .before .before .before .before .before .before .args .tape) (c .before .before .before .before .before .before .before .before .args .file .now)) _ (c .before .before .before .before .before .before .before .before .args .out .now) (c .before .before .before .write-text .last .1 .1 .1 .0) _ (c .before .before .before .write-text .ensures .0 (c .before .before .before .before .before .first-number .ensures)) (c .before .before .before .write-text .kept .1 .1 .1 .0) (c .if1 .left)
 

@@ -3,47 +3,36 @@ use borrow.Author.Needs.{needs}
 use Rattle.sink.proofs.ident.end_chapter.Statement.{statement}
 use Rattle.sink.proofs.ident.end_chapter.Tie as tie
 
--- src/ident.rt:50:35
 enum-told : tie.Need-enum-told
 enum-told c = search needs
 
--- src/ident.rt:51:30
 enum-known-held : tie.Need-enum-known-held
 enum-known-held c = search needs
 
--- src/ident.rt:52:37
 slice-aggregate-put-run : tie.Need-slice-aggregate-put-run
 slice-aggregate-put-run c = search needs
 
--- src/ident.rt:52:17
 put-run-requires : tie.Need-put-run-requires
 put-run-requires c κs = search needs
 
--- src/ident.rt:53:44
 part-requires : tie.Need-part-requires
 part-requires c κs = search needs
 
--- src/ident.rt:53:17
 put-chapter-id-requires : tie.Need-put-chapter-id-requires
 put-chapter-id-requires c κs = search needs
 
--- src/ident.rt:54:29
 slice-aggregate-put-run-2 : tie.Need-slice-aggregate-put-run-2
 slice-aggregate-put-run-2 c = search needs
 
--- src/ident.rt:54:13
 put-run-requires-2 : tie.Need-put-run-requires-2
 put-run-requires-2 c κs = search needs
 
--- src/ident.rt:46:1
 returns : tie.Need-returns
 returns c = search chapter-shut
 
--- src/ident.rt:46:1
 same-length : tie.Need-same-length
 same-length c = search needs
 
--- src/ident.rt:46:1
 returns-2 : tie.Need-returns-2
 returns-2 c = search chapter-ended
 

@@ -3,51 +3,39 @@ use borrow.Author.Needs.{needs}
 use Rattle.sink.proofs.ident.end_verse.Statement.{statement}
 use Rattle.sink.proofs.ident.end_verse.Tie as tie
 
--- src/ident.rt:64:31
 enum-told : tie.Need-enum-told
 enum-told c = search needs
 
--- src/ident.rt:65:26
 enum-known-held : tie.Need-enum-known-held
 enum-known-held c = search needs
 
--- src/ident.rt:66:37
 slice-aggregate-put-run : tie.Need-slice-aggregate-put-run
 slice-aggregate-put-run c = search needs
 
--- src/ident.rt:66:17
 put-run-requires : tie.Need-put-run-requires
 put-run-requires c κs = search needs
 
--- src/ident.rt:67:17
 part-requires : tie.Need-part-requires
 part-requires c κs = search needs
 
--- src/ident.rt:68:56
 part-requires-2 : tie.Need-part-requires-2
 part-requires-2 c κs = search needs
 
--- src/ident.rt:68:17
 put-verse-id-requires : tie.Need-put-verse-id-requires
 put-verse-id-requires c κs = search needs
 
--- src/ident.rt:69:29
 slice-aggregate-put-run-2 : tie.Need-slice-aggregate-put-run-2
 slice-aggregate-put-run-2 c = search needs
 
--- src/ident.rt:69:13
 put-run-requires-2 : tie.Need-put-run-requires-2
 put-run-requires-2 c κs = search needs
 
--- src/ident.rt:60:1
 returns : tie.Need-returns
 returns c = search verse-shut
 
--- src/ident.rt:60:1
 same-length : tie.Need-same-length
 same-length c = search needs
 
--- src/ident.rt:60:1
 returns-2 : tie.Need-returns-2
 returns-2 c = search verse-ended
 

@@ -3,27 +3,21 @@ use borrow.Author.Needs.{needs}
 use Rattle.sink.proofs.ident.put_chapter_id.Statement.{statement}
 use Rattle.sink.proofs.ident.put_chapter_id.Tie as tie
 
--- src/ident.rt:31:9
 put-shown-requires : tie.Need-put-shown-requires
 put-shown-requires c κs = search needs
 
--- src/ident.rt:32:29
 slice-aggregate-put-run : tie.Need-slice-aggregate-put-run
 slice-aggregate-put-run c = search needs
 
--- src/ident.rt:32:9
 put-run-requires : tie.Need-put-run-requires
 put-run-requires c κs = search needs
 
--- src/ident.rt:33:5
 put-number-requires : tie.Need-put-number-requires
 put-number-requires c κs = search needs
 
--- src/ident.rt:28:1
 same-length : tie.Need-same-length
 same-length c = search needs
 
--- src/ident.rt:28:1
 returns : tie.Need-returns
 returns c = search chapter-id
 

@@ -3,27 +3,21 @@ use borrow.Author.Needs.{needs}
 use Rattle.sink.proofs.ident.put_shown.Statement.{statement}
 use Rattle.sink.proofs.ident.put_shown.Tie as tie
 
--- src/ident.rt:21:9
 put-run-requires : tie.Need-put-run-requires
 put-run-requires c κs = search needs
 
--- src/ident.rt:23:9
 escape-xml-attr-requires : tie.Need-escape-xml-attr-requires
 escape-xml-attr-requires c κs = search needs
 
--- src/ident.rt:17:1
 same-length : tie.Need-same-length
 same-length c = search needs
 
--- src/ident.rt:17:1
 returns : tie.Need-returns
 returns c = search shown-raw
 
--- src/ident.rt:17:1
 same-length-2 : tie.Need-same-length-2
 same-length-2 c = search needs
 
--- src/ident.rt:17:1
 returns-2 : tie.Need-returns-2
 returns-2 c = search shown-escaped
 

@@ -14,35 +14,27 @@ Inv-loop out₀ level v₀ left₀ t6 out v left = (paint (pageOf v out) (indent
 abbrev μ-loop : tie.MeasureT-loop
 μ-loop out₀ level v₀ left₀ t6 out v left = left
 
--- src/plain.rt:51:5
 loop-holds : tie.Need-loop-holds Inv-loop μ-loop
 loop-holds c = (refl, refl)
 
--- src/plain.rt:52:29
 slice-aggregate-put-run : tie.Need-slice-aggregate-put-run Inv-loop μ-loop
 slice-aggregate-put-run c = search needs
 
--- src/plain.rt:52:9
 put-run-requires : tie.Need-put-run-requires Inv-loop μ-loop
 put-run-requires c κs = search needs
 
--- src/plain.rt:53:9
 sub-left : tie.Need-sub-left Inv-loop μ-loop
 sub-left c = omega arith
 
--- src/plain.rt:51:5
 loop-less : tie.Need-loop-less Inv-loop μ-loop
 loop-less c = omega arith
 
--- src/plain.rt:51:5
 loop-again : tie.Need-loop-again Inv-loop μ-loop
 loop-again c = (search indent-turn, search needs)
 
--- src/plain.rt:46:1
 same-length : tie.Need-same-length Inv-loop μ-loop
 same-length c = search needs
 
--- src/plain.rt:46:1
 returns : tie.Need-returns Inv-loop μ-loop
 returns c = search indent-end
 
