@@ -7,11 +7,10 @@ use Rattle.chars.specs.Range.{within, inAny}
 use Rattle.chars.specs.Utf8.{table37, fits, rowLen, seqLen, step, cutAt, characters, isSequence, every, isUtf8, point, codeOf, isBoundary}
 use Rattle.chars.specs.Space.{whiteSpace, isWhite}
 use Rattle.words.specs.Words.{stepOf, charsOf, white, takeWhile, onto, pieces, nonempty, words}
-use Rattle.tape.specs.File.{le16, le32, nodeOf, entryOf, recordsOf, tapeIn, sectionsOf, tapeOf, nodeAt, entryAt, textAt, bearsMarker, infoAt}
+use Rattle.tape.specs.File.{le16, le32, nodeOf, entryOf, recordsOf, tapeIn, sectionsOf, tapeOf, nodeAt, entryAt, textAt, bearsMarker, infoAt, elementOf, baseLen}
 use Rattle.tape.specs.Name.{strip, bare, endsName, inName, nameIn, markerName}
 use Rattle.nest.specs.Nest.{container, close, partOf}
 use Rattle.nest.specs.Decide.{deepFrom, tooDeep, stepOf as nestStep, matchFrom, allMatched, rootEnds, sound}
-use Rattle.admit.specs.Rules.{baseLen, elementOf}
 use Rattle.admit.specs.Refusal.{Refusal}
 use Rattle.admit.specs.Decide.{allBelow, laidOut, small, goodByte, goodEntry, goodNames, labelCut, goodNode, goodNodes, refusalIn, refusal}
 use Rattle.admit.specs.Encode.{node, entry, file}

@@ -14,12 +14,9 @@ use Rattle.parts.specs.Bytes.{Bytes, part}
 use Rattle.chars.specs.Utf8.{characters, isBoundary}
 use Rattle.words.specs.Words.{words}
 use Rattle.words.specs.declared.Set.the-variants.{Unicode}
-use Rattle.tape.specs.File.{sourceAt, tapeIn, nodeAt, textAt, infoAt}
+use Rattle.tape.specs.File.{sourceAt, tapeIn, nodeAt, textAt, infoAt, baseLen}
 use Rattle.tape.specs.Name.{bare, nameLen, nameIn, markerName}
 use Rattle.tape.specs.declared.Node.{Node}
-use Rattle.tape.specs.declared.Entry.{Entry}
-use Rattle.tape.specs.declared.Info.{Info}
-use Rattle.tape.specs.declared.Info.the-variants.{Known, Unknown}
 use Rattle.tape.specs.declared.Sections.{Sections}
 use Rattle.tape.proofs.Laws.{node-count}
 use Rattle.tape.proofs.NameRule.{name-of}
@@ -28,20 +25,9 @@ use Rattle.places.specs.declared.Test.the-variants.{Ender, Gap}
 use Rattle.places.proofs.Runs.{name-le}
 use Rattle.places.proofs.Spans.{span-name, span-words, bare-span, bare-le, solid-bare}
 use Rattle.nest.proofs.Tape.{no-is, yes-is, clash}
-use Rattle.admit.specs.Rules.{LabelCut, baseLen}
+use Rattle.admit.specs.Rules.{LabelCut}
 use Rattle.admit.specs.Pieces.{SoundNode, SoundNodes, GoodLabel, GoodVerse, GoodVerses, Tables}
 use Rattle.admit.proofs.All.{holds, fails}
-
--- ---- entries
-
-module _ {i : Info} where
-  pub base-known : {e : Entry} {n : ℕ} → i ≡ Known e → n ≡ e .len → n ≡ baseLen i
-  unfolding baseLen
-  base-known h en = en ∙ sym (ap baseLen h)
-
-  pub base-unknown : i ≡ Unknown → 0 ≡ baseLen i
-  unfolding baseLen
-  base-unknown h = sym (ap baseLen h)
 
 -- ---- the label's cut
 
@@ -65,10 +51,7 @@ name-long : (s : Bytes) → length (nameIn s) ≡ nameLen (bare s)
 unfolding nameIn nameLen
 name-long s = refl
 
-module _ (c : Sections) (file : Bytes) (k : ℕ) {i : Info} {base : ℕ} (ei : i ≡ infoAt (tapeIn c file) k) (eb : base ≡ baseLen i) where
-  base-is : base ≡ baseLen (infoAt (tapeIn c file) k)
-  base-is = eb ∙ ap baseLen ei
-
+module _ (c : Sections) (file : Bytes) (k : ℕ) {base : ℕ} (base-is : base ≡ baseLen (infoAt (tapeIn c file) k)) where
   module _ {text name : Bytes} {b : Bool} (et : text ≡ textAt (tapeIn c file) k) (en : name ≡ bare text) (ec : b ≡ isBoundary name base) where
     name-is : name ≡ bare (textAt (tapeIn c file) k)
     name-is = en ∙ ap bare et

@@ -9,15 +9,13 @@ use lib.Dec.{eqb}
 use borrow.Author.Tests.{eq-eqb, ne-eqb, not-true, not-false}
 use Rattle.parts.specs.Bytes.{Bytes}
 use Rattle.chars.specs.Utf8.{isBoundary}
-use Rattle.tape.specs.File.{Tape, tapeIn, nodeAt, kindAt, infoAt}
+use Rattle.tape.specs.File.{Tape, tapeIn, nodeAt, kindAt, infoAt, elementOf}
 use Rattle.tape.specs.declared.Node.{Node}
-use Rattle.tape.specs.declared.Entry.{Entry}
-use Rattle.tape.specs.declared.Info.{Info}
-use Rattle.tape.specs.declared.Info.the-variants.{Known, Unknown}
+use Rattle.tape.specs.declared.kinds.Element.{Element}
 use Rattle.tape.specs.declared.Sections.{Sections}
 use Rattle.tape.proofs.Laws.{node-count}
 use Rattle.nest.proofs.Tape.{no-is, yes-is, clash}
-use Rattle.admit.specs.Rules.{GoodNode, GoodNodes, elementOf}
+use Rattle.admit.specs.Rules.{GoodNode, GoodNodes}
 use Rattle.admit.specs.Pieces.{GoodShape, GoodSpan, SoundNode, SoundNodes, GoodVerse, GoodVerses}
 use Rattle.admit.proofs.All.{eq-is, same-is, holds, fails, all-more, all-broken, all-kept}
 
@@ -62,17 +60,8 @@ module _ (s : Bytes) (n : Node) {a l : ℕ} (ea : a ≡ n .start) (el : l ≡ n 
 
 -- ---- entries
 
-module _ {i : Info} where
-  pub element-known : {e : Entry} → i ≡ Known e → e .element .code ≡ elementOf i
-  unfolding elementOf
-  element-known h = sym (ap elementOf h)
-
-  pub element-unknown : i ≡ Unknown → 0 ≡ elementOf i
-  unfolding elementOf
-  element-unknown h = sym (ap elementOf h)
-
-pub plain-is : (t : Tape) (k : ℕ) {i : Info} {n : ℕ} → i ≡ infoAt t k → n ≡ elementOf i → (eqb n 0 ≡ true) ↔ (elementOf (infoAt t k) ≡ 0)
-plain-is t k {n = n} ei en = eq-is n 0 (λ e. sym (en ∙ ap elementOf ei) ∙ e) (λ e. en ∙ ap elementOf ei ∙ e)
+pub plain-is : (t : Tape) (k : ℕ) {e : Element} → e .code ≡ elementOf (infoAt t k) → (eqb (e .code) 0 ≡ true) ↔ (elementOf (infoAt t k) ≡ 0)
+plain-is t k {e} h = eq-is (e .code) 0 (λ z. sym h ∙ z) (λ z. h ∙ z)
 
 -- ---- a node
 

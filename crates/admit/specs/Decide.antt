@@ -7,11 +7,10 @@ use Rattle.parts.specs.Bytes.{Bytes}
 use Rattle.chars.specs.Utf8.{isUtf8, isBoundary}
 use Rattle.words.specs.Words.{words}
 use Rattle.words.specs.declared.Set.the-variants.{Unicode}
-use Rattle.tape.specs.File.{le32, sectionsOf, entriesAt, namesAt, sourceAt, Tape, tapeOf, nodeAt, entryAt, kindAt, textAt, infoAt}
+use Rattle.tape.specs.File.{le32, sectionsOf, entriesAt, namesAt, sourceAt, Tape, tapeOf, nodeAt, entryAt, kindAt, textAt, infoAt, elementOf, baseLen}
 use Rattle.tape.specs.Name.{markerName}
 use Rattle.tape.specs.declared.Entry.{Entry}
 use Rattle.nest.specs.Decide.{tooDeep, sound}
-use Rattle.admit.specs.Rules.{baseLen, elementOf}
 
 -- whether all indices below n pass a test
 unfoldable pub allBelow : (ℕ → Bool) → ℕ → Bool

@@ -7,13 +7,13 @@ use Prim.Native.Nat.{ℕ, _+_, _≤_, _<_}
 use lib.ListN.{length, getD, drop}
 use Rattle.parts.specs.Bytes.{Bytes}
 use Rattle.chars.specs.Utf8.{isBoundary}
-use Rattle.tape.specs.File.{le32, entriesAt, namesAt, sourceAt, Tape, nodeAt, entryAt, kindAt, infoAt}
+use Rattle.tape.specs.File.{le32, entriesAt, namesAt, sourceAt, Tape, nodeAt, entryAt, kindAt, infoAt, elementOf, baseLen}
 use Rattle.tape.specs.Name.{markerName}
 use Rattle.tape.specs.declared.Node.{Node}
 use Rattle.tape.specs.declared.Sections.{Sections}
 use Rattle.places.specs.Seek.{Right}
 use Rattle.places.specs.declared.Test.the-variants.{Ender, Gap}
-use Rattle.admit.specs.Rules.{GoodEntry, baseLen, elementOf, LabelCut}
+use Rattle.admit.specs.Rules.{GoodEntry, LabelCut}
 
 -- 1: the offsets of a header are those of these counts
 pub record Offsets (file : Bytes) (c : Sections) : Type 0 where

@@ -8,11 +8,9 @@ use Rattle.parts.specs.Bytes.{Bytes}
 use Rattle.chars.specs.Utf8.{isUtf8, isBoundary}
 use Rattle.words.specs.Words.{words}
 use Rattle.words.specs.declared.Set.the-variants.{Unicode}
-use Rattle.tape.specs.File.{le32, sectionsOf, entriesAt, namesAt, sourceAt, Tape, nodeAt, entryAt, kindAt, textAt, infoAt}
+use Rattle.tape.specs.File.{le32, sectionsOf, entriesAt, namesAt, sourceAt, Tape, nodeAt, entryAt, kindAt, textAt, infoAt, elementOf, baseLen}
 use Rattle.tape.specs.Name.{markerName}
 use Rattle.tape.specs.declared.Entry.{Entry}
-use Rattle.tape.specs.declared.Info.{Info}
-use Rattle.tape.specs.declared.Info.the-variants.{Known, Unknown}
 
 -- 1: at least 36 bytes, format 1, offsets and the file's length as laid out
 pub record LaidOut (file : Bytes) : Type 0 where
@@ -46,16 +44,6 @@ pub record GoodEntry (t : Tape) (e : Entry) : Type 0 where
 pub record GoodNames (t : Tape) : Type 0 where
   pub bytes : (i : ℕ) → i < length (t .names) → (33 ≤ getD (t .names) i 0) × (getD (t .names) i 0 ≤ 126)
   pub entries : (i : ℕ) → i < length (t .entries) → GoodEntry t (entryAt t i)
-
--- how long the name of a node's entry is; unknown counts 0
-unfoldable pub baseLen : Info → ℕ
-baseLen (Known e) = e .len
-baseLen Unknown = 0
-
--- the element of a node's entry; unknown counts 0
-unfoldable pub elementOf : Info → ℕ
-elementOf (Known e) = e .element .code
-elementOf Unknown = 0
 
 -- a label is cut out of the marker name where there is no second word and the name is longer than the entry's
 pub record LabelCut (t : Tape) (k : ℕ) : Type 0 where

@@ -2,20 +2,13 @@
 ghost use mathlib.Core.Path.{_≡_};
 ghost use mathlib.Core.Bool.{true};
 ghost use mathlib.Core.Logic.{_↔_};
-ghost use Prim.Native.Nat.{_<_, _^_};
+ghost use Prim.Native.Nat.{_<_};
 ghost use lib.ListN.{drop};
 ghost use Rattle.tape.specs.File.{le32};
 ghost use Rattle.admit.specs.Rules.{LaidOut, Small};
 ghost use Rattle.admit.specs.Pieces.{Offsets};
 use tape::Sections;
-
-// A u32 as a length.
-pub fn long(x: u32) -> usize
-    ensures { λ r. ⌜ r ≡ x ⌝ }
-    ensures { λ r. ⌜ r < 2 ^ 32 ⌝ }
-{
-    x as usize
-}
+use tape::long;
 
 // The number that stands at a place of the header.
 fn word_at(file: &[u8], at: usize) -> usize

@@ -3,25 +3,12 @@ ghost use mathlib.Core.Path.{_≡_};
 ghost use mathlib.Core.Bool.{true};
 ghost use mathlib.Core.Logic.{_↔_};
 ghost use Rattle.tape.specs.File.{tapeIn};
-ghost use Rattle.admit.specs.Rules.{baseLen};
 ghost use Rattle.admit.specs.Pieces.{SoundNode, SoundNodes, GoodLabel, GoodVerse, GoodVerses, Tables};
-use crate::header::long;
-use crate::names::short;
 use places::Test;
 use tape::Cursor;
-use tape::Info;
 use tape::Kind;
 use tape::Sections;
-
-// How long the name of an entry is; unknown counts 0.
-fn base_len(known: Info) -> usize
-    ensures { λ r. ⌜ r ≡ baseLen known ⌝ }
-{
-    match known {
-        Info::Known(e) => short(e.len),
-        Info::Unknown => 0,
-    }
-}
+use tape::long;
 
 // Whether the cut falls between characters, or the node is no Verse.
 fn is_clear(file: &[u8], t: Sections, k: u32) -> bool
@@ -30,7 +17,7 @@ fn is_clear(file: &[u8], t: Sections, k: u32) -> bool
     let n = tape::node_at(file, t, k);
     if n.kind.code == Kind::VERSE {
         let c = Cursor { at: k };
-        let base = base_len(c.marker_info(file, t));
+        let base = c.base_len(file, t);
         return chars::is_boundary(tape::bare(c.text(file, t)), base);
     }
     true
@@ -55,7 +42,7 @@ fn good_label(file: &[u8], t: Sections, k: u32, enders: &[u32], gaps: &[u32]) ->
     ensures { λ r. ⌜ (Tables (tapeIn t (now (file .entry)) .source) (now (enders .entry)) (now (gaps .entry)) → SoundNode (tapeIn t (now (file .entry))) k → (r ≡ true) ↔ GoodLabel (tapeIn t (now (file .entry))) k) ⌝ }
 {
     let c = Cursor { at: k };
-    let base = base_len(c.marker_info(file, t));
+    let base = c.base_len(file, t);
     let text = c.text(file, t);
     let name = tape::bare(text);
     if chars::is_boundary(name, base) {

@@ -5,15 +5,9 @@ ghost use mathlib.Core.Logic.{_↔_};
 ghost use Rattle.tape.specs.File.{tapeIn, entryAt};
 ghost use Rattle.admit.specs.Rules.{GoodEntry, GoodNames};
 ghost use Rattle.admit.specs.Pieces.{GoodByte, GoodBytes, GoodEntries};
-use crate::header::long;
 use tape::Sections;
-
-// A u16 as a length.
-pub fn short(x: u16) -> usize
-    ensures { λ r. ⌜ r ≡ x ⌝ }
-{
-    x as usize
-}
+use tape::long;
+use tape::short;
 
 // Whether a byte can stand in a name.
 fn good_byte(x: u8) -> bool

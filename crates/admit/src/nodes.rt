@@ -2,16 +2,15 @@
 ghost use mathlib.Core.Path.{_≡_};
 ghost use mathlib.Core.Bool.{true};
 ghost use mathlib.Core.Logic.{_↔_};
-ghost use Rattle.tape.specs.File.{tapeIn, infoAt};
-ghost use Rattle.admit.specs.Rules.{GoodNodes, elementOf};
+ghost use Rattle.tape.specs.File.{tapeIn, infoAt, elementOf};
+ghost use Rattle.admit.specs.Rules.{GoodNodes};
 ghost use Rattle.admit.specs.Pieces.{GoodShape, GoodSpan, SoundNode, SoundNodes};
-use crate::header::long;
 use crate::labels::good_labels;
 use tape::Cursor;
-use tape::Info;
 use tape::Kind;
 use tape::Node;
 use tape::Sections;
+use tape::long;
 
 // Whether kind and flags are known, and Root is the node at index 0 and no other.
 fn good_shape(n: Node, k: u32) -> bool
@@ -44,22 +43,12 @@ fn good_span(source: &[u8], n: Node) -> bool
     chars::is_boundary(source, end)
 }
 
-// The element of an entry; unknown counts 0.
-fn element_of(known: Info) -> u8
-    ensures { λ r. ⌜ r ≡ elementOf known ⌝ }
-{
-    match known {
-        Info::Known(e) => e.element.code,
-        Info::Unknown => 0,
-    }
-}
-
 // Whether a node's entry stands for no element of its own.
 fn is_plain(file: &[u8], t: Sections, k: u32) -> bool
     ensures { λ r. ⌜ (r ≡ true) ↔ elementOf (infoAt (tapeIn t (now (file .entry))) k) ≡ 0 ⌝ }
 {
     let c = Cursor { at: k };
-    element_of(c.marker_info(file, t)) == 0
+    c.element(file, t).code == 0
 }
 
 // What is asked of a node but for its label.

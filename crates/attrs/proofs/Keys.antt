@@ -2,9 +2,10 @@
 use mathlib.Core.Path.{_≡_, sym, ap, _∙_}
 use mathlib.Core.Bool.{Bool, true, false}
 use Rattle.parts.specs.Bytes.{Bytes, b, part, same, begins}
+use Rattle.words.specs.Words.{bytesOf}
 use Rattle.words.specs.declared.Part.{Part}
 use Rattle.attrs.specs.Attr.{isWordMarker, defaultKey, keyFor}
-use Rattle.attrs.specs.Walk.{fixedKeys, bytesOf, keyOf}
+use Rattle.attrs.specs.Walk.{fixedKeys, keyOf}
 use Rattle.attrs.specs.declared.Key.{Key}
 use Rattle.attrs.specs.declared.Key.the-variants.{Own, Fixed}
 

@@ -8,12 +8,12 @@ use lib.ListN.{length, take, drop, length-drop, length-take}
 use lib.Dec.{ltb}
 use borrow.Author.Tests.{lt-ltb, le-ltb, ltb-true, ltb-false}
 use Rattle.parts.specs.Bytes.{Bytes, b, part, find}
-use Rattle.words.specs.Words.{words, lastOf, whiteLen}
+use Rattle.words.specs.Words.{words, lastOf, whiteLen, bytesOf}
 use Rattle.words.specs.declared.Set.the-variants.{Unicode}
 use Rattle.words.specs.declared.Part.{Part}
 use Rattle.words.proofs.Texts.{white-le}
 use Rattle.attrs.specs.Attr.{Pair, shown, valueAt, equals, hasEquals, keyIn, keyed, pairsFrom, pairsIn}
-use Rattle.attrs.specs.Walk.{bytesOf, Spot, Front}
+use Rattle.attrs.specs.Walk.{Spot, Front}
 use Rattle.attrs.specs.declared.Taken.{Taken}
 use Rattle.attrs.proofs.Values.{Within, value-within}
 

@@ -7,9 +7,10 @@ use native.Mathlib.Omega.{arith}
 use lib.ListN.{length, take, drop, length-drop, length-take}
 use lib.Seq.{drop-drop, take-nil, length-take-le}
 use Rattle.parts.specs.Bytes.{Bytes, part}
+use Rattle.words.specs.Words.{bytesOf}
 use Rattle.words.specs.declared.Part.{Part}
 use Rattle.attrs.specs.Attr.{Pair, shown, keyed, pairsIn}
-use Rattle.attrs.specs.Walk.{bytesOf, valueOf, Front, FirstOf, itemList}
+use Rattle.attrs.specs.Walk.{valueOf, Front, FirstOf, itemList}
 use Rattle.attrs.specs.declared.Taken.{Taken}
 use Rattle.attrs.specs.declared.First.{First}
 use Rattle.attrs.specs.declared.First.the-variants.{Pair as FirstPair, Nothing as FirstNone}

@@ -9,7 +9,7 @@ use lib.Seq.{drop-drop}
 use borrow.Author.Tests.{eq-eqb, ne-eqb, lt-ltb, le-ltb}
 use Rattle.parts.specs.Bytes.{Bytes, b, part, same, begins, find}
 use Rattle.parts.proofs.Laws.{begins-fits}
-use Rattle.words.specs.Words.{trimStart, trimEnd, trim, whiteLen}
+use Rattle.words.specs.Words.{trimStart, trimEnd, trim, whiteLen, bytesOf}
 use Rattle.words.specs.declared.Set.the-variants.{Unicode}
 use Rattle.words.specs.declared.Part.{Part}
 use Rattle.words.proofs.Texts.{white-le, trim-start-drop, trim-end-take, trim-end-le}
@@ -23,7 +23,7 @@ use Rattle.tape.specs.declared.Step.{Step}
 use Rattle.tape.specs.declared.Step.the-variants.{At, Done}
 use Rattle.tape.proofs.Walk.{walk-turn, walk-end, children-walk}
 use Rattle.attrs.specs.Attr.{Pair, shown, equals, hasEquals, pairsIn, defaultKey, keyFor, keyedFor, bodyOf, pairsOf, pairsAt, pairsAlong, attributesOf}
-use Rattle.attrs.specs.Walk.{fixedKeys, bytesOf, Spot, valueOf, keyOf, itemList, gotList, remaining, nextList, firstOf, soughtOf}
+use Rattle.attrs.specs.Walk.{fixedKeys, Spot, valueOf, keyOf, itemList, gotList, remaining, nextList, firstOf, soughtOf}
 use Rattle.attrs.specs.declared.Value.{Value}
 use Rattle.attrs.specs.declared.Key.{Key}
 use Rattle.attrs.specs.declared.Key.the-variants.{Fixed}

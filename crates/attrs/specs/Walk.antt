@@ -6,6 +6,7 @@ use mathlib.Core.Bool.{cond}
 use mathlib.Core.Option.{Option, none, some}
 use lib.ListN.{length, drop}
 use Rattle.parts.specs.Bytes.{Bytes, b, part, same}
+use Rattle.words.specs.Words.{bytesOf}
 use Rattle.words.specs.declared.Part.{Part}
 use Rattle.tape.specs.File.{Tape}
 use Rattle.tape.specs.Tree.{walkFrom}
@@ -29,10 +30,6 @@ use Rattle.attrs.specs.declared.Sought.the-variants.{At, Nowhere}
 -- the keys that stand in no source
 abbrev pub fixedKeys : Bytes
 fixedKeys = b "lemmaglosshrefloclink-hrefidwhodefaultfile"
-
--- the bytes of a part
-abbrev pub bytesOf : Bytes → Part → Bytes
-bytesOf s p = part s (p .start) (p .len)
 
 -- a part of a text that is these bytes
 pub record Spot (s : Bytes) (p : Part) (w : Bytes) : Type 0 where

@@ -3,19 +3,20 @@ use tape::Cursor;
 use tape::Kind;
 use tape::Sections;
 use tape::Step;
+use tape::long;
 use words::Part;
 use words::Set;
 ghost use mathlib.Core.Path.{_≡_};
 ghost use mathlib.Core.List.{map};
-ghost use Prim.Native.Nat.{_+_, _≤_, _<_, _^_, min};
+ghost use Prim.Native.Nat.{_+_, _≤_, _<_, min};
 ghost use lib.ListN.{length, drop};
 ghost use Rattle.tape.specs.Name.{strip};
 ghost use Rattle.parts.specs.Bytes.{Bytes};
-ghost use Rattle.words.specs.Words.{words as wordsOf, lastOf};
+ghost use Rattle.words.specs.Words.{words as wordsOf, lastOf, bytesOf};
 ghost use Rattle.words.specs.declared.Set.the-variants.{Unicode};
 ghost use Rattle.tape.specs.File.{tapeIn, textAt};
 ghost use Rattle.attrs.specs.Attr.{closesAt, quotedLen, pieceLen, valueAt, pairsIn, isWordMarker, defaultKey, keyFor, keyedFor, bodyOf, pairsOf, pairsAt, pairsAlong, attributesOf};
-ghost use Rattle.attrs.specs.Walk.{fixedKeys, bytesOf, Spot, keyOf, FirstOf, itemList, gotList, remaining, nextList, firstOf, soughtOf};
+ghost use Rattle.attrs.specs.Walk.{fixedKeys, Spot, keyOf, FirstOf, itemList, gotList, remaining, nextList, firstOf, soughtOf};
 ghost use Rattle.tape.specs.Tree.{walkFrom};
 
 // A value at the front of a text: its part, whether it is quoted, and where what follows it starts.
@@ -349,13 +350,6 @@ fn body_at(file: &[u8], tape: Sections, c: Cursor) -> Part
         start: long(n.start) + body.start,
         len: body.len,
     }
-}
-
-fn long(x: u32) -> usize
-    ensures { λ r. ⌜ r ≡ x ⌝ }
-    ensures { λ r. ⌜ r < 2 ^ 32 ⌝ }
-{
-    x as usize
 }
 
 // The first pair of a node.

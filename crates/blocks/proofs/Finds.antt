@@ -4,19 +4,18 @@ use mathlib.Core.Bool.{Bool, true, false}
 use mathlib.Core.List.{List, [], _∷_}
 use Prim.Native.Nat.{ℕ}
 use Rattle.tape.specs.File.{Tape}
-use Rattle.tape.specs.Tree.{nextSibling}
+use Rattle.tape.specs.Tree.{nextSibling, found}
 use Rattle.tape.specs.declared.Cursor.{Cursor}
 use Rattle.tape.specs.declared.Step.{Step}
 use Rattle.tape.specs.declared.Step.the-variants.{At, Done}
-use Rattle.render.specs.First.{firstWith, found, any}
+use Rattle.render.specs.First.{firstWith, any}
 use Rattle.render.proofs.Finds.{first-hit, first-miss}
 use Rattle.events.specs.Walk.{fromFirst}
 use Rattle.lists.specs.Span.{nodesIn, memberOf}
 use Rattle.lists.specs.declared.Span.{Span}
 use Rattle.lists.specs.declared.Member.{Member}
 use Rattle.lists.specs.declared.Member.the-variants.{End, Skipped, Listed}
-use Rattle.lists.proofs.Nodes.{nodes-done}
-use Rattle.tables.proofs.Spans.{nodes-cut, nodes-skip, nodes-go}
+use Rattle.lists.proofs.Nodes.{nodes-done, nodes-cut, nodes-skip, nodes-go}
 
 -- ---- the first that passes a test
 

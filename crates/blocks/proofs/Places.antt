@@ -15,10 +15,11 @@ use Rattle.tape.proofs.Walk.{left-turn, up-to-go}
 use Rattle.render.specs.Shape.{isRow, isChapter, isVerse, isElement, isTopLevelBlock}
 use Rattle.render.proofs.Shapes.{kind-is, kind-not}
 use Rattle.fold.specs.Fold.{Folded, foldAt, numberOf}
-use Rattle.fold.specs.declared.Folds.{Folds}
 use Rattle.lists.specs.Span.{nodesIn, memberOf, foldedIn, cutAt, filtered}
 use Rattle.lists.specs.declared.Span.{Span}
 use Rattle.lists.specs.declared.Member.the-variants.{Listed}
+use Rattle.lists.specs.declared.Folds.{Folds}
+use Rattle.lists.proofs.Nodes.{nodes-go}
 use Rattle.tags.specs.Items.{start, close, line, valueOf, attrBytes, attrsBytes, bytesOf}
 use Rattle.tags.specs.Names.{nameOf}
 use Rattle.events.specs.Event.{Event, item, chapter, rawly, element}
@@ -30,7 +31,7 @@ use Rattle.sink.specs.Desk.{deskIn, putOn}
 use Rattle.sink.specs.declared.Sink.{Sink}
 use Rattle.sink.proofs.Chains.{item-on}
 use Rattle.tables.specs.Rows.{isNoRow}
-use Rattle.tables.proofs.Spans.{up-row, nodes-go}
+use Rattle.tables.proofs.Spans.{up-row}
 use Rattle.blocks.specs.Blocks.{holderOf, runOpens, runIn}
 use Rattle.blocks.specs.declared.Holder.the-variants.{Sidebar, Periph, Neither}
 

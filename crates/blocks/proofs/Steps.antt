@@ -15,8 +15,7 @@ use Rattle.lists.specs.Span.{nodesIn, memberOf, cutAt, filtered}
 use Rattle.lists.specs.declared.Span.{Span}
 use Rattle.lists.specs.declared.Member.{Member}
 use Rattle.lists.specs.declared.Member.the-variants.{End, Skipped, Listed}
-use Rattle.lists.proofs.Nodes.{nodes-done}
-use Rattle.tables.proofs.Spans.{nodes-cut, nodes-skip}
+use Rattle.lists.proofs.Nodes.{nodes-done, nodes-cut, nodes-skip}
 use Rattle.tags.specs.Items.{start, empty, close, line}
 use Rattle.events.specs.Event.{Event, item}
 use Rattle.events.specs.Walk.{levelOf, holder, sidebarIn, periphIn, blocksE, aSidebar, aPeriph, blockTurn}

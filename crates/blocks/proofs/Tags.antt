@@ -26,13 +26,13 @@ use Rattle.render.proofs.Shapes.{kind-is, kind-not}
 use Rattle.attrs.specs.Attr.{attributesOf}
 use Rattle.tags.specs.Items.{Attr, Item, start, empty, close, line, valueOf, attrBytes, attrsBytes, bytesOf}
 use Rattle.tags.specs.Names.{nameOf}
+use Rattle.tags.proofs.Rendered.{attrs-append}
 use Rattle.events.specs.Event.{item, rawly, escaped, perhaps, collected}
 use Rattle.events.specs.Walk.{style, unclosed}
 use Rattle.events.specs.Emit.{Desk, emit, emitAll}
 use Rattle.sink.specs.Desk.{windowIn, overBy, deskIn, putOn}
 use Rattle.sink.specs.declared.Sink.{Sink}
 use Rattle.sink.proofs.Chains.{paint-three, item-on, desk-item}
-use Rattle.tagging.proofs.Written.{attrs-append}
 use Rattle.blocks.specs.Blocks.{holderOf, isBlockOrRow, sidebarAttrs, periphAttrs, attrsOf, elementNo}
 use Rattle.blocks.specs.declared.Holder.the-variants.{Sidebar, Periph, Neither}
 

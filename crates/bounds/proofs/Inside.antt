@@ -12,12 +12,12 @@ use Rattle.texts.specs.Text.{bodyOf, hasBreak, written, segments}
 use Rattle.texts.specs.declared.Normalized.{Normalized}
 use Rattle.words.specs.declared.Set.the-variants.{Unicode}
 use Rattle.tape.specs.File.{Tape, tapeOf, kindAt, textAt, numberAt, isNested}
-use Rattle.tape.specs.Tree.{children, firstChild}
+use Rattle.tape.specs.Tree.{children, firstChild, found}
 use Rattle.tape.specs.Name.{markerName}
 use Rattle.tape.specs.declared.Step.{Step}
 use Rattle.tape.specs.declared.Step.the-variants.{At, Done}
 use Rattle.render.specs.Shape.{isOpen, isChapter, isVerse}
-use Rattle.render.specs.First.{any, found}
+use Rattle.render.specs.First.{any}
 use Rattle.render.specs.Follow.{followed}
 use Rattle.render.specs.Children.{hasContent}
 use Rattle.render.specs.Label.{labelOf}

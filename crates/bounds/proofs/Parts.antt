@@ -10,18 +10,18 @@ use lib.Dec.{eqb}
 use Rattle.parts.specs.Bytes.{Bytes, b}
 use Rattle.words.specs.Words.{words, joined}
 use Rattle.words.specs.declared.Set.the-variants.{Ascii, Unicode}
-use Rattle.tape.specs.File.{Tape, tapeOf, nodeAt, kindAt, textAt, infoAt, isSynthetic}
+use Rattle.tape.specs.File.{Tape, tapeOf, nodeAt, kindAt, textAt, infoAt, isSynthetic, baseLen}
 use Rattle.tape.specs.Tree.{children, firstChild}
 use Rattle.tape.specs.Name.{strip, markerName}
 use Rattle.tape.specs.declared.Step.{Step}
 use Rattle.tape.specs.declared.Step.the-variants.{At, Done}
 use Rattle.render.specs.Shape.{isText}
 use Rattle.render.specs.Children.{firstText}
-use Rattle.render.specs.Label.{baseLen, labelOf}
+use Rattle.render.specs.Label.{labelOf}
 use Rattle.render.specs.Note.{leadText, callerOr, noteCaller, trimmedAt, categoryText, categoryOf, textOf as textUnder, firstWords, bookCode, bookRest, unlessEmpty, periphAlt}
 use Rattle.attrs.specs.Attr.{attributesOf}
 use Rattle.attrs.specs.Walk.{firstOf}
-use Rattle.figure.specs.Figure.{split, fieldAt, trimmedAt as describedAt, describedBy, firstOfKind, valued, legacyPairs}
+use Rattle.figure.specs.Figure.{split, fieldAt, trimmedAt as describedAt, describedBy, valued, legacyPairs}
 use Rattle.fold.specs.Fold.{textOf, textsOf, numberIn, claimOf, Folded, isSome, foldFrom, foldAt}
 use Rattle.fold.specs.declared.Claim.{Claim}
 use Rattle.fold.specs.declared.Claim.the-variants.{Blank, Alt, Pub, Stops}
@@ -126,7 +126,7 @@ module _ (file : Bytes) (z : Kept₇ file) where
 
   by-limit : (k : ℕ) → length (describedBy t k) ≤ 4194304
   unfolding describedBy
-  by-limit k = described-limit (firstOfKind t 1 (children t k))
+  by-limit k = described-limit (firstText t k)
 
   field-cost : (key : Bytes) (a n : ℕ) → attrsCost (collected (valued key (fieldAt t a n))) ≤ 26000000 + length key
   field-cost key a n = omega (arith, valued-most key (fieldAt t a n), field-limit a n)

@@ -2,40 +2,10 @@
 use mathlib.Core.Path.{refl}
 use mathlib.Core.List.{List, [], _∷_, _++_}
 use Prim.Native.Nat.{ℕ, zero, suc}
-use Rattle.parts.specs.Bytes.{Bytes, b}
+use Rattle.parts.specs.Bytes.{b}
 use Rattle.admit.specs.Encode.{file}
 use Rattle.events.proofs.Answered.{answered}
-use Rattle.events.proofs.Tapes.{Piece, words, attribute, verse, block, inline, Marker, marker, tape, row, Holds, Each, Example, _by_, rows, each, usxOf, usx, para, times}
-
--- ---- the entries of every tape here
-
-abbrev p : ℕ
-p = 0
-
-abbrev v : ℕ
-v = 1
-
-abbrev va : ℕ
-va = 2
-
-abbrev w : ℕ
-w = 3
-
-abbrev f : ℕ
-f = 4
-
-abbrev tr : ℕ
-tr = 5
-
-abbrev tc : ℕ
-tc = 6
-
-abbrev markers : List Marker
-markers = marker "p" 3 0 ∷ marker "v" 2 0 ∷ marker "va" 4 0 ∷ marker "w" 4 0 ∷ marker "f" 5 0 ∷ marker "tr" 3 3 ∷ marker "tc" 4 0 ∷ []
-
--- Root and its children
-abbrev tapeOf : List Piece → Bytes
-tapeOf = tape markers
+use Rattle.events.proofs.Tapes.{Piece, words, attribute, verse, block, inline, row, Holds, Each, Example, _by_, rows, each, usxOf, usx, para, times, p, v, va, w, f, tr, tc, tapeOf}
 
 -- so many containers inside one another
 abbrev deep : ℕ → List Piece

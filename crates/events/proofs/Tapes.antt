@@ -158,3 +158,78 @@ para s = usxOf (b "\n  <para style=\"p\">" ++ (b s ++ b "</para>"))
 abbrev pub times : ℕ → Bytes → Bytes
 times zero s = []
 times (suc n) s = s ++ times n s
+
+-- ---- the entries of every tape of the tables
+
+abbrev pub id : ℕ
+id = 0
+
+abbrev pub usfm : ℕ
+usfm = 1
+
+abbrev pub c : ℕ
+c = 2
+
+abbrev pub v : ℕ
+v = 3
+
+abbrev pub p : ℕ
+p = 4
+
+abbrev pub cp : ℕ
+cp = 5
+
+abbrev pub vb : ℕ
+vb = 6
+
+abbrev pub tr : ℕ
+tr = 7
+
+abbrev pub nd : ℕ
+nd = 8
+
+abbrev pub xt : ℕ
+xt = 9
+
+abbrev pub ref : ℕ
+ref = 10
+
+abbrev pub va : ℕ
+va = 11
+
+abbrev pub vp : ℕ
+vp = 12
+
+abbrev pub ca : ℕ
+ca = 13
+
+abbrev pub cat : ℕ
+cat = 14
+
+abbrev pub fig : ℕ
+fig = 15
+
+abbrev pub tc : ℕ
+tc = 16
+
+abbrev pub f : ℕ
+f = 17
+
+abbrev pub ts : ℕ
+ts = 18
+
+abbrev pub esb : ℕ
+esb = 19
+
+abbrev pub periph : ℕ
+periph = 20
+
+abbrev pub w : ℕ
+w = 21
+
+abbrev pub markers : List Marker
+markers = marker "id" 0 0 ∷ marker "usfm" 0 0 ∷ marker "c" 1 0 ∷ marker "v" 2 0 ∷ marker "p" 3 0 ∷ marker "cp" 3 0 ∷ marker "va" 3 0 ∷ marker "tr" 3 3 ∷ marker "nd" 4 0 ∷ marker "xt" 4 0 ∷ marker "ref" 4 0 ∷ marker "va" 4 0 ∷ marker "vp" 4 0 ∷ marker "ca" 4 0 ∷ marker "cat" 4 0 ∷ marker "fig" 4 0 ∷ marker "tc" 4 0 ∷ marker "f" 5 0 ∷ marker "ts" 6 0 ∷ marker "esb" 7 1 ∷ marker "periph" 7 2 ∷ marker "w" 4 0 ∷ []
+
+-- Root and its children
+abbrev pub tapeOf : List Piece → Bytes
+tapeOf = tape markers

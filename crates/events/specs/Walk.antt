@@ -9,14 +9,14 @@ use Rattle.parts.specs.Bytes.{Bytes, b, same}
 use Rattle.texts.specs.Text.{bodyOf, hasBreak, normalizeText, written, segments}
 use Rattle.texts.specs.declared.Normalized.{Normalized}
 use Rattle.tape.specs.File.{Tape, kindAt, nodeAt, textAt, infoAt, isSynthetic, isNested, numberAt, entryName}
-use Rattle.tape.specs.Tree.{children, firstChild, upTo, without}
+use Rattle.tape.specs.Tree.{children, firstChild, upTo, without, found}
 use Rattle.tape.specs.Name.{markerName}
 use Rattle.tape.specs.declared.Info.{Info}
 use Rattle.tape.specs.declared.Info.the-variants.{Known, Unknown}
 use Rattle.tape.specs.declared.Step.{Step}
 use Rattle.tape.specs.declared.Step.the-variants.{At, Done}
 use Rattle.render.specs.Shape.{isOpen, isChapter, isVerse, isRow, isElement, isTopLevelBlock, isCategoryMarker, trimsAfter, unknownShape}
-use Rattle.render.specs.First.{any, found}
+use Rattle.render.specs.First.{any}
 use Rattle.render.specs.Follow.{inlineFollows, followed}
 use Rattle.render.specs.Children.{hasContent}
 use Rattle.render.specs.Label.{labelOf}

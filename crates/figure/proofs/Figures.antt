@@ -1,4 +1,4 @@
--- Laws of figures: the first child of a kind, fields between bars.
+-- Laws of figures: old or of today, fields between bars.
 use mathlib.Core.Path.{_≡_, refl, sym, ap, _∙_}
 use mathlib.Core.Bool.{Bool, true, false, cond}
 use mathlib.Core.List.{List, [], _∷_}
@@ -11,41 +11,27 @@ use borrow.Author.Tests.{eq-eqb, ne-eqb, eqb-true, eqb-false, lt-ltb, le-ltb, lt
 use Rattle.parts.specs.Bytes.{Bytes, b, part, begins, firstAt, find}
 use Rattle.words.specs.Words.{trim, onto}
 use Rattle.words.specs.declared.Set.the-variants.{Unicode}
-use Rattle.tape.specs.File.{Tape, kindAt, textAt}
+use Rattle.tape.specs.File.{Tape, textAt}
 use Rattle.tape.specs.Name.{strip}
-use Rattle.tape.specs.Tree.{children, firstChild, nextSibling, walkFrom}
-use Rattle.tape.specs.declared.kinds.Kind.{Kind}
+use Rattle.tape.specs.Tree.{children, firstChild, walkFrom}
 use Rattle.tape.specs.declared.Cursor.{Cursor}
 use Rattle.tape.specs.declared.Step.{Step}
 use Rattle.tape.specs.declared.Step.the-variants.{At, Done}
-use Rattle.tape.proofs.Walk.{walk-turn, walk-end, children-walk}
+use Rattle.tape.proofs.Walk.{children-walk}
+use Rattle.render.specs.First.{firstWith}
+use Rattle.render.specs.Shape.{isAttribute}
+use Rattle.render.specs.Children.{passes, firstText}
+use Rattle.render.specs.declared.children.Test.the-variants.{Attribute}
 use Rattle.attrs.specs.Attr.{equals, hasEquals}
-use Rattle.figure.specs.Figure.{firstOfKind, ifLegacy, legacyAt, split, fieldAt, trimmedAt, describedBy, valued}
-
--- ---- the first child of a kind
-
-module _ (t : Tape) (k kind : ℕ) (s : Step) {s₀ : Step} (e₀ : s₀ ≡ firstChild t k) (inv : firstOfKind t kind (walkFrom t s) ≡ firstOfKind t kind (walkFrom t s₀)) where
-  all : firstOfKind t kind (walkFrom t s) ≡ firstOfKind t kind (children t k)
-  all = inv ∙ ap (firstOfKind t kind) (children-walk t k e₀)
-
-  pub child-none : s ≡ Done → Done ≡ firstOfKind t kind (children t k)
-  unfolding firstOfKind
-  child-none e = sym (ap (firstOfKind t kind) (walk-end t e)) ∙ all
-
-  pub child-found : {c : Cursor} → s ≡ At c → {z : Kind} → z .code ≡ kindAt t (c .at) → z .code ≡ kind → At c ≡ firstOfKind t kind (children t k)
-  unfolding firstOfKind
-  child-found {c} ec ez h = sym (ap (firstOfKind t kind) (walk-turn t c ec refl) ∙ rw (eq-eqb (kindAt t (c .at)) kind (sym ez ∙ h))) ∙ all
-
-pub child-on : (t : Tape) (kind : ℕ) (s s₀ n : Step) → firstOfKind t kind (walkFrom t s) ≡ firstOfKind t kind (walkFrom t s₀) → {c : Cursor} → s ≡ At c
-    → {z : Kind} → z .code ≡ kindAt t (c .at) → (z .code ≡ kind → ⊥) → n ≡ nextSibling t (c .at)
-    → firstOfKind t kind (walkFrom t n) ≡ firstOfKind t kind (walkFrom t s₀)
-unfolding firstOfKind
-child-on t kind s s₀ n inv {c} ec ez h en =
-    sym (ap (firstOfKind t kind) (walk-turn t c ec en) ∙ rw (ne-eqb (kindAt t (c .at)) kind (λ e. h (ez ∙ e)))) ∙ inv
+use Rattle.figure.specs.Figure.{ifLegacy, legacyAt, split, fieldAt, trimmedAt, describedBy, valued}
 
 -- ---- old or of today
 
-module _ (t : Tape) (k : ℕ) {f : Step} (ef : f ≡ firstOfKind t 2 (children t k)) where
+module _ (t : Tape) (k : ℕ) {s f : Step} (es : s ≡ firstChild t k) (fs : f ≡ firstWith (passes t Attribute) (walkFrom t s)) where
+  ef : f ≡ firstWith (isAttribute t) (children t k)
+  unfolding passes
+  ef = fs ∙ ap (firstWith (isAttribute t)) (children-walk t k es)
+
   pub legacy-none : f ≡ Done → Done ≡ legacyAt t k
   unfolding legacyAt ifLegacy
   legacy-none e = sym (ap (ifLegacy t) (sym ef ∙ e))
@@ -148,7 +134,7 @@ field-trimmed t a n ex eb ef er = er ∙ rw (ef, eb, ex)
 
 -- ---- the description
 
-module _ (t : Tape) (k : ℕ) {f : Step} (ef : f ≡ firstOfKind t 1 (children t k)) where
+module _ (t : Tape) (k : ℕ) {f : Step} (ef : f ≡ firstText t k) where
   pub described-none : f ≡ Done → {r : Bytes} → r ≡ [] → r ≡ describedBy t k
   unfolding describedBy trimmedAt
   described-none e er = er ∙ ap (trimmedAt t) (sym e ∙ ef)

@@ -7,17 +7,15 @@ use lib.Dec.{eqb}
 use Rattle.parts.specs.Bytes.{Bytes, b}
 use Rattle.words.specs.Words.{trim, onto}
 use Rattle.words.specs.declared.Set.the-variants.{Unicode}
-use Rattle.tape.specs.File.{Tape, kindAt, textAt}
+use Rattle.tape.specs.File.{Tape, textAt}
 use Rattle.tape.specs.Name.{strip}
 use Rattle.tape.specs.Tree.{children}
 use Rattle.tape.specs.declared.Step.{Step}
 use Rattle.tape.specs.declared.Step.the-variants.{At, Done}
+use Rattle.render.specs.First.{firstWith}
+use Rattle.render.specs.Shape.{isAttribute}
+use Rattle.render.specs.Children.{firstText}
 use Rattle.attrs.specs.Attr.{Pair, hasEquals}
-
--- the first node of a list that has a kind
-unfoldable pub firstOfKind : Tape → ℕ → List ℕ → Step
-firstOfKind t kind [] = Done
-firstOfKind t kind (k ∷ ks) = cond (eqb (kindAt t k) kind) (At (record { at = k })) (firstOfKind t kind ks)
 
 unfoldable pub ifLegacy : Tape → Step → Step
 ifLegacy t Done = Done
@@ -25,7 +23,7 @@ ifLegacy t (At a) = cond (hasEquals (strip 124 (textAt t (a .at)))) Done (At a)
 
 -- `figure_legacy_raw`: the first Attribute, where it has no `=` behind one `|`
 unfoldable pub legacyAt : Tape → ℕ → Step
-legacyAt t k = ifLegacy t (firstOfKind t 2 (children t k))
+legacyAt t k = ifLegacy t (firstWith (isAttribute t) (children t k))
 
 -- a text split at a byte
 unfoldable pub split : ℕ → Bytes → List Bytes
@@ -42,7 +40,7 @@ trimmedAt t (At c) = trim Unicode (textAt t (c .at))
 
 -- the description: the first Text child, trimmed
 unfoldable pub describedBy : Tape → ℕ → Bytes
-describedBy t k = trimmedAt t (firstOfKind t 1 (children t k))
+describedBy t k = trimmedAt t (firstText t k)
 
 -- a pair unless its value is empty
 unfoldable pub valued : Bytes → Bytes → List Pair

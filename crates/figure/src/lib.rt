@@ -1,6 +1,6 @@
 // Figures of old, whose attributes stand in a row of fields.
+use render::Test;
 use tape::Cursor;
-use tape::Kind;
 use tape::Sections;
 use tape::Step;
 use words::Set;
@@ -9,24 +9,7 @@ ghost use mathlib.Core.List.{[]};
 ghost use lib.ListN.{getD};
 ghost use Rattle.tape.specs.File.{tapeIn};
 ghost use Rattle.tape.specs.Name.{strip};
-ghost use Rattle.tape.specs.Tree.{children};
-ghost use Rattle.figure.specs.Figure.{firstOfKind, legacyAt, split, fieldAt, describedBy};
-
-// The first child of a kind.
-fn child_of(file: &[u8], tape: Sections, c: Cursor, kind: u8) -> Step
-    ensures { λ r. ⌜ r ≡ firstOfKind (tapeIn tape (now (file .entry))) kind (children (tapeIn tape (now (file .entry))) (c .at)) ⌝ }
-{
-    let mut step = c.first_child(file, tape);
-    loop {
-        let Step::At(child) = step else {
-            return Step::Done;
-        };
-        if child.kind(file, tape).code == kind {
-            return Step::At(child);
-        }
-        step = child.next_sibling(file, tape);
-    }
-}
+ghost use Rattle.figure.specs.Figure.{legacyAt, split, fieldAt, describedBy};
 
 // A text without one `|` in front.
 fn without_bar(s: &[u8]) -> &[u8]
@@ -43,7 +26,7 @@ fn without_bar(s: &[u8]) -> &[u8]
 pub fn legacy(file: &[u8], tape: Sections, c: Cursor) -> Step
     ensures { λ r. ⌜ r ≡ legacyAt (tapeIn tape (now (file .entry))) (c .at) ⌝ }
 {
-    match child_of(file, tape, c, Kind::ATTRIBUTE) {
+    match render::find(file, tape, Test::Attribute, c.first_child(file, tape)) {
         Step::Done => Step::Done,
         Step::At(a) => {
             let body = without_bar(a.text(file, tape));
@@ -87,7 +70,7 @@ pub fn field(file: &[u8], tape: Sections, a: Cursor, n: usize) -> &[u8]
 pub fn description(file: &[u8], tape: Sections, c: Cursor) -> &[u8]
     ensures { λ r. ⌜ now r ≡ describedBy (tapeIn tape (now (file .entry))) (c .at) ⌝ }
 {
-    match child_of(file, tape, c, Kind::TEXT) {
+    match render::first_text(file, tape, c) {
         Step::Done => parts::part(file, 0, 0),
         Step::At(child) => words::trim(child.text(file, tape), Set::Unicode),
     }

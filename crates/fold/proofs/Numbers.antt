@@ -11,7 +11,7 @@ use borrow.Author.Tests.{lt-ltb, eq-eqb, ne-eqb}
 use Rattle.parts.specs.Bytes.{Bytes, part}
 use Rattle.chars.specs.Utf8.{cutAt}
 use Rattle.chars.specs.Space.{isAsciiWhite}
-use Rattle.words.specs.Words.{stepOf, charsOf, white, solid, takeWhile, onto, pieces, nonempty, words, joined, whiteLen, wordLen, trimStart}
+use Rattle.words.specs.Words.{stepOf, charsOf, white, solid, takeWhile, onto, pieces, nonempty, words, joined, whiteLen, wordLen, trimStart, bytesOf}
 use Rattle.words.specs.declared.Set.the-variants.{Ascii}
 use Rattle.words.specs.declared.Part.{Part}
 use Rattle.words.proofs.Texts.{white-le, word-le, trim-start-drop, word-none}
@@ -22,7 +22,6 @@ use Rattle.tape.specs.declared.Cursor.{Cursor}
 use Rattle.tape.specs.declared.Step.{Step}
 use Rattle.tape.specs.declared.Step.the-variants.{At, Done}
 use Rattle.tape.proofs.Walk.{walk-turn, walk-end, children-walk}
-use Rattle.attrs.specs.Walk.{bytesOf}
 use Rattle.attrs.proofs.Turns.{part-past}
 use Rattle.fold.specs.Fold.{textOf, textsOf, numberIn}
 use Rattle.fold.specs.Number.{spaceIf, collapse, runList, toCome, pieceList, wordSome, pieceSome}

@@ -1,24 +1,21 @@
 -- Alternate and published numbers behind a chapter or verse, by `fold_alt_pub`.
 use Prim.Native.Nat.{ℕ}
 use mathlib.Core.List.{List, [], _∷_, _++_}
-use mathlib.Core.Bool.{Bool, true, false, cond, not, _&&_, _||_}
+use mathlib.Core.Bool.{Bool, true, false, cond, _&&_}
 use mathlib.Core.Option.{Option, none, some}
 use lib.Dec.{eqb}
 use Rattle.parts.specs.Bytes.{Bytes, b, same}
-use Rattle.words.specs.Words.{words, joined, isBlank}
-use Rattle.words.specs.declared.Set.the-variants.{Ascii, Unicode}
+use Rattle.words.specs.Words.{words, joined}
+use Rattle.words.specs.declared.Set.the-variants.{Ascii}
 use Rattle.tape.specs.File.{Tape, kindAt, textAt}
 use Rattle.tape.specs.Name.{markerName}
-use Rattle.tape.specs.Tree.{children, walkFrom}
+use Rattle.tape.specs.Tree.{children}
 use Rattle.tape.specs.declared.Step.{Step}
 use Rattle.tape.specs.declared.Step.the-variants.{At, Done}
+use Rattle.render.specs.Shape.{isOpen, isBlank}
+use Rattle.render.specs.Children.{isPlainText}
 use Rattle.fold.specs.declared.Claim.{Claim}
 use Rattle.fold.specs.declared.Claim.the-variants.{Blank, Alt, Pub, Stops}
-use Rattle.fold.specs.declared.Folds.{Folds}
-
--- `is_blank`: a Text that Unicode's trim leaves nothing of
-unfoldable pub isBlankText : Tape → ℕ → Bool
-isBlankText t k = eqb (kindAt t k) 1 && isBlank Unicode (textAt t k)
 
 unfoldable pub slotBy : Bytes → Bytes → Bytes → Claim
 slotBy name alt published = cond (same name alt) Alt (cond (same name published) Pub Stops)
@@ -35,19 +32,11 @@ free gotAlt gotPub Pub = cond gotPub Stops Pub
 free gotAlt gotPub Blank = Stops
 free gotAlt gotPub Stops = Stops
 
-unfoldable pub anyOpen : Tape → List ℕ → Bool
-anyOpen t [] = false
-anyOpen t (k ∷ ks) = eqb (kindAt t k) 3 || anyOpen t ks
-
--- `is_plain_text`: no child is a MarkerOpen
-unfoldable pub isPlain : Tape → ℕ → Bool
-isPlain t k = not (anyOpen t (children t k))
-
 -- what a node behind an anchor is to the fold, with the numbers that the anchor has already
 unfoldable pub claimOf : Tape → ℕ → Bool → Bool → ℕ → Claim
 claimOf t anchor gotAlt gotPub k =
-    cond (isBlankText t k) Blank
-    (cond (eqb (kindAt t k) 3 && isPlain t k) (free gotAlt gotPub (slotOf anchor (markerName t k))) Stops)
+    cond (isBlank t k) Blank
+    (cond (isOpen t k && isPlainText t k) (free gotAlt gotPub (slotOf anchor (markerName t k))) Stops)
 
 -- the text that a node adds to a number: a Text its own, others none
 unfoldable pub textOf : Tape → ℕ → Bytes
@@ -86,15 +75,7 @@ foldFrom t anchor alt published (k ∷ ks) =
 unfoldable pub foldAt : Tape → ℕ → List ℕ → Folded
 foldAt t anchor ks = foldFrom t anchor none none ks
 
--- ---- what the code's answers stand for
-
+-- the number of the marker that a step leads to
 unfoldable pub numberOf : Tape → Step → Option Bytes
 numberOf t Done = none
 numberOf t (At c) = some (numberIn t (c .at))
-
-unfoldable pub isAt : Step → Bool
-isAt Done = false
-isAt (At c) = true
-
-unfoldable pub foldedOf : Tape → Folds → Folded
-foldedOf t f = record { alt = numberOf t (f .alt); published = numberOf t (f .published); rest = walkFrom t (f .rest) }

@@ -4,10 +4,10 @@ use lib.ListN.{length}
 use mathlib.Core.List.{[], _∷_, _++_}
 use mathlib.Core.Bool.{Bool, true, false, cond, _&&_}
 use Rattle.parts.specs.Bytes.{Bytes}
+use Rattle.words.specs.Words.{bytesOf}
 use Rattle.chars.specs.Space.{isAsciiWhite}
 use Rattle.tape.specs.File.{Tape}
 use Rattle.tape.specs.Tree.{walkFrom}
-use Rattle.attrs.specs.Walk.{bytesOf}
 use Rattle.fold.specs.Fold.{textsOf}
 use Rattle.fold.specs.declared.Run.{Run}
 use Rattle.fold.specs.declared.Run.the-variants.{Word, White}

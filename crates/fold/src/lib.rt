@@ -3,16 +3,16 @@ use tape::Cursor;
 use tape::Kind;
 use tape::Sections;
 use tape::Step;
+use tape::long;
 use words::Part;
 use words::Set;
 ghost use mathlib.Core.Path.{_≡_};
 ghost use mathlib.Core.Bool.{_&&_, _||_};
 ghost use mathlib.Core.List.{_++_};
 ghost use Rattle.parts.specs.Bytes.{Bytes};
-ghost use Rattle.tape.specs.File.{tapeIn, kindAt};
-ghost use Rattle.tape.specs.Tree.{siblings};
-ghost use Rattle.fold.specs.Fold.{isBlankText, slotBy, slotOf, free as freeOf, isPlain, claimOf, isAt, textOf, numberIn, foldAt, foldedOf};
-ghost use Rattle.attrs.specs.Walk.{bytesOf};
+ghost use Rattle.words.specs.Words.{bytesOf};
+ghost use Rattle.tape.specs.File.{tapeIn};
+ghost use Rattle.fold.specs.Fold.{slotBy, slotOf, free as freeOf, claimOf, textOf, numberIn};
 ghost use Rattle.fold.specs.Number.{collapse, runList, toCome, pieceList, wordSome, pieceSome};
 
 // What a node behind an anchor is: nothing, a number that folds, or the end of the fold.
@@ -21,22 +21,6 @@ pub enum Claim {
     Alt,
     Pub,
     Stops,
-}
-
-// The markers that folded, and where the siblings go on.
-pub struct Folds {
-    pub alt: Step,
-    pub published: Step,
-    pub rest: Step,
-}
-
-fn is_blank_text(file: &[u8], tape: Sections, c: Cursor) -> bool
-    ensures { λ r. ⌜ r ≡ isBlankText (tapeIn tape (now (file .entry))) (c .at) ⌝ }
-{
-    if c.kind(file, tape).code != Kind::TEXT {
-        return false;
-    }
-    words::is_blank(c.text(file, tape), Set::Unicode)
 }
 
 // The number that a name stands for behind an anchor.
@@ -76,22 +60,6 @@ fn free(claim: Claim, alt: bool, published: bool) -> Claim
     }
 }
 
-// Whether no child is a MarkerOpen.
-fn is_plain(file: &[u8], tape: Sections, c: Cursor) -> bool
-    ensures { λ r. ⌜ r ≡ isPlain (tapeIn tape (now (file .entry))) (c .at) ⌝ }
-{
-    let mut step = c.first_child(file, tape);
-    loop {
-        let Step::At(child) = step else {
-            return true;
-        };
-        if child.kind(file, tape).code == Kind::MARKER_OPEN {
-            return false;
-        }
-        step = child.next_sibling(file, tape);
-    }
-}
-
 // What a node behind an anchor is to its fold.
 pub fn claims(
     file: &[u8],
@@ -103,7 +71,7 @@ pub fn claims(
 ) -> Claim
     ensures { λ r. ⌜ r ≡ claimOf (tapeIn tape (now (file .entry))) (anchor .code) alt published (c .at) ⌝ }
 {
-    if is_blank_text(file, tape, c) {
+    if render::is_blank(file, tape, c) {
         return Claim::Blank;
     }
     if c.kind(file, tape).code != Kind::MARKER_OPEN {
@@ -113,47 +81,10 @@ pub fn claims(
     if let Claim::Stops = claim {
         return Claim::Stops;
     }
-    if is_plain(file, tape, c) {
+    if render::is_plain_text(file, tape, c) {
         claim
     } else {
         Claim::Stops
-    }
-}
-
-fn is_at(step: Step) -> bool
-    ensures { λ r. ⌜ r ≡ isAt step ⌝ }
-{
-    if let Step::At(_) = step { true } else { false }
-}
-
-// The fold over all the siblings behind an anchor.
-pub fn fold_siblings(file: &[u8], tape: Sections, anchor: Cursor) -> Folds
-    ensures { λ r. ⌜ foldedOf (tapeIn tape (now (file .entry))) r ≡ foldAt (tapeIn tape (now (file .entry))) (kindAt (tapeIn tape (now (file .entry))) (anchor .at)) (siblings (tapeIn tape (now (file .entry))) (anchor .at)) ⌝ }
-{
-    let kind = anchor.kind(file, tape);
-    let mut alt = Step::Done;
-    let mut published = Step::Done;
-    let mut rest = anchor.next_sibling(file, tape);
-    loop {
-        let at = rest;
-        let Step::At(c) = at else {
-            return Folds {
-                alt,
-                published,
-                rest: at,
-            };
-        };
-        rest = c.next_sibling(file, tape);
-        match claims(file, tape, c, kind, is_at(alt), is_at(published)) {
-            Claim::Stops => return Folds {
-                alt,
-                published,
-                rest: at,
-            },
-            Claim::Blank => {}
-            Claim::Alt => alt = at,
-            Claim::Pub => published = at,
-        }
     }
 }
 
@@ -216,12 +147,6 @@ fn run_in(source: &[u8], rest: Part, begun: bool, gap: bool) -> Run
             len: rest.len - white - len,
         },
     }
-}
-
-fn long(x: u32) -> usize
-    ensures { λ r. ⌜ r ≡ x ⌝ }
-{
-    x as usize
 }
 
 // The text that a node of a number has, as a part of the source.

@@ -5,13 +5,13 @@ use mathlib.Core.List.{List, [], _∷_}
 use Prim.Native.Nat.{ℕ, _≤_}
 use native.Mathlib.Omega.{arith}
 use Rattle.tape.specs.File.{Tape}
-use Rattle.tape.specs.Tree.{nextSibling, walkFrom, upTo, without, left}
+use Rattle.tape.specs.Tree.{nextSibling, walkFrom, upTo, without, left, found}
 use Rattle.tape.specs.declared.Cursor.{Cursor}
 use Rattle.tape.specs.declared.Step.{Step}
 use Rattle.tape.specs.declared.Step.the-variants.{At, Done}
 use Rattle.tape.proofs.Walk.{walk-turn, walk-end, left-turn}
 use Rattle.render.specs.Shape.{isTopLevelBlock, isCategoryMarker}
-use Rattle.fold.specs.Fold.{claimOf, Folded, isSome, foldFrom, foldAt, numberOf, isAt}
+use Rattle.fold.specs.Fold.{claimOf, Folded, isSome, foldFrom, foldAt, numberOf}
 use Rattle.fold.specs.declared.Claim.{Claim}
 use Rattle.fold.specs.declared.Claim.the-variants.{Blank, Alt, Pub, Stops}
 use Rattle.fold.proofs.Folding.{fold-blank, fold-alt, fold-pub, fold-stops, fold-nil}
@@ -96,10 +96,25 @@ module _ (t : Tape) (span : Span) where
       ∙ by-node (c .at) (walkFrom t n) (span .sifted && isCategoryMarker t (c .at)) (span .cut && isTopLevelBlock t (c .at)) refl refl
       ∙ ap (λ (z : Member). listedBy z (c .at) (cutAt t (span .cut) (filtered t (span .sifted) (walkFrom t n)))) (sym em)
 
+-- by what a node is to its list
+
+module _ (t : Tape) (span : Span) {c : Cursor} {s : Step} (es : s ≡ At c) {m : Member} (em : m ≡ memberOf t span (c .at)) where
+  pub nodes-cut : m ≡ End → nodesIn t span s ≡ []
+  unfolding listedBy
+  nodes-cut h = nodes-turn t span es refl em ∙ rw h
+
+  pub nodes-skip : {n : Step} → m ≡ Skipped → n ≡ nextSibling t (c .at) → nodesIn t span s ≡ nodesIn t span n
+  unfolding listedBy
+  nodes-skip h en = nodes-turn t span es en em ∙ rw h
+
+  pub nodes-go : {n : Step} → m ≡ Listed → n ≡ nextSibling t (c .at) → nodesIn t span s ≡ c .at ∷ nodesIn t span n
+  unfolding listedBy
+  nodes-go h en = nodes-turn t span es en em ∙ rw h
+
 -- ---- the fold
 
-some-at : (t : Tape) (s : Step) → isSome (numberOf t s) ≡ isAt s
-unfolding isSome numberOf isAt
+some-at : (t : Tape) (s : Step) → isSome (numberOf t s) ≡ found s
+unfolding isSome numberOf found
 some-at t Done = refl
 some-at t (At c) = refl
 
@@ -125,21 +140,16 @@ module _ (t : Tape) (span : Span) (anchor : ℕ) (alt published rest : Step) {f 
   ended e = over (nodes-done t span e)
 
   module _ {c : Cursor} (ec : rest ≡ At c) {n : Step} (en : n ≡ nextSibling t (c .at)) {m : Member} (em : m ≡ memberOf t span (c .at)) where
-    at-node : nodesIn t span rest ≡ listedBy m (c .at) (nodesIn t span n)
-    at-node = nodes-turn t span ec en em
-
     cut-off : m ≡ End → foldedIn t span (record { alt = alt; published = published; rest = rest }) ≡ f
-    unfolding listedBy
-    cut-off h = over (at-node ∙ rw h)
+    cut-off h = over (nodes-cut t span ec em h)
 
     pub fold-skipped : m ≡ Skipped → onward t span anchor alt published n ≡ f
-    unfolding onward listedBy
-    fold-skipped h = sym (ap (foldFrom t anchor (numberOf t alt) (numberOf t published)) (at-node ∙ rw h)) ∙ inv
+    unfolding onward
+    fold-skipped h = sym (ap (foldFrom t anchor (numberOf t alt) (numberOf t published)) (nodes-skip t span ec em h en)) ∙ inv
 
-    module _ (hm : m ≡ Listed) {a p : Bool} {r : Claim} (ea : a ≡ isAt alt) (ep : p ≡ isAt published) (er : r ≡ claimOf t anchor a p (c .at)) where
+    module _ (hm : m ≡ Listed) {a p : Bool} {r : Claim} (ea : a ≡ found alt) (ep : p ≡ found published) (er : r ≡ claimOf t anchor a p (c .at)) where
       listed : nodesIn t span rest ≡ c .at ∷ nodesIn t span n
-      unfolding listedBy
-      listed = at-node ∙ rw hm
+      listed = nodes-go t span ec em hm en
 
       claimed : r ≡ claimOf t anchor (isSome (numberOf t alt)) (isSome (numberOf t published)) (c .at)
       claimed = er ∙ rw (ea, ep, some-at t alt, some-at t published)
@@ -181,7 +191,7 @@ module _ (t : Tape) (span : Span) (anchor : ℕ) (rest₀ : Step) (alt published
   fold-cut ec em h =
       ap (λ (s : Step). foldedIn t span (record { alt = alt; published = published; rest = s })) (sym ec) ∙ cut-off t span anchor alt published rest all ec refl em h
 
-  pub fold-stopped : {c : Cursor} → rest ≡ At c → {m : Member} → m ≡ memberOf t span (c .at) → m ≡ Listed → {a p : Bool} {r : Claim} → a ≡ isAt alt → p ≡ isAt published
+  pub fold-stopped : {c : Cursor} → rest ≡ At c → {m : Member} → m ≡ memberOf t span (c .at) → m ≡ Listed → {a p : Bool} {r : Claim} → a ≡ found alt → p ≡ found published
       → r ≡ claimOf t anchor a p (c .at) → r ≡ Stops
       → foldedIn t span (record { alt = alt; published = published; rest = At c }) ≡ foldAt t anchor (nodesIn t span rest₀)
   fold-stopped ec em hm ea ep er h =

@@ -7,10 +7,10 @@ use Rattle.tape.specs.Tree.{walkFrom, upTo, without}
 use Rattle.tape.specs.declared.Step.{Step}
 use Rattle.render.specs.Shape.{isTopLevelBlock, isCategoryMarker}
 use Rattle.fold.specs.Fold.{Folded, numberOf}
-use Rattle.fold.specs.declared.Folds.{Folds}
 use Rattle.lists.specs.declared.Span.{Span}
 use Rattle.lists.specs.declared.Member.{Member}
 use Rattle.lists.specs.declared.Member.the-variants.{End, Skipped, Listed}
+use Rattle.lists.specs.declared.Folds.{Folds}
 
 -- without category markers, or with them
 unfoldable pub filtered : Tape → Bool → List ℕ → List ℕ

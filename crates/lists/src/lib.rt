@@ -5,14 +5,14 @@ ghost use Prim.Native.Nat.{_≤_};
 ghost use Rattle.render.specs.Shape.{isCategoryMarker, isTopLevelBlock};
 ghost use Rattle.tape.specs.File.{tapeIn};
 ghost use Rattle.tape.specs.Tree.{left};
-ghost use Rattle.fold.specs.Fold.{foldAt, isAt};
+ghost use Rattle.fold.specs.Fold.{foldAt};
 ghost use Rattle.lists.specs.Span.{nodesIn, memberOf, foldedIn};
 use fold::Claim;
-use fold::Folds;
 use tape::Cursor;
 use tape::Kind;
 use tape::Sections;
 use tape::Step;
+use tape::is_at;
 
 // Which siblings a list has: up to the next block, or all; without category markers, or with them.
 pub struct Span {
@@ -25,6 +25,13 @@ pub enum Member {
     End,
     Skipped,
     Listed,
+}
+
+// The markers that folded, and where the siblings go on.
+pub struct Folds {
+    pub alt: Step,
+    pub published: Step,
+    pub rest: Step,
 }
 
 // Whether a list goes without a sibling.
@@ -57,15 +64,6 @@ pub fn member_of(file: &[u8], tape: Sections, span: Span, c: Cursor) -> Member
         return Member::End;
     }
     Member::Listed
-}
-
-fn is_at(s: Step) -> bool
-    ensures { λ r. ⌜ r ≡ isAt s ⌝ }
-{
-    match s {
-        Step::At(_) => true,
-        Step::Done => false,
-    }
 }
 
 // Both numbers of an anchor, from the list behind it, and where that list goes on.

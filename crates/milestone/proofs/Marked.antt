@@ -9,7 +9,7 @@ use lib.ListN.{length}
 use Rattle.parts.specs.Bytes.{Bytes, b, part}
 use Rattle.chars.specs.Escape.{escape}
 use Rattle.chars.specs.Decimal.{decimal}
-use Rattle.words.specs.Words.{words, joined, isBlank}
+use Rattle.words.specs.Words.{words, joined, isBlank, bytesOf}
 use Rattle.words.specs.declared.Set.the-variants.{Unicode}
 use Rattle.words.specs.declared.Part.{Part}
 use Rattle.texts.proofs.Texts.{joined-blank, joined-some}
@@ -25,14 +25,14 @@ use Rattle.render.specs.Note.{textOf, remainder, bookCode, bookRest, IsCode}
 use Rattle.render.proofs.Notes.{rest-words}
 use Rattle.fold.specs.Fold.{numberOf}
 use Rattle.tags.specs.Names.{nameOf}
-use Rattle.tags.specs.Items.{Attr, Item, empty, valueOf, attrBytes, attrsBytes, bytesOf as itemBytes, render}
-use Rattle.tags.proofs.Rendered.{render-append}
+use Rattle.tags.specs.Items.{Item, empty, valueOf, attrBytes, attrsBytes, bytesOf as itemBytes, render}
+use Rattle.tags.proofs.Rendered.{render-append, attrs-append}
 use Rattle.marks.specs.Mark.{namedBook, nextChapter, nextVerse}
 use Rattle.marks.specs.declared.Marks.{Marks}
 use Rattle.events.specs.Event.{Event, perhaps, rawly, escaped, chapter as chapterEvent, verse as verseEvent, book as bookEvent}
 use Rattle.events.specs.Pairing.{State, chapterId, verseId, after, endOf, chapterAttrs, verseAttrs, bookAttrs, bookItems, itemsOf, lastEnds}
 use Rattle.events.specs.Emit.{Desk, emit, lay}
-use Rattle.sink.specs.Desk.{bytesOf, chapterIn, verseIn, stateIn, windowIn, overBy, deskIn, shownAs}
+use Rattle.sink.specs.Desk.{chapterIn, verseIn, stateIn, windowIn, overBy, deskIn, shownAs}
 use Rattle.sink.specs.declared.Sink.{Sink}
 use Rattle.sink.proofs.Chains.{paint-three, paint-four}
 use Rattle.sink.proofs.Idents.{shown-decimal}
@@ -71,11 +71,6 @@ verse-tail c file published p eq er = paint-two p (attrsBytes (perhaps (b "pubnu
 
 -- ---- tags
 
-attrs-append : (qs rs : List Attr) → attrsBytes (qs ++ rs) ≡ attrsBytes qs ++ attrsBytes rs
-unfolding attrsBytes
-attrs-append [] rs = refl
-attrs-append (q ∷ qs) rs = ap (λ (z : Bytes). attrBytes q ++ z) (attrs-append qs rs) ∙ sym (append-assoc (attrBytes q) (attrsBytes qs) (attrsBytes rs))
-
 decimal-plain : (n : ℕ) → escape true (decimal n) ≡ decimal n
 unfolding shownAs
 decimal-plain n = shown-decimal false n
@@ -101,7 +96,6 @@ module _ (c : Sections) (file : Bytes) (code : Part) (n : ℕ) where
       → {s k : Bytes} → s ≡ tapeIn c file .source → k ≡ part s (code .start) (code .len)
       → v ≡ paint u (b " sid=\"" ++ (shownAs false (chapterId k n) ++ b "\" />"))
       → v ≡ paint p (itemBytes (empty 3 (chapterAttrs (bytesOf (tapeIn c file .source) code) n (numberOf (tapeIn c file) alt) (numberOf (tapeIn c file) published))))
-  unfolding bytesOf
   chapter-tag alt published p q r u eq er eu {s} {k} es ek ev =
       let here : k ≡ bytesOf (tapeIn c file .source) code = ek ∙ ap (λ (z : Bytes). part z (code .start) (code .len)) es in
       paint-four p (b "<chapter number=\"" ++ (decimal n ++ b "\" style=\"c\"")) (attrsBytes (perhaps (b "altnumber") (numberOf (tapeIn c file) alt)))
@@ -115,7 +109,6 @@ module _ (c : Sections) (file : Bytes) (code : Part) (n : ℕ) where
       → u ≡ paint r (b " sid=\"" ++ (shownAs false (verseId k n l) ++ b "\""))
       → v ≡ paint u (attrsBytes (perhaps (b "pubnumber") (numberOf (tapeIn c file) published)) ++ b " />")
       → v ≡ paint p (itemBytes (empty 4 (verseAttrs (bytesOf (tapeIn c file .source) code) n (bytesOf (tapeIn c file .source) label) (numberOf (tapeIn c file) alt) (numberOf (tapeIn c file) published))))
-  unfolding bytesOf
   verse-tag label alt published {s} {l} {k} es el ek p q r u eq er eu ev =
       let book : k ≡ bytesOf (tapeIn c file .source) code = ek ∙ ap (λ (z : Bytes). part z (code .start) (code .len)) es in
       let name : l ≡ bytesOf (tapeIn c file .source) label = el ∙ ap (λ (z : Bytes). part z (label .start) (label .len)) es in
@@ -227,7 +220,7 @@ module _ (c : Sections) (file : Bytes) (sink : Sink) (out : Bytes) {last : Bytes
       → {m : Marks} → m ≡ nextVerse (sink .marks) label
       → deskIn (tapeIn c file .source) (record { at = v .at; from = v .from; marks = m }) last
       ≡ emit (deskIn (tapeIn c file .source) sink out) (verseEvent (labelOf (tapeIn c file) k) (numberOf (tapeIn c file) alt) (numberOf (tapeIn c file) published))
-  unfolding stateIn itemsOf bytesOf
+  unfolding stateIn itemsOf
   verse-emitted k alt published {label} is ew es q eq ev {m} em =
       let source : Bytes = tapeIn c file .source in
       let name : Bytes = part source (label .start) (label .len) in
@@ -248,7 +241,7 @@ module _ (c : Sections) (file : Bytes) (sink : Sink) (out : Bytes) {last : Bytes
       → {m : Marks} → m ≡ namedBook (sink .marks) p
       → deskIn (tapeIn c file .source) (record { at = v .at; from = v .from; marks = m }) last
       ≡ emit (deskIn (tapeIn c file .source) sink out) (bookEvent (bookCode (tapeIn c file) k) (bookRest (tapeIn c file) k))
-  unfolding itemsOf bytesOf
+  unfolding itemsOf
   book-emitted k {p} is {s} {code} es ec {w} ew {rest} er ev {m} em =
       let source : Bytes = tapeIn c file .source in
       let name : Bytes = part source (p .start) (p .len) in

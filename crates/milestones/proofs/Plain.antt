@@ -12,11 +12,11 @@ use Rattle.parts.specs.Bytes.{Bytes}
 use Rattle.texts.specs.Text.{bodyOf, hasBreak, written, segments}
 use Rattle.texts.specs.declared.Normalized.{Normalized}
 use Rattle.tape.specs.File.{Tape, kindAt, textAt}
-use Rattle.tape.specs.Tree.{children, firstChild, upTo, without}
+use Rattle.tape.specs.Tree.{children, firstChild, upTo, without, found}
 use Rattle.tape.specs.declared.Step.{Step}
 use Rattle.tape.specs.declared.Step.the-variants.{At, Done}
 use Rattle.render.specs.Shape.{isOpen, isChapter, isVerse, isRow, isTopLevelBlock, isCategoryMarker}
-use Rattle.render.specs.First.{any, found}
+use Rattle.render.specs.First.{any}
 use Rattle.render.specs.Follow.{followed}
 use Rattle.render.specs.Children.{hasContent}
 use Rattle.figure.specs.Figure.{legacyAt}

@@ -7,6 +7,7 @@ ghost use lib.Dec.{ltb};
 ghost use Rattle.chars.specs.Utf8.{step, characters};
 ghost use Rattle.tape.specs.Name.{nameLen};
 ghost use Rattle.places.specs.Seek.{endsAt, solidAt, gapAt, passesAt, nextFrom, edgeOf, Right, Sought, toWord, Dull};
+use tape::long;
 
 // What is looked for: a character that ends a name, or white space that a word follows at once.
 pub enum Test {
@@ -110,12 +111,6 @@ fn edge(s: &[u8], b: usize) -> usize
     ensures { λ r. ⌜ r ≡ edgeOf (now (s .entry)) b ⌝ }
 {
     if b <= s.len() / 64 { 64 * b } else { s.len() }
-}
-
-fn long(x: u32) -> usize
-    ensures { λ r. ⌜ r ≡ x ⌝ }
-{
-    x as usize
 }
 
 // A place as a number of 32 bits, where it is one.

@@ -9,11 +9,11 @@ use lib.Seq.{drop-drop}
 use Rattle.parts.specs.Bytes.{Bytes}
 use Rattle.chars.specs.Escape.{escape, escaped}
 use Rattle.chars.proofs.Escapes.{escape-append}
-use Rattle.words.specs.Words.{words, joined, trimStart, nextWord}
+use Rattle.words.specs.Words.{words, joined, trimStart, nextWord, bytesOf}
 use Rattle.words.specs.declared.Set.{Set}
 use Rattle.words.specs.declared.Set.the-variants.{Ascii}
 use Rattle.words.specs.declared.Part.{Part}
-use Rattle.words.proofs.Places.{bytesOf, endOf, next-start, next-in, next-none, words-nil}
+use Rattle.words.proofs.Places.{endOf, next-start, next-in, next-none, words-nil}
 use Rattle.texts.specs.Text.{bodyOf, spaced, spaceIf, written}
 use Rattle.texts.specs.declared.Normalized.{Normalized}
 use Rattle.texts.proofs.Texts.{joined-none, joined-next, spaced-none, spaced-next}

@@ -5,7 +5,7 @@ use mathlib.Core.List.{List, _∷_}
 use Prim.Native.Nat.{ℕ}
 use lib.Dec.{eqb}
 use Rattle.tape.specs.File.{Tape, kindAt}
-use Rattle.tape.specs.Tree.{firstChild, nextSibling, walkFrom}
+use Rattle.tape.specs.Tree.{firstChild, nextSibling, walkFrom, found}
 use Rattle.tape.specs.declared.kinds.Kind.{Kind}
 use Rattle.tape.specs.declared.Cursor.{Cursor}
 use Rattle.tape.specs.declared.Step.{Step}
@@ -15,7 +15,7 @@ use Rattle.render.specs.declared.children.Test.{Test}
 use Rattle.render.specs.declared.children.Test.the-variants.{Text, Attribute, Open, Category, Content, Solid}
 use Rattle.render.specs.Shape.{isText, isOpen, isCategoryMarker, isContent}
 use Rattle.render.specs.Follow.{isSolid}
-use Rattle.render.specs.First.{firstWith, found, any}
+use Rattle.render.specs.First.{firstWith, any}
 use Rattle.render.specs.Children.{passes, hasContent, isPlainText, firstText}
 
 module _ (p : ℕ → Bool) (k : ℕ) (ks : List ℕ) where
@@ -84,14 +84,6 @@ pub kind-eqb : (t : Tape) (k code : ℕ) {z : Kind} → z .code ≡ kindAt t k �
 kind-eqb t k code e = rw e
 
 -- ---- answers
-
-pub found-at : (c : Cursor) {s : Step} → s ≡ At c → true ≡ found s
-unfolding found
-found-at c e = rw e
-
-pub found-done : {s : Step} → s ≡ Done → false ≡ found s
-unfolding found
-found-done e = rw e
 
 module _ (t : Tape) (k : ℕ) {s r : Step} (es : s ≡ firstChild t k) where
   pub content-found : {x : Bool} → r ≡ firstWith (passes t Content) (walkFrom t s) → x ≡ found r → x ≡ hasContent t k

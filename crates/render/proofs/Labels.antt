@@ -12,20 +12,17 @@ use lib.Dec.{leb}
 use borrow.Author.Tests.{eq-eqb, ne-eqb, leb-true, leb-false}
 use Rattle.parts.specs.Bytes.{Bytes, part, begins}
 use Rattle.parts.proofs.Laws.{begins-fits}
-use Rattle.words.specs.Words.{words, nextWord, nthWord}
+use Rattle.words.specs.Words.{words, nextWord, nthWord, bytesOf}
 use Rattle.words.specs.declared.Set.{Set}
 use Rattle.words.specs.declared.Set.the-variants.{Unicode}
 use Rattle.words.specs.declared.Part.{Part}
-use Rattle.words.proofs.Places.{bytesOf, endOf, next-in, nth-bytes, nth-len}
-use Rattle.tape.specs.File.{Tape, nodeAt, textAt, infoAt}
+use Rattle.words.proofs.Places.{endOf, next-in, nth-bytes, nth-len}
+use Rattle.tape.specs.File.{Tape, nodeAt, textAt, infoAt, baseLen}
 use Rattle.tape.specs.Name.{strip, bare, nameLen, nameIn, markerName}
 use Rattle.tape.specs.declared.Node.{Node}
-use Rattle.tape.specs.declared.Entry.{Entry}
-use Rattle.tape.specs.declared.Info.{Info}
-use Rattle.tape.specs.declared.Info.the-variants.{Known, Unknown}
 use Rattle.tape.proofs.Laws.{text-of}
 use Rattle.tape.proofs.NameRule.{name-of}
-use Rattle.render.specs.Label.{baseLen, secondOr, labelOf, inSource, nameStart, wordPart, nameRest, labelPart, IsLabel}
+use Rattle.render.specs.Label.{secondOr, labelOf, inSource, nameStart, wordPart, nameRest, labelPart, IsLabel}
 
 -- ---- parts of parts
 
@@ -76,14 +73,6 @@ module _ (t : Tape) (k : ℕ) where
       rw (← text-of t k em es ea el er, ← ew, ea, em)
 
 -- ---- the name
-
-pub base-known : (e : Entry) {i : Info} {r : ℕ} → i ≡ Known e → r ≡ e .len → r ≡ baseLen i
-unfolding baseLen
-base-known e ei er = rw ei er
-
-pub base-unknown : {i : Info} → i ≡ Unknown → 0 ≡ baseLen i
-unfolding baseLen
-base-unknown ei = rw ei
 
 module _ (x : ℕ) (s : Bytes) {y : Bool} (ey : y ≡ begins (x ∷ []) s) where
   pub stripped-one : y ≡ true → 1 ≡ length s - length (strip x s)
@@ -164,11 +153,11 @@ module _ (t : Tape) (k : ℕ) where
               let n : length (nameIn (textAt t k)) - base ≡ 0 = omega (arith, leb-false base (length (nameIn (textAt t k))) e) in
               rw n (sym (drop-of-length-le (nameIn (textAt t k)) {i = base} (omega (arith, leb-false base (length (nameIn (textAt t k))) e))))
 
-  module _ {m : Node} {i : Info} {b : ℕ} {u v : Bytes} {d a : ℕ} (ei : i ≡ infoAt t k) (eb : b ≡ baseLen i) (eu : u ≡ textAt t k) (ed : d ≡ nameStart u)
+  module _ {m : Node} {b : ℕ} {u v : Bytes} {d a : ℕ} (eb : b ≡ baseLen (infoAt t k)) (eu : u ≡ textAt t k) (ed : d ≡ nameStart u)
       (em : m ≡ nodeAt t k) (ea : a ≡ m .start) (ev : v ≡ markerName t k) where
     rest-found : {n : ℕ} → n ≡ length v - b → _≡_ {A = Part} (record { start = a + (d + b); len = n }) (nameRest t k)
     unfolding nameRest inSource
-    rest-found en = rw (en, ea, ed, eu, eb, ei, ev, em)
+    rest-found en = rw (en, ea, ed, eu, eb, ev, em)
 
     pub rest-none : length v ≤ b → _≡_ {A = Part} (record { start = a + (d + b); len = 0 }) (nameRest t k)
     rest-none h = rest-found (omega arith)

@@ -2,6 +2,7 @@
 use Prim.Native.Nat.{ℕ}
 use mathlib.Core.Bool.{Bool, true, false}
 use mathlib.Core.List.{List, [], _∷_}
+use Rattle.tape.specs.Tree.{found}
 use Rattle.tape.specs.declared.Step.{Step}
 use Rattle.tape.specs.declared.Step.the-variants.{At, Done}
 
@@ -9,10 +10,6 @@ use Rattle.tape.specs.declared.Step.the-variants.{At, Done}
 unfoldable pub firstWith : (ℕ → Bool) → List ℕ → Step
 firstWith p [] = Done
 firstWith p (k ∷ ks) = elim (p k) as (λ x. Step) [ true ↦ At (record { at = k }) | false ↦ firstWith p ks ]
-
-unfoldable pub found : Step → Bool
-found Done = false
-found (At c) = true
 
 -- whether a node of a list passes a test
 unfoldable pub any : (ℕ → Bool) → List ℕ → Bool

@@ -9,15 +9,8 @@ use Rattle.parts.specs.Bytes.{Bytes, part}
 use Rattle.words.specs.Words.{words, nthWord}
 use Rattle.words.specs.declared.Set.the-variants.{Unicode}
 use Rattle.words.specs.declared.Part.{Part}
-use Rattle.tape.specs.File.{Tape, nodeAt, textAt, infoAt}
+use Rattle.tape.specs.File.{Tape, nodeAt, textAt, infoAt, baseLen}
 use Rattle.tape.specs.Name.{bare, markerName}
-use Rattle.tape.specs.declared.Info.{Info}
-use Rattle.tape.specs.declared.Info.the-variants.{Known, Unknown}
-
--- the entry's name length; unknown counts 0
-unfoldable pub baseLen : Info → ℕ
-baseLen (Known e) = e .len
-baseLen Unknown = 0
 
 -- the second of some words, or something else
 unfoldable pub secondOr : Bytes → List Bytes → Bytes

@@ -3,7 +3,7 @@ ghost use mathlib.Core.Path.{_≡_};
 ghost use lib.Dec.{eqb};
 ghost use Rattle.tape.specs.File.{tapeIn, kindAt};
 ghost use Rattle.tape.specs.Tree.{walkFrom};
-ghost use Rattle.render.specs.First.{firstWith, found as isFound};
+ghost use Rattle.render.specs.First.{firstWith};
 ghost use Rattle.render.specs.Children.{passes as isPassing, hasContent, isPlainText, firstText};
 use crate::follow::is_solid;
 use crate::shape::is_category_marker;
@@ -12,6 +12,7 @@ use tape::Cursor;
 use tape::Kind;
 use tape::Sections;
 use tape::Step;
+use tape::is_at;
 
 // A test of a node.
 pub enum Test {
@@ -60,27 +61,18 @@ pub fn find(file: &[u8], tape: Sections, test: Test, from: Step) -> Step
     }
 }
 
-fn found(s: Step) -> bool
-    ensures { λ r. ⌜ r ≡ isFound s ⌝ }
-{
-    match s {
-        Step::At(_) => true,
-        Step::Done => false,
-    }
-}
-
 // Whether a node has content besides its attributes and close.
 pub fn has_content(file: &[u8], tape: Sections, c: Cursor) -> bool
     ensures { λ r. ⌜ r ≡ hasContent (tapeIn tape (now (file .entry))) (c .at) ⌝ }
 {
-    found(find(file, tape, Test::Content, c.first_child(file, tape)))
+    is_at(find(file, tape, Test::Content, c.first_child(file, tape)))
 }
 
 // Whether a node holds no marker.
 pub fn is_plain_text(file: &[u8], tape: Sections, c: Cursor) -> bool
     ensures { λ r. ⌜ r ≡ isPlainText (tapeIn tape (now (file .entry))) (c .at) ⌝ }
 {
-    !found(find(file, tape, Test::Open, c.first_child(file, tape)))
+    !is_at(find(file, tape, Test::Open, c.first_child(file, tape)))
 }
 
 // The first Text child.

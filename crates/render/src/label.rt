@@ -1,28 +1,15 @@
 // The label of a verse.
 ghost use mathlib.Core.Path.{_≡_};
-ghost use Prim.Native.Nat.{_-_, _<_, _≤_, _^_};
+ghost use Prim.Native.Nat.{_-_, _≤_};
 ghost use lib.ListN.{length};
 ghost use Rattle.tape.specs.File.{tapeIn};
 ghost use Rattle.tape.specs.Name.{strip};
-ghost use Rattle.render.specs.Label.{baseLen, nameStart, wordPart, nameRest, IsLabel};
-use crate::number::long;
-use crate::number::short;
+ghost use Rattle.render.specs.Label.{nameStart, wordPart, nameRest, IsLabel};
 use tape::Cursor;
-use tape::Info;
 use tape::Sections;
+use tape::long;
 use words::Part;
 use words::Set;
-
-// How long the name of an entry is; unknown counts 0.
-fn base_len(known: Info) -> usize
-    ensures { λ r. ⌜ r ≡ baseLen known ⌝ }
-    ensures { λ r. ⌜ r < 2 ^ 16 ⌝ }
-{
-    match known {
-        Info::Known(e) => short(e.len),
-        Info::Unknown => 0,
-    }
-}
 
 // How many bytes are stripped of a text that may begin with one.
 fn stripped(s: &[u8], x: u8) -> usize
@@ -62,17 +49,15 @@ pub fn word_part(file: &[u8], tape: Sections, c: Cursor, n: usize) -> Part
 fn name_rest(file: &[u8], tape: Sections, c: Cursor) -> Part
     ensures { λ r. ⌜ r ≡ nameRest (tapeIn tape (now (file .entry))) (c .at) ⌝ }
 {
-    let base = base_len(c.marker_info(file, tape));
+    let base = c.base_len(file, tape);
     let place = name_start(c.text(file, tape)) + base;
     let start = long(c.node(file, tape).start) + place;
     let name = c.marker_name(file, tape);
     if name.len() <= base {
         return Part { start, len: 0 };
     }
-    Part {
-        start,
-        len: name.len() - base,
-    }
+    let len = name.len() - base;
+    Part { start, len }
 }
 
 // The label: the second word, or the rest of the marker name.

@@ -3,7 +3,6 @@ mod children;
 mod follow;
 mod label;
 mod note;
-mod number;
 mod shape;
 
 pub use children::Test;

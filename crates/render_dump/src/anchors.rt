@@ -2,6 +2,7 @@
 use crate::say;
 use fold::Number;
 use fold::Piece;
+use lists::Span;
 use tape::Cursor;
 use tape::Sections;
 use tape::Step;
@@ -47,7 +48,11 @@ fn number(file: &[u8], t: Sections, step: Step) {
 }
 
 pub fn fold(file: &[u8], t: Sections, c: Cursor) {
-    let f = fold::fold_siblings(file, t, c);
+    let all = Span {
+        cut: false,
+        sifted: false,
+    };
+    let f = lists::fold_in(file, t, all, c.kind(file, t), c.next_sibling(file, t));
     let alt = f.alt;
     let published = f.published;
     let rest = f.rest;

@@ -23,7 +23,7 @@ use Rattle.marks.specs.declared.OpenVerse.{OpenVerse}
 use Rattle.marks.specs.declared.OpenVerse.the-variants.{NoVerse, Verse}
 use Rattle.events.specs.Event.{rawly}
 use Rattle.events.specs.Pairing.{chapterId, verseId, endOf}
-use Rattle.sink.specs.Desk.{bytesOf, chapterIn, verseIn, shownAs, indent}
+use Rattle.sink.specs.Desk.{chapterIn, verseIn, shownAs, indent}
 use Rattle.sink.proofs.Chains.{paint-three}
 
 -- ---- shown raw or escaped
@@ -108,7 +108,7 @@ module _ (source : Bytes) (p : Page) where
   pub chapter-ended : {held : OpenChapter} {code : Part} {n : ℕ} → held ≡ Chapter code n → {a c d : Page} → a ≡ paint p (b "<chapter eid=\"")
       → {s : Bytes} → s ≡ part source (code .start) (code .len) → c ≡ paint a (shownAs true (chapterId s n)) → d ≡ paint c (b "\" />")
       → d ≡ paint p (render (endOf 3 (chapterIn source held)))
-  unfolding chapterIn bytesOf shownAs
+  unfolding chapterIn shownAs
   chapter-ended {held} {code} {n} h ea {s} es ec ed =
       paint-three p (b "<chapter eid=\"") (chapterId s n) (b "\" />") ea ec ed
       ∙ ap (λ (z : Bytes). paint p (b "<chapter eid=\"" ++ (chapterId z n ++ b "\" />"))) es
@@ -123,7 +123,7 @@ module _ (source : Bytes) (p : Page) where
       → {s l : Bytes} → s ≡ part source (code .start) (code .len) → l ≡ part source (label .start) (label .len)
       → c ≡ paint a (shownAs true (verseId s n l)) → d ≡ paint c (b "\" />")
       → d ≡ paint p (render (endOf 4 (verseIn source held)))
-  unfolding verseIn bytesOf shownAs
+  unfolding verseIn shownAs
   verse-ended {held} {code} {label} {n} h ea {s} {l} es el ec ed =
       paint-three p (b "<verse eid=\"") (verseId s n l) (b "\" />") ea ec ed
       ∙ ap (λ (z : Bytes). paint p (b "<verse eid=\"" ++ (verseId z n l ++ b "\" />"))) es

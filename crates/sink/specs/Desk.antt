@@ -3,9 +3,9 @@ use mathlib.Core.Bool.{Bool, true, cond}
 use Prim.Native.Nat.{ℕ, _*_}
 use lib.ListN.{replicate}
 use mathlib.Core.Option.{Option, none, some}
-use Rattle.parts.specs.Bytes.{Bytes, part}
+use Rattle.parts.specs.Bytes.{Bytes}
+use Rattle.words.specs.Words.{bytesOf}
 use Rattle.chars.specs.Escape.{escape}
-use Rattle.words.specs.declared.Part.{Part}
 use Rattle.window.specs.Page.{Page, paint}
 use Rattle.window.specs.declared.Window.{Window}
 use Rattle.marks.specs.declared.Marks.{Marks}
@@ -16,10 +16,6 @@ use Rattle.marks.specs.declared.OpenVerse.the-variants.{NoVerse, Verse}
 use Rattle.events.specs.Pairing.{State, chapterId, verseId}
 use Rattle.events.specs.Emit.{Desk}
 use Rattle.sink.specs.declared.Sink.{Sink}
-
--- the bytes of a part of the source
-unfoldable pub bytesOf : Bytes → Part → Bytes
-bytesOf source p = part source (p .start) (p .len)
 
 -- the identifier of a chapter that is open
 unfoldable pub chapterIn : Bytes → OpenChapter → Option Bytes

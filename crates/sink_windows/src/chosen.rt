@@ -2,6 +2,9 @@
 use breaks::put_broken;
 use breaks::put_unbroken;
 use libc::STDOUT_FILENO;
+use lists::Folds;
+use lists::Span;
+use lists::fold_in;
 use sink::Sink;
 use sink::line;
 use sink::literal;
@@ -14,10 +17,19 @@ pub fn say(run: &[u8]) {
     io::write_all(STDOUT_FILENO, run);
 }
 
+// The numbers that fold behind an anchor, of all its siblings.
+fn numbers(file: &[u8], t: Sections, c: Cursor) -> Folds {
+    let all = Span {
+        cut: false,
+        sifted: false,
+    };
+    fold_in(file, t, all, c.kind(file, t), c.next_sibling(file, t))
+}
+
 // A chapter and the numbers that fold behind it.
 fn chapter(file: &[u8], t: Sections, at: u32, sink: Sink, out: &mut [u8]) -> Sink {
     let c = Cursor { at };
-    let f = fold::fold_siblings(file, t, c);
+    let f = numbers(file, t, c);
     let alt = f.alt;
     let published = f.published;
     milestone::chapter(file, t, c.number(file, t), alt, published, sink, out)
@@ -26,7 +38,7 @@ fn chapter(file: &[u8], t: Sections, at: u32, sink: Sink, out: &mut [u8]) -> Sin
 // A verse and the numbers that fold behind it.
 fn verse(file: &[u8], t: Sections, at: u32, sink: Sink, out: &mut [u8]) -> Sink {
     let c = Cursor { at };
-    let f = fold::fold_siblings(file, t, c);
+    let f = numbers(file, t, c);
     let alt = f.alt;
     let published = f.published;
     milestone::verse(file, t, c, alt, published, sink, out)

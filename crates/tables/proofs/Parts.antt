@@ -25,13 +25,13 @@ use Rattle.lists.specs.Span.{nodesIn, memberOf}
 use Rattle.lists.specs.declared.Span.{Span}
 use Rattle.lists.specs.declared.Member.{Member}
 use Rattle.lists.specs.declared.Member.the-variants.{End, Skipped, Listed}
-use Rattle.lists.proofs.Nodes.{nodes-done}
+use Rattle.lists.proofs.Nodes.{nodes-done, nodes-cut, nodes-skip, nodes-go}
 use Rattle.sink.specs.Desk.{deskIn, putOn}
 use Rattle.sink.specs.declared.Sink.{Sink}
 use Rattle.sink.proofs.Chains.{item-on}
 use Rattle.tagging.specs.Roles.{mannerBy}
 use Rattle.tables.specs.Rows.{isNoRow, rowOpens, rowCloses, tableOpens, tableCloses}
-use Rattle.tables.proofs.Spans.{up-row, up-other, up-none, nodes-cut, nodes-skip, nodes-go}
+use Rattle.tables.proofs.Spans.{up-row, up-other, up-none}
 
 -- ---- events in parts
 

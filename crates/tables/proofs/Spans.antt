@@ -10,11 +10,11 @@ use Rattle.tape.specs.declared.Step.{Step}
 use Rattle.tape.specs.declared.Step.the-variants.{At, Done}
 use Rattle.render.specs.Shape.{isRow}
 use Rattle.events.specs.Walk.{fromFirst}
-use Rattle.lists.specs.Span.{nodesIn, memberOf, listedBy}
+use Rattle.lists.specs.Span.{nodesIn, memberOf}
 use Rattle.lists.specs.declared.Span.{Span}
 use Rattle.lists.specs.declared.Member.{Member}
 use Rattle.lists.specs.declared.Member.the-variants.{End, Skipped, Listed}
-use Rattle.lists.proofs.Nodes.{nodes-done, nodes-turn}
+use Rattle.lists.proofs.Nodes.{nodes-done, nodes-cut, nodes-skip, nodes-go}
 use Rattle.tables.specs.Rows.{isNoRow}
 
 -- ---- a list by its first node
@@ -42,21 +42,6 @@ up-other t k ks h = rw h
 pub up-none : (t : Tape) {ks : List ℕ} → ks ≡ [] → upTo (isNoRow t) ks ≡ []
 unfolding upTo
 up-none t h = rw h
-
--- ---- by what a node is to its list
-
-module _ (t : Tape) (span : Span) {c : Cursor} {s : Step} (es : s ≡ At c) {m : Member} (em : m ≡ memberOf t span (c .at)) where
-  pub nodes-cut : m ≡ End → nodesIn t span s ≡ []
-  unfolding listedBy
-  nodes-cut h = nodes-turn t span es refl em ∙ rw h
-
-  pub nodes-skip : {n : Step} → m ≡ Skipped → n ≡ nextSibling t (c .at) → nodesIn t span s ≡ nodesIn t span n
-  unfolding listedBy
-  nodes-skip h en = nodes-turn t span es en em ∙ rw h
-
-  pub nodes-go : {n : Step} → m ≡ Listed → n ≡ nextSibling t (c .at) → nodesIn t span s ≡ c .at ∷ nodesIn t span n
-  unfolding listedBy
-  nodes-go h en = nodes-turn t span es en em ∙ rw h
 
 -- ---- past the rows
 

@@ -6,7 +6,7 @@ use Prim.Native.Nat.{ℕ}
 use borrow.Author.Tests.{eq-eqb, ne-eqb, not-true, not-false}
 use Rattle.parts.specs.Bytes.{Bytes, b, same}
 use Rattle.tape.specs.File.{Tape, kindAt, infoAt, entryName, isNested}
-use Rattle.tape.specs.Tree.{firstChild, nextSibling, walkFrom, children}
+use Rattle.tape.specs.Tree.{firstChild, nextSibling, walkFrom, children, found}
 use Rattle.tape.specs.Name.{markerName}
 use Rattle.tape.specs.declared.kinds.Kind.{Kind}
 use Rattle.tape.specs.declared.Cursor.{Cursor}
@@ -16,7 +16,7 @@ use Rattle.tape.specs.declared.Info.the-variants.{Known, Unknown}
 use Rattle.tape.specs.declared.Step.{Step}
 use Rattle.tape.specs.declared.Step.the-variants.{At, Done}
 use Rattle.tape.proofs.Walk.{children-walk}
-use Rattle.render.specs.First.{firstWith, found, any}
+use Rattle.render.specs.First.{firstWith, any}
 use Rattle.render.specs.Children.{hasContent}
 use Rattle.render.specs.Shape.{unknownShape}
 use Rattle.render.specs.declared.shape.Shape.{Shape}

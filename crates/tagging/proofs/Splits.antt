@@ -6,10 +6,10 @@ use mathlib.Core.Option.{Option, none, some}
 use Prim.Native.Nat.{ℕ}
 use Rattle.parts.specs.Bytes.{Bytes, b}
 use Rattle.tape.specs.File.{Tape}
+use Rattle.tape.specs.Tree.{found}
 use Rattle.tape.specs.Name.{markerName}
 use Rattle.tape.specs.declared.Step.{Step}
 use Rattle.tape.specs.declared.Step.the-variants.{At, Done}
-use Rattle.render.specs.First.{found}
 use Rattle.attrs.specs.Attr.{attributesOf}
 use Rattle.figure.specs.Figure.{legacyAt}
 use Rattle.tags.specs.Items.{start, close}

@@ -10,6 +10,7 @@ use Rattle.window.specs.declared.Window.{Window}
 use Rattle.window.proofs.Paint.{paint-append}
 use Rattle.tags.specs.Items.{Attr, Item, start, empty, valueOf, attrBytes, attrsBytes, bytesOf, render}
 use Rattle.tags.specs.Names.{nameOf}
+use Rattle.tags.proofs.Rendered.{attrs-append}
 use Rattle.events.specs.Event.{item, rawly, escaped}
 use Rattle.events.specs.Emit.{Desk, emit, emitAll}
 use Rattle.sink.specs.Desk.{windowIn, overBy, deskIn, putOn}
@@ -50,12 +51,6 @@ pub desk-items : (sink : Sink) {w v : Window} {r : Sink} (out : Bytes) {last : B
 desk-items sink out is ew ev er source = desk-on sink out (render is) ew ev er source ∙ items-on (deskIn source sink out) is
 
 -- ---- attributes
-
-pub attrs-append : (ps qs : List Attr) → attrsBytes (ps ++ qs) ≡ attrsBytes ps ++ attrsBytes qs
-unfolding attrsBytes
-attrs-append [] qs = refl
-attrs-append (p ∷ ps) qs =
-    ap (λ (z : Bytes). attrBytes p ++ z) (attrs-append ps qs) ∙ sym (append-assoc (attrBytes p) (attrsBytes ps) (attrsBytes qs))
 
 -- a raw style in front of other attributes
 style-first : (name : Bytes) (qs : List Attr) → attrsBytes (rawly (b "style") name ∷ qs) ≡ b " style=\"" ++ (name ++ (b "\"" ++ attrsBytes qs))

@@ -6,11 +6,11 @@ use lib.Dec.{eqb}
 use mathlib.Core.Option.{Option, none, some}
 use Rattle.parts.specs.Bytes.{Bytes, b, same}
 use Rattle.tape.specs.File.{Tape, isNested}
-use Rattle.tape.specs.Tree.{firstChild, children}
+use Rattle.tape.specs.Tree.{firstChild, children, found}
 use Rattle.tape.specs.Name.{markerName}
 use Rattle.tape.specs.declared.Step.{Step}
 use Rattle.tape.specs.declared.Step.the-variants.{At, Done}
-use Rattle.render.specs.First.{found, any}
+use Rattle.render.specs.First.{any}
 use Rattle.render.specs.Children.{hasContent}
 use Rattle.render.specs.Note.{noteCaller, categoryOf, bookCode, bookRest}
 use Rattle.attrs.specs.Attr.{attributesOf}

@@ -3,7 +3,7 @@ ghost use mathlib.Core.Path.{_≡_};
 ghost use Rattle.tape.specs.File.{tapeIn};
 ghost use Rattle.tape.specs.Tree.{children};
 ghost use Rattle.tape.specs.declared.Info.the-variants.{Known};
-ghost use Rattle.render.specs.First.{found, any};
+ghost use Rattle.render.specs.First.{any};
 ghost use Rattle.attrs.specs.Walk.{soughtOf};
 ghost use Rattle.events.specs.Walk.{roleOf, roleBy, roleOfShape, roleOfCategory, isRef, linkOf};
 ghost use Rattle.tagging.specs.Roles.{roleIn, roleOfEntry, isWhole, mannerOf, mannerBy, canLink};
@@ -16,6 +16,7 @@ use tape::Info;
 use tape::Kind;
 use tape::Sections;
 use tape::Step;
+use tape::is_at;
 
 // What a MarkerOpen is written as.
 pub enum Role {
@@ -96,16 +97,6 @@ pub fn role_of(file: &[u8], tape: Sections, c: Cursor) -> Role
     match c.marker_info(file, tape) {
         Info::Known(e) => role_known(file, tape, c, e),
         Info::Unknown => role_of_shape(render::unknown_shape(file, tape, c)),
-    }
-}
-
-// Whether a step leads to a node.
-fn is_at(s: Step) -> bool
-    ensures { λ r. ⌜ r ≡ found s ⌝ }
-{
-    match s {
-        Step::At(_) => true,
-        Step::Done => false,
     }
 }
 

@@ -122,48 +122,33 @@ shut-empty : (r : Bytes) → pairAt (b " />" ++ r) ≡ Nothing
 unfolding pairAt begins run ok plain keyByte
 shut-empty r = refl
 
-pub element-write : (n : ℕ) (r : Bytes) → IsName n → elementAt (nameOf n ++ r) ≡ Name n (length (nameOf n))
+-- the name of each element is read, and `<` in front of it opens no closing tag
+each-name : (n : ℕ) (r : Bytes) → IsName n → (elementAt (nameOf n ++ r) ≡ Name n (length (nameOf n))) × (begins (b "</") (60 ∷ (nameOf n ++ r)) ≡ false)
 unfolding elementAt which nameOf begins
-element-write zero r h = absurd (omega arith)
-element-write (suc zero) r h = refl
-element-write (suc (suc zero)) r h = refl
-element-write (suc (suc (suc zero))) r h = refl
-element-write (suc (suc (suc (suc zero)))) r h = refl
-element-write (suc (suc (suc (suc (suc zero))))) r h = refl
-element-write (suc (suc (suc (suc (suc (suc zero)))))) r h = refl
-element-write (suc (suc (suc (suc (suc (suc (suc zero))))))) r h = refl
-element-write (suc (suc (suc (suc (suc (suc (suc (suc zero)))))))) r h = refl
-element-write (suc (suc (suc (suc (suc (suc (suc (suc (suc zero))))))))) r h = refl
-element-write (suc (suc (suc (suc (suc (suc (suc (suc (suc (suc zero)))))))))) r h = refl
-element-write (suc (suc (suc (suc (suc (suc (suc (suc (suc (suc (suc zero))))))))))) r h = refl
-element-write (suc (suc (suc (suc (suc (suc (suc (suc (suc (suc (suc (suc zero)))))))))))) r h = refl
-element-write (suc (suc (suc (suc (suc (suc (suc (suc (suc (suc (suc (suc (suc zero))))))))))))) r h = refl
-element-write (suc (suc (suc (suc (suc (suc (suc (suc (suc (suc (suc (suc (suc (suc zero)))))))))))))) r h = refl
-element-write (suc (suc (suc (suc (suc (suc (suc (suc (suc (suc (suc (suc (suc (suc (suc zero))))))))))))))) r h = refl
-element-write (suc (suc (suc (suc (suc (suc (suc (suc (suc (suc (suc (suc (suc (suc (suc (suc zero)))))))))))))))) r h = refl
-element-write (suc (suc (suc (suc (suc (suc (suc (suc (suc (suc (suc (suc (suc (suc (suc (suc (suc n))))))))))))))))) r h = absurd (omega arith)
+each-name zero r h = absurd (omega arith)
+each-name (suc zero) r h = (refl, refl)
+each-name (suc (suc zero)) r h = (refl, refl)
+each-name (suc (suc (suc zero))) r h = (refl, refl)
+each-name (suc (suc (suc (suc zero)))) r h = (refl, refl)
+each-name (suc (suc (suc (suc (suc zero))))) r h = (refl, refl)
+each-name (suc (suc (suc (suc (suc (suc zero)))))) r h = (refl, refl)
+each-name (suc (suc (suc (suc (suc (suc (suc zero))))))) r h = (refl, refl)
+each-name (suc (suc (suc (suc (suc (suc (suc (suc zero)))))))) r h = (refl, refl)
+each-name (suc (suc (suc (suc (suc (suc (suc (suc (suc zero))))))))) r h = (refl, refl)
+each-name (suc (suc (suc (suc (suc (suc (suc (suc (suc (suc zero)))))))))) r h = (refl, refl)
+each-name (suc (suc (suc (suc (suc (suc (suc (suc (suc (suc (suc zero))))))))))) r h = (refl, refl)
+each-name (suc (suc (suc (suc (suc (suc (suc (suc (suc (suc (suc (suc zero)))))))))))) r h = (refl, refl)
+each-name (suc (suc (suc (suc (suc (suc (suc (suc (suc (suc (suc (suc (suc zero))))))))))))) r h = (refl, refl)
+each-name (suc (suc (suc (suc (suc (suc (suc (suc (suc (suc (suc (suc (suc (suc zero)))))))))))))) r h = (refl, refl)
+each-name (suc (suc (suc (suc (suc (suc (suc (suc (suc (suc (suc (suc (suc (suc (suc zero))))))))))))))) r h = (refl, refl)
+each-name (suc (suc (suc (suc (suc (suc (suc (suc (suc (suc (suc (suc (suc (suc (suc (suc zero)))))))))))))))) r h = (refl, refl)
+each-name (suc (suc (suc (suc (suc (suc (suc (suc (suc (suc (suc (suc (suc (suc (suc (suc (suc n))))))))))))))))) r h = absurd (omega arith)
 
--- `<` in front of a name opens no closing tag
+pub element-write : (n : ℕ) (r : Bytes) → IsName n → elementAt (nameOf n ++ r) ≡ Name n (length (nameOf n))
+element-write n r h = each-name n r h .0
+
 no-slash : (n : ℕ) (r : Bytes) → IsName n → begins (b "</") (60 ∷ (nameOf n ++ r)) ≡ false
-unfolding nameOf begins
-no-slash zero r h = absurd (omega arith)
-no-slash (suc zero) r h = refl
-no-slash (suc (suc zero)) r h = refl
-no-slash (suc (suc (suc zero))) r h = refl
-no-slash (suc (suc (suc (suc zero)))) r h = refl
-no-slash (suc (suc (suc (suc (suc zero))))) r h = refl
-no-slash (suc (suc (suc (suc (suc (suc zero)))))) r h = refl
-no-slash (suc (suc (suc (suc (suc (suc (suc zero))))))) r h = refl
-no-slash (suc (suc (suc (suc (suc (suc (suc (suc zero)))))))) r h = refl
-no-slash (suc (suc (suc (suc (suc (suc (suc (suc (suc zero))))))))) r h = refl
-no-slash (suc (suc (suc (suc (suc (suc (suc (suc (suc (suc zero)))))))))) r h = refl
-no-slash (suc (suc (suc (suc (suc (suc (suc (suc (suc (suc (suc zero))))))))))) r h = refl
-no-slash (suc (suc (suc (suc (suc (suc (suc (suc (suc (suc (suc (suc zero)))))))))))) r h = refl
-no-slash (suc (suc (suc (suc (suc (suc (suc (suc (suc (suc (suc (suc (suc zero))))))))))))) r h = refl
-no-slash (suc (suc (suc (suc (suc (suc (suc (suc (suc (suc (suc (suc (suc (suc zero)))))))))))))) r h = refl
-no-slash (suc (suc (suc (suc (suc (suc (suc (suc (suc (suc (suc (suc (suc (suc (suc zero))))))))))))))) r h = refl
-no-slash (suc (suc (suc (suc (suc (suc (suc (suc (suc (suc (suc (suc (suc (suc (suc (suc zero)))))))))))))))) r h = refl
-no-slash (suc (suc (suc (suc (suc (suc (suc (suc (suc (suc (suc (suc (suc (suc (suc (suc (suc n))))))))))))))))) r h = absurd (omega arith)
+no-slash n r h = each-name n r h .1
 
 next-close : (n : ℕ) (r : Bytes) → IsName n → next (write (closes n) r) ≡ got (closes n) r
 unfolding next headAt headed write begins closeHead

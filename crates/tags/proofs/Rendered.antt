@@ -25,6 +25,12 @@ unfolding render
 render-append [] js = refl
 render-append (i ∷ is) js = ap (λ (z : Bytes). bytesOf i ++ z) (render-append is js) ∙ sym (append-assoc (bytesOf i) (render is) (render js))
 
+pub attrs-append : (ps qs : List Attr) → attrsBytes (ps ++ qs) ≡ attrsBytes ps ++ attrsBytes qs
+unfolding attrsBytes
+attrs-append [] qs = refl
+attrs-append (p ∷ ps) qs =
+    ap (λ (z : Bytes). attrBytes p ++ z) (attrs-append ps qs) ∙ sym (append-assoc (attrBytes p) (attrsBytes ps) (attrsBytes qs))
+
 -- ---- clean bytes
 
 -- clean in front of clean is clean

@@ -10,7 +10,7 @@ use lib.Seq.{drop-drop}
 use lib.Dec.{eqb, leb}
 use borrow.Author.Tests.{eq-eqb, ne-eqb, lt-ltb, le-ltb, le-leb, lt-leb}
 use Rattle.parts.specs.Bytes.{Bytes, part}
-use Rattle.tape.specs.File.{le16, le32, nodeOf, entryOf, recordsOf, Tape, tapeIn, entriesAt, namesAt, sourceAt, sectionsOf, nowhere, nameless, nodeAt, entryAt, kindAt, textAt, entryName, isSynthetic, isNested, bearsMarker, infoAt, numberAt, categoryOf, elementOf, nameOf}
+use Rattle.tape.specs.File.{le16, le32, nodeOf, entryOf, recordsOf, Tape, tapeIn, entriesAt, namesAt, sourceAt, sectionsOf, nowhere, nameless, nodeAt, entryAt, kindAt, textAt, entryName, isSynthetic, isNested, bearsMarker, infoAt, numberAt, categoryOf, elementOf, baseLen, nameOf}
 use Rattle.tape.specs.Tree.{isClose, holds, matchingClose, childBefore, firstChild, lastOf, siblingPast, nextSibling}
 use Rattle.tape.specs.declared.kinds.Kind.{Kind}
 use Rattle.tape.specs.declared.kinds.Flags.{Flags}
@@ -304,6 +304,14 @@ module _ {i j : Info} (ei : i ≡ j) where
   pub element-unknown : {c : Element} → i ≡ Unknown → c .code ≡ 0 → c .code ≡ elementOf j
   unfolding elementOf
   element-unknown h e = e ∙ ap elementOf (sym h ∙ ei)
+
+  pub base-known : (e : Entry) {n : ℕ} → i ≡ Known e → n ≡ e .len → n ≡ baseLen j
+  unfolding baseLen
+  base-known e h en = en ∙ ap baseLen (sym h ∙ ei)
+
+  pub base-unknown : i ≡ Unknown → 0 ≡ baseLen j
+  unfolding baseLen
+  base-unknown h = ap baseLen (sym h ∙ ei)
 
   pub name-known : (t : Tape) (e : Entry) {r : Bytes} → i ≡ Known e → r ≡ entryName t e → r ≡ nameOf t j
   unfolding nameOf

@@ -8,10 +8,20 @@ use lib.ListN.{length}
 use lib.Dec.{ltb}
 use borrow.Author.Tests.{ltb-false, ltb-true}
 use Rattle.tape.specs.File.{Tape, kindAt}
-use Rattle.tape.specs.Tree.{isClose, lastOf, siblingPast, nextSibling, firstChild, left, along, walkFrom, children, siblings, upTo, without}
+use Rattle.tape.specs.Tree.{isClose, lastOf, siblingPast, nextSibling, firstChild, left, along, walkFrom, children, siblings, found, upTo, without}
 use Rattle.tape.specs.declared.Cursor.{Cursor}
 use Rattle.tape.specs.declared.Step.{Step}
 use Rattle.tape.specs.declared.Step.the-variants.{At, Done}
+
+-- ---- what a step leads to
+
+pub found-at : (c : Cursor) {s : Step} → s ≡ At c → true ≡ found s
+unfolding found
+found-at c e = rw e
+
+pub found-done : {s : Step} → s ≡ Done → false ≡ found s
+unfolding found
+found-done e = rw e
 
 -- ---- steps go forward
 

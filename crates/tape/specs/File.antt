@@ -159,6 +159,11 @@ unfoldable pub elementOf : Info → ℕ
 elementOf (Known e) = e .element .code
 elementOf Unknown = 0
 
+-- how long the name of a node's entry is; unknown counts 0
+unfoldable pub baseLen : Info → ℕ
+baseLen (Known e) = e .len
+baseLen Unknown = 0
+
 -- the name of a node's entry; what is unknown has none
 unfoldable pub nameOf : Tape → Info → Bytes
 nameOf t (Known e) = entryName t e

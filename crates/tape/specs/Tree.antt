@@ -1,7 +1,7 @@
 -- From a node to others: its close, its children, its siblings.
 use Prim.Native.Nat.{ℕ, zero, suc, _+_, _-_}
 use mathlib.Core.List.{List, [], _∷_}
-use mathlib.Core.Bool.{Bool, cond, _||_}
+use mathlib.Core.Bool.{Bool, true, false, cond, _||_}
 use lib.ListN.{length}
 use lib.Dec.{eqb, ltb}
 use Rattle.tape.specs.File.{Tape, nodeAt, kindAt}
@@ -66,6 +66,11 @@ children t k = walkFrom t (firstChild t k)
 -- the siblings behind a node, by index
 unfoldable pub siblings : Tape → ℕ → List ℕ
 siblings t k = walkFrom t (nextSibling t k)
+
+-- whether a step leads to a node
+unfoldable pub found : Step → Bool
+found Done = false
+found (At c) = true
 
 -- ---- lists of nodes
 

@@ -9,11 +9,14 @@ pub use kinds::Flags;
 pub use kinds::Kind;
 pub use name::bare;
 pub use name::ends_name;
+pub use number::long;
+pub use number::short;
 ghost use mathlib.Core.Path.{_≡_};
+ghost use Prim.Native.Nat.{_<_, _^_};
 ghost use Rattle.parts.specs.Bytes.{part, same};
-ghost use Rattle.tape.specs.File.{le32 as le32Of, nodeOf, entryOf, sectionsOf, entriesAt, namesAt, sourceAt, tapeIn, nodeAt, entryAt, kindAt, textAt, entryName, isSynthetic, isNested, bearsMarker, infoAt, numberAt, categoryOf, elementOf, nameOf};
+ghost use Rattle.tape.specs.File.{le32 as le32Of, nodeOf, entryOf, sectionsOf, entriesAt, namesAt, sourceAt, tapeIn, nodeAt, entryAt, kindAt, textAt, entryName, isSynthetic, isNested, bearsMarker, infoAt, numberAt, categoryOf, elementOf, baseLen, nameOf};
 ghost use Rattle.tape.specs.Name.{markerName, entryIs};
-ghost use Rattle.tape.specs.Tree.{isClose, holds, matchingClose, childBefore, firstChild, lastOf, siblingPast, nextSibling};
+ghost use Rattle.tape.specs.Tree.{isClose, holds, matchingClose, childBefore, firstChild, lastOf, siblingPast, nextSibling, found};
 
 // A node of the tape.
 pub struct Node {
@@ -58,11 +61,21 @@ pub enum Step {
     Done,
 }
 
+// Whether a step leads to a node.
+pub fn is_at(step: Step) -> bool
+    ensures { λ r. ⌜ r ≡ found step ⌝ }
+{
+    match step {
+        Step::At(_) => true,
+        Step::Done => false,
+    }
+}
+
 // The number of the first four bytes, as a length.
 pub fn length_of(s: &[u8]) -> usize
     ensures { λ r. ⌜ r ≡ le32Of (now (s .entry)) ⌝ }
 {
-    number::long(number::le32(s))
+    long(number::le32(s))
 }
 
 impl Sections {
@@ -83,21 +96,21 @@ impl Sections {
     pub fn entries_at(self) -> usize
         ensures { λ r. ⌜ r ≡ entriesAt self ⌝ }
     {
-        number::long(self.head) + 16 * number::long(self.nodes)
+        long(self.head) + 16 * long(self.nodes)
     }
 
     // Where the names stand.
     pub fn names_at(self) -> usize
         ensures { λ r. ⌜ r ≡ namesAt self ⌝ }
     {
-        self.entries_at() + 8 * number::long(self.entries)
+        self.entries_at() + 8 * long(self.entries)
     }
 
     // Where the source stands.
     pub fn source_at(self) -> usize
         ensures { λ r. ⌜ r ≡ sourceAt self ⌝ }
     {
-        self.names_at() + number::long(self.names)
+        self.names_at() + long(self.names)
     }
 }
 
@@ -136,7 +149,7 @@ pub fn node_at(file: &[u8], tape: Sections, at: u32) -> Node
     ensures { λ r. ⌜ r ≡ nodeAt (tapeIn tape (now (file .entry))) at ⌝ }
 {
     if at < tape.nodes {
-        let place = number::long(tape.head) + 16 * number::long(at);
+        let place = long(tape.head) + 16 * long(at);
         Node::of(parts::from(file, place))
     } else {
         Node {
@@ -155,7 +168,7 @@ pub fn entry_at(file: &[u8], tape: Sections, at: u32) -> Entry
     ensures { λ r. ⌜ r ≡ entryAt (tapeIn tape (now (file .entry))) at ⌝ }
 {
     if at < tape.entries {
-        let place = tape.entries_at() + 8 * number::long(at);
+        let place = tape.entries_at() + 8 * long(at);
         Entry::of(parts::from(file, place))
     } else {
         Entry {
@@ -175,25 +188,21 @@ pub fn entry_at(file: &[u8], tape: Sections, at: u32) -> Entry
 pub fn names(file: &[u8], tape: Sections) -> &[u8]
     ensures { λ r. ⌜ now r ≡ tapeIn tape (now (file .entry)) .names ⌝ }
 {
-    parts::part(file, tape.names_at(), number::long(tape.names))
+    parts::part(file, tape.names_at(), long(tape.names))
 }
 
 // The source bytes of a file.
 pub fn source(file: &[u8], tape: Sections) -> &[u8]
     ensures { λ r. ⌜ now r ≡ tapeIn tape (now (file .entry)) .source ⌝ }
 {
-    parts::part(file, tape.source_at(), number::long(tape.source))
+    parts::part(file, tape.source_at(), long(tape.source))
 }
 
 // The name of an entry.
 pub fn entry_name(file: &[u8], tape: Sections, e: Entry) -> &[u8]
     ensures { λ r. ⌜ now r ≡ entryName (tapeIn tape (now (file .entry))) e ⌝ }
 {
-    parts::part(
-        names(file, tape),
-        number::long(e.start),
-        number::short(e.len),
-    )
+    parts::part(names(file, tape), long(e.start), short(e.len))
 }
 
 impl Kind {
@@ -322,6 +331,17 @@ impl Cursor {
         }
     }
 
+    // How long the name of the node's entry is; unknown counts 0.
+    pub fn base_len(self, file: &[u8], tape: Sections) -> usize
+        ensures { λ r. ⌜ r ≡ baseLen (infoAt (tapeIn tape (now (file .entry))) (self .at)) ⌝ }
+        ensures { λ r. ⌜ r < 2 ^ 16 ⌝ }
+    {
+        match self.marker_info(file, tape) {
+            Info::Known(e) => short(e.len),
+            Info::Unknown => 0,
+        }
+    }
+
     // The name of the node's entry; nothing where it is unknown.
     pub fn entry_name(self, file: &[u8], tape: Sections) -> &[u8]
         ensures { λ r. ⌜ now r ≡ nameOf (tapeIn tape (now (file .entry))) (infoAt (tapeIn tape (now (file .entry))) (self .at)) ⌝ }
@@ -337,11 +357,7 @@ impl Cursor {
         ensures { λ r. ⌜ now r ≡ textAt (tapeIn tape (now (file .entry))) (self .at) ⌝ }
     {
         let n = self.node(file, tape);
-        parts::part(
-            source(file, tape),
-            number::long(n.start),
-            number::long(n.len),
-        )
+        parts::part(source(file, tape), long(n.start), long(n.len))
     }
 
     // The node that a MarkerOpen links to.

@@ -40,6 +40,7 @@ pub fn le32(s: &[u8]) -> u32
 // A u16 as a length.
 pub fn short(x: u16) -> usize
     ensures { λ r. ⌜ r ≡ x ⌝ }
+    ensures { λ r. ⌜ r < 2 ^ 16 ⌝ }
 {
     x as usize
 }

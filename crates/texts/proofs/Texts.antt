@@ -10,10 +10,10 @@ use borrow.Author.Tests.{eq-eqb, ne-eqb, eqb-true, eqb-false, lt-ltb}
 use Rattle.parts.specs.Bytes.{Bytes, begins, firstAt, find}
 use Rattle.chars.specs.Range.{inAny, within}
 use Rattle.chars.specs.Space.{isAsciiWhite}
-use Rattle.words.specs.Words.{words, joined, isBlank as blank, nextWord}
+use Rattle.words.specs.Words.{words, joined, isBlank as blank, nextWord, bytesOf}
 use Rattle.words.specs.declared.Set.{Set}
 use Rattle.words.specs.declared.Set.the-variants.{Ascii}
-use Rattle.words.proofs.Places.{bytesOf, endOf, words-none, words-next}
+use Rattle.words.proofs.Places.{endOf, words-none, words-next}
 use Rattle.texts.specs.declared.Normalized.{Normalized}
 use Rattle.texts.specs.Text.{hardSpaces, bodyOf, spaced, bodyTail, startsWhite, endsWhite, blankLead, normalizeText, spaceIf, written}
 use Rattle.words.proofs.Blank.{blank-words}

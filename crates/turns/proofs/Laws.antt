@@ -22,9 +22,9 @@ use Rattle.render.specs.Label.{labelOf}
 use Rattle.render.specs.Note.{remainder}
 use Rattle.render.proofs.Follows.{kept-on, kept-first, behind-far, behind-done, follows-of}
 use Rattle.fold.specs.Fold.{Folded, foldAt, numberOf}
-use Rattle.fold.specs.declared.Folds.{Folds}
 use Rattle.lists.specs.Span.{nodesIn, foldedIn}
 use Rattle.lists.specs.declared.Span.{Span}
+use Rattle.lists.specs.declared.Folds.{Folds}
 use Rattle.events.specs.Event.{Event, verse}
 use Rattle.events.specs.Walk.{normalized, unbroken, broken, inlineTurn, inlineAll, noteText, noteTurn, noteAll}
 use Rattle.events.specs.Emit.{Desk, emit, emitAll}

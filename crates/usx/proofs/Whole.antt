@@ -40,7 +40,7 @@ use Rattle.events.specs.Emit.{Desk, lay, emitAll, emitted, afterAll}
 use Rattle.events.proofs.Emits.{paired-emitted, emit-page, emit-state}
 use Rattle.marks.specs.Mark.{newMarks}
 use Rattle.marks.specs.declared.Marks.{Marks}
-use Rattle.sink.specs.Desk.{bytesOf as partBytes, chapterIn, verseIn, stateIn, deskIn, putOn}
+use Rattle.sink.specs.Desk.{chapterIn, verseIn, stateIn, deskIn, putOn}
 use Rattle.sink.specs.declared.Sink.{Sink}
 use Rattle.usx.specs.Answer.{numberOf, givenOf, outcomeOf, wholeIn}
 use Rattle.usx.specs.declared.Answer.{Answer}
@@ -141,7 +141,7 @@ unfolding nodesIn cutAt filtered eventsOf
 events-all t es = ap (blocksE t 64) (children-walk t 0 es)
 
 first-state : (t : Tape) {n : ℕ} {m : Marks} → m ≡ newMarks n → n ≡ firstState t .number → stateIn (t .source) m ≡ firstState t
-unfolding stateIn partBytes chapterIn verseIn firstState
+unfolding stateIn chapterIn verseIn firstState
 first-state t em en = rw em (ap (λ (k : ℕ). record { book = []; number = k; chapter = nothing; verse = nothing }) en)
 
 module _ (t : Tape) (n : ℕ) (m : Marks) (em : m ≡ newMarks n) (out : Bytes) {k : Cursor} (ek : k .at ≡ 0) {s : Step} (es : s ≡ firstChild t (k .at))

@@ -6,11 +6,11 @@ use native.Mathlib.Omega.{arith}
 use lib.ListN.{length, getD, take, drop, length-drop}
 use lib.Seq.{drop-drop}
 use Rattle.parts.specs.Bytes.{Bytes}
-use Rattle.words.specs.Words.{words, trimStart, trimEnd, trim, whiteLen, wordLen, wordFrom, afterWord, lastOf, nextWord, nthWord}
+use Rattle.words.specs.Words.{words, trimStart, trimEnd, trim, whiteLen, wordLen, wordFrom, afterWord, lastOf, nextWord, nthWord, bytesOf}
 use Rattle.words.specs.declared.Set.{Set}
 use Rattle.words.specs.declared.Part.{Part}
 use Rattle.words.proofs.Texts.{white-le, trim-start-drop, trim-end-take}
-use Rattle.words.proofs.Places.{bytesOf, endOf, next-from, next-start, next-in, words-none, words-next, nth-none, nth-bytes}
+use Rattle.words.proofs.Places.{endOf, next-from, next-start, next-in, words-none, words-next, nth-none, nth-bytes}
 
 module _ (set : Set) (s : Bytes) where
   -- ---- trims

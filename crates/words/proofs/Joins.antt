@@ -9,14 +9,14 @@ use lib.Seq.{length-take-le}
 use Rattle.parts.specs.Bytes.{Bytes}
 use Rattle.chars.specs.Utf8.{every}
 use Rattle.chars.proofs.Characters.{cut-first}
-use Rattle.words.specs.Words.{stepOf, charsOf, white, solid, takeWhile, pieces, nonempty, words, trimStart, wordLen, nextWord, joined}
+use Rattle.words.specs.Words.{stepOf, charsOf, white, solid, takeWhile, pieces, nonempty, words, trimStart, wordLen, nextWord, joined, bytesOf}
 use Rattle.words.specs.declared.Set.{Set}
 use Rattle.words.specs.declared.Part.{Part}
 use Rattle.words.proofs.Rows.{flatten-append, row-join}
 use Rattle.words.proofs.Runs.{every-take-while, words-run}
 use Rattle.words.proofs.Steps.{size-some, space-apart, space-size, space-white}
 use Rattle.words.proofs.Texts.{chars-flatten, chars-row, row-chars, run-chars}
-use Rattle.words.proofs.Places.{words-nil, bytesOf, endOf, word-in, next-from, next-len, next-start, next-fits, words-none, words-next}
+use Rattle.words.proofs.Places.{words-nil, endOf, word-in, next-from, next-len, next-start, next-fits, words-none, words-next}
 
 -- a word: some characters, none of them white space
 pub record IsWord (set : Set) (w : Bytes) : Type 0 where

@@ -6,17 +6,13 @@ use Prim.Native.Nat.{ℕ, zero, suc, _+_, _-_, _≤_, _<_}
 use native.Mathlib.Omega.{arith}
 use lib.ListN.{length, getD, drop, length-drop, drop-of-length-le}
 use lib.Seq.{drop-drop, length-take-le}
-use Rattle.parts.specs.Bytes.{Bytes, part}
+use Rattle.parts.specs.Bytes.{Bytes}
 use Rattle.chars.specs.Utf8.{cutAt}
-use Rattle.words.specs.Words.{charsOf, words, trimStart, whiteLen, wordLen, wordFrom, nextWord, nthWord, pieces, nonempty}
+use Rattle.words.specs.Words.{charsOf, words, trimStart, whiteLen, wordLen, wordFrom, nextWord, nthWord, pieces, nonempty, bytesOf}
 use Rattle.words.specs.declared.Set.{Set}
 use Rattle.words.specs.declared.Part.{Part}
 use Rattle.words.proofs.Runs.{wordIn}
 use Rattle.words.proofs.Texts.{white-le, word-le, trim-start-drop, words-trim-start, words-split, word-none}
-
--- the bytes of a part
-abbrev pub bytesOf : Bytes → Part → Bytes
-bytesOf s p = part s (p .start) (p .len)
 
 -- where a part ends
 abbrev pub endOf : Part → ℕ

@@ -3,7 +3,7 @@ use Prim.Native.Nat.{ℕ, zero, suc, _+_, min}
 use mathlib.Core.List.{List, [], _∷_, _++_, flatten}
 use mathlib.Core.Bool.{Bool, cond, not}
 use lib.ListN.{length, drop, getD}
-use Rattle.parts.specs.Bytes.{Bytes}
+use Rattle.parts.specs.Bytes.{Bytes, part}
 use Rattle.chars.specs.Utf8.{step, cut, every, codeOf}
 use Rattle.chars.specs.Space.{isWhite, isAsciiWhite}
 use Rattle.words.specs.declared.Set.{Set}
@@ -104,6 +104,10 @@ lastOf (w ∷ []) = w
 lastOf (w ∷ v ∷ ws) = lastOf (v ∷ ws)
 
 -- ---- words as parts of a text
+
+-- the bytes of a part
+abbrev pub bytesOf : Bytes → Part → Bytes
+bytesOf s p = part s (p .start) (p .len)
 
 -- where the first word at or after a place starts; the text's length where there is none
 unfoldable pub wordFrom : Set → Bytes → ℕ → ℕ

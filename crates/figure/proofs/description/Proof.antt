@@ -3,8 +3,8 @@ use borrow.Author.Needs.{needs}
 use Rattle.figure.proofs.description.Statement.{statement}
 use Rattle.figure.proofs.description.Tie as tie
 
-child-of-requires : tie.Need-child-of-requires
-child-of-requires c κs = search needs
+first-text-requires : tie.Need-first-text-requires
+first-text-requires c κs = search needs
 
 enum-told : tie.Need-enum-told
 enum-told c = search needs
@@ -31,7 +31,7 @@ pub description-spec : {M : Type 1} → statement M
 description-spec =
     tie.close
     (tie.spec
-    child-of-requires
+    first-text-requires
     enum-told
     part-requires
     enum-known-child

@@ -3,8 +3,11 @@ use borrow.Author.Needs.{needs}
 use Rattle.figure.proofs.legacy.Statement.{statement}
 use Rattle.figure.proofs.legacy.Tie as tie
 
-child-of-requires : tie.Need-child-of-requires
-child-of-requires c κs = search needs
+first-child-requires : tie.Need-first-child-requires
+first-child-requires c κs = search needs
+
+find-requires : tie.Need-find-requires
+find-requires c κs = search needs
 
 enum-told : tie.Need-enum-told
 enum-told c = search needs
@@ -34,7 +37,8 @@ pub legacy-spec : {M : Type 1} → statement M
 legacy-spec =
     tie.close
     (tie.spec
-    child-of-requires
+    first-child-requires
+    find-requires
     enum-told
     enum-known-a
     text-requires

@@ -3,8 +3,8 @@ use borrow.Author.Needs.{needs}
 use Rattle.fold.proofs.claims.Statement.{statement}
 use Rattle.fold.proofs.claims.Tie as tie
 
-is-blank-text-requires : tie.Need-is-blank-text-requires
-is-blank-text-requires c κs = search needs
+is-blank-requires : tie.Need-is-blank-requires
+is-blank-requires c κs = search needs
 
 returns : tie.Need-returns
 returns c = search claim-blank
@@ -30,8 +30,8 @@ enum-told c = search needs
 returns-3 : tie.Need-returns-3
 returns-3 c = search claim-taken
 
-is-plain-requires : tie.Need-is-plain-requires
-is-plain-requires c κs = search needs
+is-plain-text-requires : tie.Need-is-plain-text-requires
+is-plain-text-requires c κs = search needs
 
 returns-4 : tie.Need-returns-4
 returns-4 c = search claim-plain
@@ -43,7 +43,7 @@ pub claims-spec : {M : Type 1} → statement M
 claims-spec =
     tie.close
     (tie.spec
-    is-blank-text-requires
+    is-blank-requires
     returns
     kind-requires
     returns-2
@@ -52,6 +52,6 @@ claims-spec =
     free-requires
     enum-told
     returns-3
-    is-plain-requires
+    is-plain-text-requires
     returns-4
     returns-5)

@@ -3,9 +3,6 @@ use borrow.Author.Needs.{needs}
 use Rattle.admit.proofs.labels.good_label.Statement.{statement}
 use Rattle.admit.proofs.labels.good_label.Tie as tie
 
-marker-info-requires : tie.Need-marker-info-requires
-marker-info-requires c κs = search needs
-
 base-len-requires : tie.Need-base-len-requires
 base-len-requires c κs = search needs
 
@@ -61,7 +58,6 @@ pub good-label-spec : {M : Type 1} → statement M
 good-label-spec =
     tie.close
     (tie.spec
-    marker-info-requires
     base-len-requires
     text-requires
     bare-requires

@@ -6,9 +6,6 @@ use Rattle.admit.proofs.labels.is_clear.Tie as tie
 node-at-requires : tie.Need-node-at-requires
 node-at-requires c κs = search needs
 
-marker-info-requires : tie.Need-marker-info-requires
-marker-info-requires c κs = search needs
-
 base-len-requires : tie.Need-base-len-requires
 base-len-requires c κs = search needs
 
@@ -32,7 +29,6 @@ is-clear-spec =
     tie.close
     (tie.spec
     node-at-requires
-    marker-info-requires
     base-len-requires
     text-requires
     bare-requires

@@ -3,9 +3,6 @@ use borrow.Author.Needs.{needs}
 use Rattle.render.proofs.label.name_rest.Statement.{statement}
 use Rattle.render.proofs.label.name_rest.Tie as tie
 
-marker-info-requires : tie.Need-marker-info-requires
-marker-info-requires c κs = search needs
-
 base-len-requires : tie.Need-base-len-requires
 base-len-requires c κs = search needs
 
@@ -33,8 +30,8 @@ marker-name-requires c κs = search needs
 returns : tie.Need-returns
 returns c = search rest-none
 
-sub-t13 : tie.Need-sub-t13
-sub-t13 c = search needs
+sub-len : tie.Need-sub-len
+sub-len c = search needs
 
 returns-2 : tie.Need-returns-2
 returns-2 c = search rest-some
@@ -43,7 +40,6 @@ pub name-rest-spec : {M : Type 1} → statement M
 name-rest-spec =
     tie.close
     (tie.spec
-    marker-info-requires
     base-len-requires
     text-requires
     name-start-requires
@@ -53,5 +49,5 @@ name-rest-spec =
     add-start
     marker-name-requires
     returns
-    sub-t13
+    sub-len
     returns-2)
