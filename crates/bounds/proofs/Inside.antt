@@ -29,7 +29,7 @@ use Rattle.figure.specs.Figure.{legacyAt, legacyPairs, captionOf, fieldAt}
 use Rattle.tags.specs.Items.{Attr, empty, text, bytesOf}
 use Rattle.admit.specs.Refusal.{Kept₇}
 use Rattle.events.specs.Event.{Event, item, chapter, verse, book, rawly, escaped, perhaps, collected, element}
-use Rattle.events.specs.Walk.{unbroken, breaks, segmented, broken, style, styled, unclosed, Manner, asInline, asNote, Role, unknownBlock, unknownInline, unwritten, figure, ref, id, note, ms, char, para, roleOf, isRef, linkOf, linked, figureAs, markerAs, nodeIn, Child, anchor, words, passed, marker, childOf, noteChildOf, Turn, normalized, inlineTurn, inlineFrom, inlineAll, noteText, noteTurn, noteAll, inside}
+use Rattle.events.specs.Walk.{unbroken, breaks, segmented, broken, style, styled, unclosed, Manner, asInline, asNote, Role, unknownBlock, unknownInline, unwritten, figure, ref, id, note, ms, char, para, roleOf, isRef, linkOf, linked, figureAs, markerAs, nodeIn, Child, anchor, words, passed, marker, childOf, noteChildOf, Turn, normalized, inlineTurn, inlineFrom, inlineAll, noteText, noteTurn, noteAll, inside, NoteChild, direct, leftOut, entered, Noted}
 use Rattle.bounds.proofs.Items.{attrCost, attrsCost, attrs-append, empty-most, text-most}
 use Rattle.bounds.proofs.Light.{sizeOr, Light, nil, more, light-most, light-append, light-item, light-one, light-element, perhaps-most}
 use Rattle.bounds.proofs.Mass.{cost, cost-least, cost-most, under, cost-under, under-most, sizeOf, sizes, mass, mass-is, size-some, inner-size}
@@ -242,19 +242,18 @@ module _ (file : Bytes) (z : Kept₇ file) where
         go true = omega (arith, after-most Unicode (textAt t k), text-limit file z k)
         go false = text-limit file z k
 
-    note-turn : (first : ℕ) (trim : Bool) (k : ℕ) (c : Child) → Light (cost d (sizeOf t k)) (noteTurn node t first behind trim k c .written)
+    note-turn : (first : ℕ) (trim : Bool) (k : ℕ) (c : NoteChild) → Light (cost d (sizeOf t k)) (noteTurn node t first behind trim k c .written)
     unfolding noteTurn
-    note-turn first trim k anchor = nil
-    note-turn first trim k words =
+    note-turn first trim k direct =
         light-most (unbroken-light (noteText t first k) (normalized t k (noteText t first k) trim behind) (note-text first k)) (text-cost d k)
-    note-turn first trim k passed = nil
-    note-turn first trim k marker = light k behind
+    note-turn first trim k leftOut = nil
+    note-turn first trim k entered = light k behind
 
     pub note-light : (first : ℕ) (trim : Bool) (ks : List ℕ) → Light (mass t d ks) (noteAll node t first behind trim ks)
     unfolding noteAll
     note-light first trim [] = nil
     note-light first trim (k ∷ ks) =
-        let r : Turn = noteTurn node t first behind trim k (noteChildOf t k) in
+        let r : Noted = noteTurn node t first behind trim k (noteChildOf t k) in
         light-append (note-turn first trim k (noteChildOf t k)) (note-light first (r .trim) ks) (omega (arith, mass-more d k ks))
 
   -- ---- by depth

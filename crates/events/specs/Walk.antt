@@ -146,11 +146,14 @@ pub data Child : Type 0 where
 unfoldable pub childOf : ℕ → Child
 childOf kind = cond (eqb kind 7) anchor (cond (eqb kind 1) words (cond (eqb kind 2 || eqb kind 8) passed marker))
 
--- in a note `cat` is passed over, and a Verse folds nothing
-unfoldable pub noteChildOf : Tape → ℕ → Child
+-- what a child is to a note: `cat`, Attribute and Error are left out; a Verse is entered as a marker is, and folds nothing
+pub data NoteChild : Type 0 where
+  direct leftOut entered : NoteChild
+
+unfoldable pub noteChildOf : Tape → ℕ → NoteChild
 noteChildOf t k =
-    cond (isCategoryMarker t k) passed
-    (cond (eqb (kindAt t k) 1) words (cond (eqb (kindAt t k) 2 || eqb (kindAt t k) 8) passed marker))
+    cond (isCategoryMarker t k) leftOut
+    (cond (eqb (kindAt t k) 1) direct (cond (eqb (kindAt t k) 2 || eqb (kindAt t k) 8) leftOut entered))
 
 -- one turn along a list: what is written, whether a text behind it loses its leading space, and where the list goes on
 pub record Turn : Type 0 where
@@ -187,14 +190,18 @@ inlineAll node t behind trim ks = inlineFrom node t behind (length ks) trim ks
 unfoldable pub noteText : Tape → ℕ → ℕ → Bytes
 noteText t first k = cond (eqb k first) (remainder (textAt t k)) (textAt t k)
 
+-- one turn along a note's children: what is written, and whether a text behind it loses its leading space
+pub record Noted : Type 0 where
+  pub written : List Event
+  pub trim : Bool
+
 -- a child of a note: direct text is never split at `//`
-unfoldable pub noteTurn : (ℕ → Bool → List Event) → Tape → ℕ → Bool → Bool → ℕ → Child → Turn
-noteTurn node t first behind trim k anchor = record { written = []; trim = trim; rest = [] }
-noteTurn node t first behind trim k words =
+unfoldable pub noteTurn : (ℕ → Bool → List Event) → Tape → ℕ → Bool → Bool → ℕ → NoteChild → Noted
+noteTurn node t first behind trim k direct =
     let n = normalized t k (noteText t first k) trim behind in
-    record { written = unbroken (noteText t first k) n; trim = trim && not (n .shows); rest = [] }
-noteTurn node t first behind trim k passed = record { written = []; trim = trim; rest = [] }
-noteTurn node t first behind trim k marker = record { written = node k behind; trim = trimsAfter t k; rest = [] }
+    record { written = unbroken (noteText t first k) n; trim = trim && not (n .shows) }
+noteTurn node t first behind trim k leftOut = record { written = []; trim = trim }
+noteTurn node t first behind trim k entered = record { written = node k behind; trim = trimsAfter t k }
 
 -- the events of a note's children, of which the first has this index
 unfoldable pub noteAll : (ℕ → Bool → List Event) → Tape → ℕ → Bool → Bool → List ℕ → List Event

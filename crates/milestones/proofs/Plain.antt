@@ -25,7 +25,7 @@ use Rattle.checker.specs.Words.{Kind, Demand, startsIn}
 use Rattle.events.specs.Event.{Event, item, chapter, verse, book, element}
 use Rattle.events.specs.Pairing.{paired}
 use Rattle.events.specs.Text.{firstState}
-use Rattle.events.specs.Walk.{unbroken, breaks, segmented, broken, Manner, asInline, asNote, Role, unknownBlock, unknownInline, unwritten, figure, ref, id, note, ms, char, para, roleOf, linkOf, linked, figureAs, markerAs, nodeIn, Child, anchor, words, passed, marker, childOf, noteChildOf, normalized, inlineTurn, inlineFrom, inlineAll, noteText, noteTurn, noteAll, inside, levelOf, isCell, cellIn, cellsAlong, cells, rowE, rowsE, tableE, holder, sidebarIn, periphIn, Place, aRow, aChapter, aSidebar, aPeriph, aBlock, aVerse, dropped, placeOf, blockTurn, blocksFrom, blocksE, eventsOf}
+use Rattle.events.specs.Walk.{unbroken, breaks, segmented, broken, Manner, asInline, asNote, Role, unknownBlock, unknownInline, unwritten, figure, ref, id, note, ms, char, para, roleOf, linkOf, linked, figureAs, markerAs, nodeIn, Child, anchor, words, passed, marker, childOf, noteChildOf, normalized, inlineTurn, inlineFrom, inlineAll, noteText, noteTurn, noteAll, inside, levelOf, isCell, cellIn, cellsAlong, cells, rowE, rowsE, tableE, holder, sidebarIn, periphIn, Place, aRow, aChapter, aSidebar, aPeriph, aBlock, aVerse, dropped, placeOf, blockTurn, blocksFrom, blocksE, eventsOf, NoteChild, direct, leftOut, entered}
 use Rattle.milestones.specs.Seen.{seen, startOf, opening, PlainEvents, chaptersIn, versesIn}
 use Rattle.milestones.proofs.Paired.{paired-demand, paired-counts}
 
@@ -126,12 +126,11 @@ module _ (node : ℕ → Bool → List Event) (h : (k : ℕ) (outer : Bool) → 
   unfolding inlineAll
   plain-all behind trim ks = plain-inline behind (length ks) trim ks
 
-  plain-note-turn : (first : ℕ) (behind trim : Bool) (k : ℕ) (c : Child) → PlainEvents (noteTurn node t first behind trim k c .written)
+  plain-note-turn : (first : ℕ) (behind trim : Bool) (k : ℕ) (c : NoteChild) → PlainEvents (noteTurn node t first behind trim k c .written)
   unfolding noteTurn
-  plain-note-turn first behind trim k anchor = tt
-  plain-note-turn first behind trim k words = plain-unbroken (noteText t first k) (normalized t k (noteText t first k) trim behind)
-  plain-note-turn first behind trim k passed = tt
-  plain-note-turn first behind trim k marker = h k behind
+  plain-note-turn first behind trim k direct = plain-unbroken (noteText t first k) (normalized t k (noteText t first k) trim behind)
+  plain-note-turn first behind trim k leftOut = tt
+  plain-note-turn first behind trim k entered = h k behind
 
   plain-note : (first : ℕ) (behind trim : Bool) (ks : List ℕ) → PlainEvents (noteAll node t first behind trim ks)
   unfolding noteAll

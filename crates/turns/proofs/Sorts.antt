@@ -19,7 +19,7 @@ use Rattle.lists.specs.declared.Member.{Member}
 use Rattle.lists.specs.declared.Member.the-variants.{End as EndMember, Skipped as SkippedMember, Listed}
 use Rattle.lists.proofs.Nodes.{nodes-turn}
 use Rattle.events.specs.Event.{Event}
-use Rattle.events.specs.Walk.{anchor, words, passed, marker, childOf, noteChildOf, inlineTurn, inlineAll, noteTurn, noteAll}
+use Rattle.events.specs.Walk.{anchor, words, passed, marker, childOf, noteChildOf, inlineTurn, inlineAll, noteTurn, noteAll, direct, leftOut, entered}
 use Rattle.events.proofs.Turns.{inlineOn, inline-turn, inline-none}
 use Rattle.turns.specs.Turn.{sortOf, sortBy, sortIn, noteSort, plainFrom, onward, notePlain, noteOnward}
 use Rattle.turns.specs.declared.Child.the-variants.{Skipped, Anchor, Words, Passed}
@@ -127,7 +127,7 @@ module _ (node : ℕ → Bool → List Event) (t : Tape) (behind trim : Bool) wh
   note-on first k ks = go (isCategoryMarker t k) (eqb (kindAt t k) 1) (eqb (kindAt t k) 2 || eqb (kindAt t k) 8)
     where
       go : (x y z : Bool)
-          → (let r = noteTurn node t first behind trim k (cond x passed (cond y words (cond z passed marker))) in r .written ++ noteAll node t first behind (r .trim) ks)
+          → (let r = noteTurn node t first behind trim k (cond x leftOut (cond y direct (cond z leftOut entered))) in r .written ++ noteAll node t first behind (r .trim) ks)
           ≡ noteOnward node t behind trim first k ks (cond x (Plain Skipped) (cond y (Plain Words) (cond z (Plain Passed) Enter)))
       go true y z = refl
       go false true z = refl

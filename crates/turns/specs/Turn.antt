@@ -13,7 +13,7 @@ use Rattle.lists.specs.declared.Span.{Span}
 use Rattle.lists.specs.declared.Member.{Member}
 use Rattle.lists.specs.declared.Member.the-variants.{End as EndMember, Skipped as SkippedMember, Listed}
 use Rattle.events.specs.Event.{Event}
-use Rattle.events.specs.Walk.{anchor, words, inlineAll, noteTurn, noteAll}
+use Rattle.events.specs.Walk.{anchor, words, inlineAll, noteTurn, noteAll, direct}
 use Rattle.events.proofs.Turns.{inlineOn}
 use Rattle.turns.specs.declared.Child.{Child}
 use Rattle.turns.specs.declared.Child.the-variants.{Skipped, Anchor, Words, Passed}
@@ -61,7 +61,7 @@ module _ (node : ℕ → Bool → List Event) (t : Tape) (behind trim : Bool) wh
   unfoldable pub notePlain : ℕ → ℕ → List ℕ → Child → List Event
   notePlain first k ks Skipped = noteAll node t first behind trim ks
   notePlain first k ks Anchor = noteAll node t first behind trim ks
-  notePlain first k ks Words = let r = noteTurn node t first behind trim k words in r .written ++ noteAll node t first behind (r .trim) ks
+  notePlain first k ks Words = let r = noteTurn node t first behind trim k direct in r .written ++ noteAll node t first behind (r .trim) ks
   notePlain first k ks Passed = noteAll node t first behind trim ks
 
   unfoldable pub noteOnward : ℕ → ℕ → List ℕ → Sort → List Event
