@@ -6,7 +6,7 @@ use Prim.Native.Nat.{ℕ, _≤_, _<_}
 use native.Mathlib.Omega.{arith}
 use Rattle.parts.specs.Bytes.{Bytes, b}
 use Rattle.tape.specs.File.{Tape, kindAt, infoAt, numberAt}
-use Rattle.tape.specs.Tree.{nextSibling, walkFrom, upTo, left}
+use Rattle.tape.specs.Tree.{nextSibling, upTo, left}
 use Rattle.tape.specs.declared.Cursor.{Cursor}
 use Rattle.tape.specs.declared.kinds.Kind.{Kind}
 use Rattle.tape.specs.declared.Step.{Step}
@@ -15,7 +15,7 @@ use Rattle.tape.proofs.Walk.{left-turn, up-to-go}
 use Rattle.render.specs.Shape.{isRow, isChapter, isVerse, isElement, isTopLevelBlock}
 use Rattle.render.proofs.Shapes.{kind-is, kind-not}
 use Rattle.fold.specs.Fold.{Folded, foldAt, numberOf}
-use Rattle.lists.specs.Span.{nodesIn, memberOf, foldedIn, cutAt, filtered}
+use Rattle.lists.specs.Span.{nodesIn, memberOf, foldedIn, cutAt}
 use Rattle.lists.specs.declared.Span.{Span}
 use Rattle.lists.specs.declared.Member.the-variants.{Listed}
 use Rattle.lists.specs.declared.Folds.{Folds}
@@ -32,7 +32,7 @@ use Rattle.sink.specs.declared.Sink.{Sink}
 use Rattle.sink.proofs.Chains.{item-on}
 use Rattle.tables.specs.Rows.{isNoRow}
 use Rattle.tables.proofs.Spans.{up-row}
-use Rattle.blocks.specs.Blocks.{holderOf, runOpens, runIn}
+use Rattle.blocks.specs.Blocks.{holderOf, runOpens, runIn, uncut}
 use Rattle.blocks.specs.declared.Holder.the-variants.{Sidebar, Periph, Neither}
 
 -- ---- places
@@ -147,21 +147,12 @@ block-step t span k d {l} {n} el sink a out mid {r} ea er en B =
 
 -- ---- a verse
 
--- a list without category markers, or with them, from a node on that it has
-kept-first : (t : Tape) (span : Span) (c : Cursor) → span .cut ≡ false → memberOf t span (c .at) ≡ Listed
-    → filtered t (span .sifted) (walkFrom t (At c)) ≡ c .at ∷ nodesIn t span (nextSibling t (c .at))
+run-nodes : (t : Tape) (sifted : Bool) (c : Cursor) → memberOf t (uncut sifted) (c .at) ≡ Listed → isTopLevelBlock t (c .at) ≡ false
+    → nodesIn t (record { cut = true; sifted = sifted }) (At c) ≡ c .at ∷ upTo (isTopLevelBlock t) (nodesIn t (uncut sifted) (nextSibling t (c .at)))
 unfolding nodesIn cutAt
-kept-first t span c hc hm = uncut (span .cut) hc (filtered t (span .sifted) (walkFrom t (At c))) ∙ nodes-go t span refl (sym hm) refl refl
-  where
-    uncut : (x : Bool) → x ≡ false → (ks : List ℕ) → ks ≡ cutAt t x ks
-    uncut true h ks = absurd (let no-way : _≡_ {A = ℕ} 0 1 = cc in omega arith)
-    uncut false h ks = refl
-
-run-nodes : (t : Tape) (span : Span) (c : Cursor) → span .cut ≡ false → memberOf t span (c .at) ≡ Listed → isTopLevelBlock t (c .at) ≡ false
-    → nodesIn t (record { cut = true; sifted = span .sifted }) (At c) ≡ c .at ∷ upTo (isTopLevelBlock t) (nodesIn t span (nextSibling t (c .at)))
-unfolding nodesIn cutAt
-run-nodes t span c hc hm hb =
-    ap (upTo (isTopLevelBlock t)) (kept-first t span c hc hm) ∙ up-to-go (isTopLevelBlock t) (c .at) (nodesIn t span (nextSibling t (c .at))) hb
+run-nodes t sifted c hm hb =
+    ap (upTo (isTopLevelBlock t)) (nodes-go t (uncut sifted) refl (sym hm) refl refl)
+    ∙ up-to-go (isTopLevelBlock t) (c .at) (nodesIn t (uncut sifted) (nextSibling t (c .at))) hb
 
 para-opens : bytesOf (start 5 (styled (b "p"))) ≡ b "<para style=\"p\">"
 unfolding bytesOf nameOf styled attrsBytes attrBytes valueOf rawly
@@ -180,28 +171,28 @@ run-opened l sink a r out mid last ea er source =
     er source ∙ ap (putOn (deskIn source a mid)) (sym para-opens) ∙ item-on (deskIn source a mid) (start 5 (styled (b "p")))
     ∙ ap (λ (u : Desk). emit u (item (start 5 (styled (b "p"))))) (ea source)
 
-pub run-whole : (t : Tape) (span : Span) (c : Cursor) (d : ℕ) {l : ℕ} → l ≡ levelOf d → (sink a e r : Sink) (out mid now last : Bytes)
+pub run-whole : (t : Tape) (sifted : Bool) (c : Cursor) (d : ℕ) {l : ℕ} → l ≡ levelOf d → (sink a e r : Sink) (out mid now last : Bytes)
     → ((source : Bytes) → deskIn source a mid ≡ emitAll (deskIn source sink out) (runOpens l))
-    → deskIn (t .source) e now ≡ emitAll (deskIn (t .source) a mid) (inlineAll (nodeIn (inside t d) t) t false true (nodesIn t (record { cut = true; sifted = span .sifted }) (At c)))
+    → deskIn (t .source) e now ≡ emitAll (deskIn (t .source) a mid) (inlineAll (nodeIn (inside t d) t) t false true (nodesIn t (record { cut = true; sifted = sifted }) (At c)))
     → ((source : Bytes) → deskIn source r last ≡ putOn (deskIn source e now) (b "</para>"))
-    → span .cut ≡ false → memberOf t span (c .at) ≡ Listed → isTopLevelBlock t (c .at) ≡ false
-    → deskIn (t .source) r last ≡ emitAll (deskIn (t .source) sink out) (runIn t d (c .at) (nodesIn t span (nextSibling t (c .at))))
+    → memberOf t (uncut sifted) (c .at) ≡ Listed → isTopLevelBlock t (c .at) ≡ false
+    → deskIn (t .source) r last ≡ emitAll (deskIn (t .source) sink out) (runIn t d (c .at) (nodesIn t (uncut sifted) (nextSibling t (c .at))))
 unfolding runOpens runIn element emitAll
-run-whole t span c d el sink a e r out mid now last ea ee er hc hm hb =
-    between (deskIn (t .source) sink out) (runOpens (levelOf d)) (inlineAll (nodeIn (inside t d) t) t false true (c .at ∷ upTo (isTopLevelBlock t) (nodesIn t span (nextSibling t (c .at))))) (item (close 5) ∷ [])
+run-whole t sifted c d el sink a e r out mid now last ea ee er hm hb =
+    between (deskIn (t .source) sink out) (runOpens (levelOf d)) (inlineAll (nodeIn (inside t d) t) t false true (c .at ∷ upTo (isTopLevelBlock t) (nodesIn t (uncut sifted) (nextSibling t (c .at))))) (item (close 5) ∷ [])
     (ea (t .source) ∙ ap (λ (i : ℕ). emitAll (deskIn (t .source) sink out) (runOpens i)) el)
-    (ee ∙ ap (λ (is : List ℕ). emitAll (deskIn (t .source) a mid) (inlineAll (nodeIn (inside t d) t) t false true is)) (run-nodes t span c hc hm hb))
+    (ee ∙ ap (λ (is : List ℕ). emitAll (deskIn (t .source) a mid) (inlineAll (nodeIn (inside t d) t) t false true is)) (run-nodes t sifted c hm hb))
     (er (t .source) ∙ ap (putOn (deskIn (t .source) e now)) (sym para-closes) ∙ item-on (deskIn (t .source) e now) (close 5))
 
-pub verse-turn : (t : Tape) (span : Span) (c : Cursor) (d : ℕ) (s r : Desk)
-    → (span .cut ≡ false → memberOf t span (c .at) ≡ Listed → isTopLevelBlock t (c .at) ≡ false → r ≡ emitAll s (runIn t d (c .at) (nodesIn t span (nextSibling t (c .at)))))
-    → {n : Step} → n ≡ nextSibling t (c .at) → (m : Step) → nodesIn t span m ≡ fromFirst (isTopLevelBlock t) (nodesIn t span n)
-    → span .cut ≡ false → memberOf t span (c .at) ≡ Listed → isTopLevelBlock t (c .at) ≡ false → (B : List ℕ → List Event)
-    → emitAll r (blocksAll B t d (nodesIn t span m)) ≡ emitAll s (blocksOn B t d (c .at) (nodesIn t span (nextSibling t (c .at))) aVerse)
+pub verse-turn : (t : Tape) (sifted : Bool) (c : Cursor) (d : ℕ) (s r : Desk)
+    → (memberOf t (uncut sifted) (c .at) ≡ Listed → isTopLevelBlock t (c .at) ≡ false → r ≡ emitAll s (runIn t d (c .at) (nodesIn t (uncut sifted) (nextSibling t (c .at)))))
+    → {n : Step} → n ≡ nextSibling t (c .at) → (m : Step) → nodesIn t (uncut sifted) m ≡ fromFirst (isTopLevelBlock t) (nodesIn t (uncut sifted) n)
+    → memberOf t (uncut sifted) (c .at) ≡ Listed → isTopLevelBlock t (c .at) ≡ false → (B : List ℕ → List Event)
+    → emitAll r (blocksAll B t d (nodesIn t (uncut sifted) m)) ≡ emitAll s (blocksOn B t d (c .at) (nodesIn t (uncut sifted) (nextSibling t (c .at))) aVerse)
 unfolding blocksOn blockTurn runIn
-verse-turn t span c d s r er {n} en m em hc hm hb B =
-    ap (λ (is : List ℕ). emitAll r (blocksAll B t d is)) (em ∙ ap (λ (u : Step). fromFirst (isTopLevelBlock t) (nodesIn t span u)) en)
-    ∙ then s (runIn t d (c .at) (nodesIn t span (nextSibling t (c .at)))) (blocksAll B t d (fromFirst (isTopLevelBlock t) (nodesIn t span (nextSibling t (c .at))))) (er hc hm hb)
+verse-turn t sifted c d s r er {n} en m em hm hb B =
+    ap (λ (is : List ℕ). emitAll r (blocksAll B t d is)) (em ∙ ap (λ (u : Step). fromFirst (isTopLevelBlock t) (nodesIn t (uncut sifted) u)) en)
+    ∙ then s (runIn t d (c .at) (nodesIn t (uncut sifted) (nextSibling t (c .at)))) (blocksAll B t d (fromFirst (isTopLevelBlock t) (nodesIn t (uncut sifted) (nextSibling t (c .at))))) (er hm hb)
 
 -- ---- a turn by its place
 
@@ -220,10 +211,10 @@ turn-by t span c d B p s hm hp ex = ex ∙ ap (emitAll s) (sym (turn-at t span c
 module _ (t : Tape) (span : Span) (c : Cursor) (d : ℕ) (s : Desk) {x : Bool} (ex : x ≡ isRow t (c .at)) where
   pub row-step : x ≡ true → {r : Desk} {n : Step} (m : Step) → r ≡ emitAll s (tableE t d (upTo (isNoRow t) (nodesIn t span (At c)))) → n ≡ nextSibling t (c .at)
       → nodesIn t span m ≡ fromFirst (isNoRow t) (nodesIn t span n)
-      → span .cut ≡ false → memberOf t span (c .at) ≡ Listed → holderOf t (c .at) ≡ Neither → (B : List ℕ → List Event)
+      → memberOf t span (c .at) ≡ Listed → holderOf t (c .at) ≡ Neither → (B : List ℕ → List Event)
       → emitAll r (blocksAll B t d (nodesIn t span m)) ≡ emitAll s (blocksAll B t d (nodesIn t span (At c)))
   unfolding blocksOn blockTurn
-  row-step hx {r} {n} m er en em hc hm hn B = turn-by t span c d B aRow s hm (place-row t (c .at) (sym ex ∙ hx)) body
+  row-step hx {r} {n} m er en em hm hn B = turn-by t span c d B aRow s hm (place-row t (c .at) (sym ex ∙ hx)) body
     where
       rows : upTo (isNoRow t) (nodesIn t span (At c)) ≡ c .at ∷ upTo (isNoRow t) (nodesIn t span (nextSibling t (c .at)))
       rows = ap (upTo (isNoRow t)) (nodes-go t span refl (sym hm) refl refl) ∙ up-row t (c .at) (nodesIn t span (nextSibling t (c .at))) (sym ex ∙ hx)
@@ -237,9 +228,9 @@ module _ (t : Tape) (span : Span) (c : Cursor) (d : ℕ) (s : Desk) {x : Bool} (
   module _ (hx : x ≡ false) {z : Kind} (ek : z .code ≡ kindAt t (c .at)) (r : Desk) (m : Step) where
     pub chapter-step : z .code ≡ 6
         → ((B : List ℕ → List Event) → emitAll r (blocksAll B t d (nodesIn t span m)) ≡ emitAll s (blocksOn B t d (c .at) (nodesIn t span (nextSibling t (c .at))) aChapter))
-        → span .cut ≡ false → memberOf t span (c .at) ≡ Listed → holderOf t (c .at) ≡ Neither → (B : List ℕ → List Event)
+        → memberOf t span (c .at) ≡ Listed → holderOf t (c .at) ≡ Neither → (B : List ℕ → List Event)
         → emitAll r (blocksAll B t d (nodesIn t span m)) ≡ emitAll s (blocksAll B t d (nodesIn t span (At c)))
-    chapter-step h er hc hm hn B = turn-by t span c d B aChapter s hm (place-chapter t (c .at) (sym ex ∙ hx) (kind-is t (c .at) ek 6 h)) (er B)
+    chapter-step h er hm hn B = turn-by t span c d B aChapter s hm (place-chapter t (c .at) (sym ex ∙ hx) (kind-is t (c .at) ek 6 h)) (er B)
 
     module _ (n₆ : z .code ≡ 6 → ⊥) {y : Bool} (ey : y ≡ isTopLevelBlock t (c .at)) where
       other-place : holderOf t (c .at) ≡ Neither → {p : Place} → cond (isTopLevelBlock t (c .at)) aBlock (cond (isVerse t (c .at)) aVerse dropped) ≡ p → placeOf t (c .at) ≡ p
@@ -247,24 +238,24 @@ module _ (t : Tape) (span : Span) (c : Cursor) (d : ℕ) (s : Desk) {x : Bool} (
 
       pub block-found : y ≡ true
           → ((B : List ℕ → List Event) → emitAll r (blocksAll B t d (nodesIn t span m)) ≡ emitAll s (blocksOn B t d (c .at) (nodesIn t span (nextSibling t (c .at))) aBlock))
-          → span .cut ≡ false → memberOf t span (c .at) ≡ Listed → holderOf t (c .at) ≡ Neither → (B : List ℕ → List Event)
+          → memberOf t span (c .at) ≡ Listed → holderOf t (c .at) ≡ Neither → (B : List ℕ → List Event)
           → emitAll r (blocksAll B t d (nodesIn t span m)) ≡ emitAll s (blocksAll B t d (nodesIn t span (At c)))
-      block-found h er hc hm hn B = turn-by t span c d B aBlock s hm (other-place hn (rw (sym ey ∙ h))) (er B)
+      block-found h er hm hn B = turn-by t span c d B aBlock s hm (other-place hn (rw (sym ey ∙ h))) (er B)
 
       pub verse-step : y ≡ false → z .code ≡ 7
-          → (span .cut ≡ false → memberOf t span (c .at) ≡ Listed → isTopLevelBlock t (c .at) ≡ false → (B : List ℕ → List Event)
+          → (memberOf t span (c .at) ≡ Listed → isTopLevelBlock t (c .at) ≡ false → (B : List ℕ → List Event)
           → emitAll r (blocksAll B t d (nodesIn t span m)) ≡ emitAll s (blocksOn B t d (c .at) (nodesIn t span (nextSibling t (c .at))) aVerse))
-          → span .cut ≡ false → memberOf t span (c .at) ≡ Listed → holderOf t (c .at) ≡ Neither → (B : List ℕ → List Event)
+          → memberOf t span (c .at) ≡ Listed → holderOf t (c .at) ≡ Neither → (B : List ℕ → List Event)
           → emitAll r (blocksAll B t d (nodesIn t span m)) ≡ emitAll s (blocksAll B t d (nodesIn t span (At c)))
-      verse-step hy h er hc hm hn B =
-          turn-by t span c d B aVerse s hm (other-place hn (rw (sym ey ∙ hy, kind-is t (c .at) ek 7 h))) (er hc hm (sym ey ∙ hy) B)
+      verse-step hy h er hm hn B =
+          turn-by t span c d B aVerse s hm (other-place hn (rw (sym ey ∙ hy, kind-is t (c .at) ek 7 h))) (er hm (sym ey ∙ hy) B)
 
   pub drop-step : x ≡ false → {z : Kind} → z .code ≡ kindAt t (c .at) → (z .code ≡ 6 → ⊥) → {y : Bool} → y ≡ isTopLevelBlock t (c .at) → y ≡ false
       → (z .code ≡ 7 → ⊥) → {m : Step} → m ≡ nextSibling t (c .at)
-      → span .cut ≡ false → memberOf t span (c .at) ≡ Listed → holderOf t (c .at) ≡ Neither → (B : List ℕ → List Event)
+      → memberOf t span (c .at) ≡ Listed → holderOf t (c .at) ≡ Neither → (B : List ℕ → List Event)
       → emitAll s (blocksAll B t d (nodesIn t span m)) ≡ emitAll s (blocksAll B t d (nodesIn t span (At c)))
   unfolding blocksOn blockTurn
-  drop-step hx ek n₆ ey hy n₇ {m} em hc hm hn B =
+  drop-step hx ek n₆ ey hy n₇ {m} em hm hn B =
       turn-by t span c d B dropped s hm
       (place-others t (c .at) (sym ex ∙ hx) (kind-not t (c .at) ek 6 n₆) hn ∙ rw (sym ey ∙ hy, kind-not t (c .at) ek 7 n₇)) body
     where

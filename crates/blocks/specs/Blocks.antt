@@ -15,6 +15,10 @@ use Rattle.events.specs.Walk.{style, styled, unclosed, levelOf, nodeIn, inside,
 use Rattle.blocks.specs.declared.Holder.{Holder}
 use Rattle.blocks.specs.declared.Holder.the-variants.{Sidebar, Periph, Neither}
 
+-- a list of blocks has all siblings, without category markers or with them: a sidebar's goes without
+abbrev pub uncut : Bool → Span
+uncut sifted = record { cut = false; sifted = sifted }
+
 -- what a node holds blocks as, at block level
 unfoldable pub holderOf : Tape → ℕ → Holder
 holderOf t k =
@@ -45,10 +49,6 @@ attrsOf t k false = periphAttrs t k
 unfoldable pub elementNo : Bool → ℕ
 elementNo true = 13
 elementNo false = 14
-
--- the list of its blocks: a sidebar's goes without category markers
-abbrev pub inHolder : Bool → Span
-inHolder sidebar = record { cut = false; sifted = sidebar }
 
 -- what it writes
 unfoldable pub holderIn : Tape → ℕ → ℕ → Bool → ℕ → List Event

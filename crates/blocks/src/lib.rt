@@ -20,7 +20,7 @@ ghost use Rattle.events.proofs.Turns.{blocksAll, blocksOn};
 ghost use Rattle.sink.specs.Desk.{deskIn};
 ghost use Rattle.lists.specs.Span.{nodesIn, memberOf};
 ghost use Rattle.lists.specs.declared.Member.the-variants.{Listed};
-ghost use Rattle.blocks.specs.Blocks.{holderOf, isBlockOrRow, below, sidebarAttrs, periphAttrs, attrsOf, elementNo, inHolder, holderIn, runOpens, runIn};
+ghost use Rattle.blocks.specs.Blocks.{uncut, holderOf, isBlockOrRow, below, sidebarAttrs, periphAttrs, attrsOf, elementNo, holderIn, runOpens, runIn};
 use lists::Member;
 use lists::Span;
 use lists::fold_in;
@@ -138,18 +138,15 @@ fn open_run(level: usize, sink: Sink, out: &mut [u8]) -> Sink
 fn verse_para(
     file: &[u8],
     tape: Sections,
-    span: Span,
+    sifted: bool,
     c: Cursor,
     depth: usize,
     sink: Sink,
     out: &mut [u8],
 ) -> Sink
-    ensures { λ r. ⌜ (span .cut ≡ false → memberOf (tapeIn tape (now (file .entry))) span (c .at) ≡ Listed → isTopLevelBlock (tapeIn tape (now (file .entry))) (c .at) ≡ false → deskIn (tapeIn tape (now (file .entry)) .source) r (now (out .exit)) ≡ emitAll (deskIn (tapeIn tape (now (file .entry)) .source) sink (now (out .entry))) (runIn (tapeIn tape (now (file .entry))) depth (c .at) (nodesIn (tapeIn tape (now (file .entry))) span (nextSibling (tapeIn tape (now (file .entry))) (c .at))))) ⌝ }
+    ensures { λ r. ⌜ (memberOf (tapeIn tape (now (file .entry))) (uncut sifted) (c .at) ≡ Listed → isTopLevelBlock (tapeIn tape (now (file .entry))) (c .at) ≡ false → deskIn (tapeIn tape (now (file .entry)) .source) r (now (out .exit)) ≡ emitAll (deskIn (tapeIn tape (now (file .entry)) .source) sink (now (out .entry))) (runIn (tapeIn tape (now (file .entry))) depth (c .at) (nodesIn (tapeIn tape (now (file .entry))) (uncut sifted) (nextSibling (tapeIn tape (now (file .entry))) (c .at))))) ⌝ }
 {
-    let run = Span {
-        cut: true,
-        sifted: span.sifted,
-    };
+    let run = Span { cut: true, sifted };
     let a = open_run(level_of(depth), sink, out);
     let e = inline::inline(file, tape, run, Step::At(c), depth, false, a, out);
     literal(e, out, b"</para>")
@@ -159,16 +156,17 @@ fn verse_para(
 fn verse_run(
     file: &[u8],
     tape: Sections,
-    span: Span,
+    sifted: bool,
     c: Cursor,
     depth: usize,
     sink: Sink,
     out: &mut [u8],
 ) -> Going
-    ensures { λ r. ⌜ (span .cut ≡ false → memberOf (tapeIn tape (now (file .entry))) span (c .at) ≡ Listed → isTopLevelBlock (tapeIn tape (now (file .entry))) (c .at) ≡ false → (B : List ℕ → List Event) → emitAll (deskIn (tapeIn tape (now (file .entry)) .source) (r .sink) (now (out .exit))) (blocksAll B (tapeIn tape (now (file .entry))) depth (nodesIn (tapeIn tape (now (file .entry))) span (r .next))) ≡ emitAll (deskIn (tapeIn tape (now (file .entry)) .source) sink (now (out .entry))) (blocksOn B (tapeIn tape (now (file .entry))) depth (c .at) (nodesIn (tapeIn tape (now (file .entry))) span (nextSibling (tapeIn tape (now (file .entry))) (c .at))) aVerse)) ⌝ }
+    ensures { λ r. ⌜ (memberOf (tapeIn tape (now (file .entry))) (uncut sifted) (c .at) ≡ Listed → isTopLevelBlock (tapeIn tape (now (file .entry))) (c .at) ≡ false → (B : List ℕ → List Event) → emitAll (deskIn (tapeIn tape (now (file .entry)) .source) (r .sink) (now (out .exit))) (blocksAll B (tapeIn tape (now (file .entry))) depth (nodesIn (tapeIn tape (now (file .entry))) (uncut sifted) (r .next))) ≡ emitAll (deskIn (tapeIn tape (now (file .entry)) .source) sink (now (out .entry))) (blocksOn B (tapeIn tape (now (file .entry))) depth (c .at) (nodesIn (tapeIn tape (now (file .entry))) (uncut sifted) (nextSibling (tapeIn tape (now (file .entry))) (c .at))) aVerse)) ⌝ }
     ensures { λ r. ⌜ left (tapeIn tape (now (file .entry))) (r .next) < left (tapeIn tape (now (file .entry))) (At c) ⌝ }
 {
-    let s = verse_para(file, tape, span, c, depth, sink, out);
+    let span = Span { cut: false, sifted };
+    let s = verse_para(file, tape, sifted, c, depth, sink, out);
     let next = next_block(file, tape, span, c.next_sibling(file, tape));
     Going { sink: s, next }
 }
@@ -197,15 +195,16 @@ fn block(
 fn block_turn(
     file: &[u8],
     tape: Sections,
-    span: Span,
+    sifted: bool,
     c: Cursor,
     depth: usize,
     sink: Sink,
     out: &mut [u8],
 ) -> Going
-    ensures { λ r. ⌜ (span .cut ≡ false → memberOf (tapeIn tape (now (file .entry))) span (c .at) ≡ Listed → holderOf (tapeIn tape (now (file .entry))) (c .at) ≡ Holder.Neither → (B : List ℕ → List Event) → emitAll (deskIn (tapeIn tape (now (file .entry)) .source) (r .sink) (now (out .exit))) (blocksAll B (tapeIn tape (now (file .entry))) depth (nodesIn (tapeIn tape (now (file .entry))) span (r .next))) ≡ emitAll (deskIn (tapeIn tape (now (file .entry)) .source) sink (now (out .entry))) (blocksAll B (tapeIn tape (now (file .entry))) depth (nodesIn (tapeIn tape (now (file .entry))) span (At c)))) ⌝ }
+    ensures { λ r. ⌜ (memberOf (tapeIn tape (now (file .entry))) (uncut sifted) (c .at) ≡ Listed → holderOf (tapeIn tape (now (file .entry))) (c .at) ≡ Holder.Neither → (B : List ℕ → List Event) → emitAll (deskIn (tapeIn tape (now (file .entry)) .source) (r .sink) (now (out .exit))) (blocksAll B (tapeIn tape (now (file .entry))) depth (nodesIn (tapeIn tape (now (file .entry))) (uncut sifted) (r .next))) ≡ emitAll (deskIn (tapeIn tape (now (file .entry)) .source) sink (now (out .entry))) (blocksAll B (tapeIn tape (now (file .entry))) depth (nodesIn (tapeIn tape (now (file .entry))) (uncut sifted) (At c)))) ⌝ }
     ensures { λ r. ⌜ left (tapeIn tape (now (file .entry))) (r .next) < left (tapeIn tape (now (file .entry))) (At c) ⌝ }
 {
+    let span = Span { cut: false, sifted };
     if render::is_row(file, tape, c) {
         return Going {
             sink: tables::table(file, tape, span, Step::At(c), depth, sink, out),
@@ -220,7 +219,7 @@ fn block_turn(
         return block(file, tape, span, c, depth, sink, out);
     }
     if kind.code == Kind::VERSE {
-        return verse_run(file, tape, span, c, depth, sink, out);
+        return verse_run(file, tape, sifted, c, depth, sink, out);
     }
     Going {
         sink,
@@ -365,14 +364,18 @@ fn full_holder(
     sink: Sink,
     out: &mut [u8],
 ) -> Sink
-    ensures { λ r. ⌜ deskIn (tapeIn tape (now (file .entry)) .source) r (now (out .exit)) ≡ emitAll (deskIn (tapeIn tape (now (file .entry)) .source) sink (now (out .entry))) (item (start (elementNo sidebar) (attrsOf (tapeIn tape (now (file .entry))) (c .at) sidebar)) ∷ (below (tapeIn tape (now (file .entry))) depth (nodesIn (tapeIn tape (now (file .entry))) (inHolder sidebar) (firstChild (tapeIn tape (now (file .entry))) (c .at))) ++ (item (lineItem (levelOf depth)) ∷ item (close (elementNo sidebar)) ∷ []))) ⌝ }
+    ensures { λ r. ⌜ deskIn (tapeIn tape (now (file .entry)) .source) r (now (out .exit)) ≡ emitAll (deskIn (tapeIn tape (now (file .entry)) .source) sink (now (out .entry))) (item (start (elementNo sidebar) (attrsOf (tapeIn tape (now (file .entry))) (c .at) sidebar)) ∷ (below (tapeIn tape (now (file .entry))) depth (nodesIn (tapeIn tape (now (file .entry))) (uncut sidebar) (firstChild (tapeIn tape (now (file .entry))) (c .at))) ++ (item (lineItem (levelOf depth)) ∷ item (close (elementNo sidebar)) ∷ []))) ⌝ }
 {
-    let span = Span {
-        cut: false,
-        sifted: sidebar,
-    };
     let d = open_holder(file, tape, c, sidebar, sink, out);
-    let e = inner(file, tape, span, c.first_child(file, tape), depth, d, out);
+    let e = inner(
+        file,
+        tape,
+        sidebar,
+        c.first_child(file, tape),
+        depth,
+        d,
+        out,
+    );
     close_holder(level_of(depth), sidebar, e, out)
 }
 
@@ -404,32 +407,33 @@ fn held(
 fn inner(
     file: &[u8],
     tape: Sections,
-    span: Span,
+    sifted: bool,
     first: Step,
     depth: usize,
     sink: Sink,
     out: &mut [u8],
 ) -> Sink
-    ensures { λ r. ⌜ (span .cut ≡ false → deskIn (tapeIn tape (now (file .entry)) .source) r (now (out .exit)) ≡ emitAll (deskIn (tapeIn tape (now (file .entry)) .source) sink (now (out .entry))) (below (tapeIn tape (now (file .entry))) depth (nodesIn (tapeIn tape (now (file .entry))) span first))) ⌝ }
+    ensures { λ r. ⌜ deskIn (tapeIn tape (now (file .entry)) .source) r (now (out .exit)) ≡ emitAll (deskIn (tapeIn tape (now (file .entry)) .source) sink (now (out .entry))) (below (tapeIn tape (now (file .entry))) depth (nodesIn (tapeIn tape (now (file .entry))) (uncut sifted) first)) ⌝ }
 {
     if depth == 0 {
         return sink;
     }
-    blocks(file, tape, span, first, depth - 1, sink, out)
+    blocks(file, tape, sifted, first, depth - 1, sink, out)
 }
 
 // A list of blocks.
 pub fn blocks(
     file: &[u8],
     tape: Sections,
-    span: Span,
+    sifted: bool,
     first: Step,
     depth: usize,
     sink: Sink,
     out: &mut [u8],
 ) -> Sink
-    ensures { λ r. ⌜ (span .cut ≡ false → deskIn (tapeIn tape (now (file .entry)) .source) r (now (out .exit)) ≡ emitAll (deskIn (tapeIn tape (now (file .entry)) .source) sink (now (out .entry))) (blocksE (tapeIn tape (now (file .entry))) depth (nodesIn (tapeIn tape (now (file .entry))) span first))) ⌝ }
+    ensures { λ r. ⌜ deskIn (tapeIn tape (now (file .entry)) .source) r (now (out .exit)) ≡ emitAll (deskIn (tapeIn tape (now (file .entry)) .source) sink (now (out .entry))) (blocksE (tapeIn tape (now (file .entry))) depth (nodesIn (tapeIn tape (now (file .entry))) (uncut sifted) first)) ⌝ }
 {
+    let span = Span { cut: false, sifted };
     let mut s = sink;
     let mut step = first;
     loop {
@@ -450,7 +454,7 @@ pub fn blocks(
                         step = c.next_sibling(file, tape);
                     }
                     Holder::Neither => {
-                        let g = block_turn(file, tape, span, c, depth, s, out);
+                        let g = block_turn(file, tape, sifted, c, depth, s, out);
                         s = g.sink;
                         step = g.next;
                     }

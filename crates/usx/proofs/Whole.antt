@@ -147,14 +147,14 @@ first-state t em en = rw em (ap (λ (k : ℕ). record { book = []; number = k; c
 module _ (t : Tape) (n : ℕ) (m : Marks) (em : m ≡ newMarks n) (out : Bytes) {k : Cursor} (ek : k .at ≡ 0) {s : Step} (es : s ≡ firstChild t (k .at))
     (a d e z : Sink) (o₁ o₂ o₃ o₄ : Bytes)
     (ea : (source : Bytes) → deskIn source a o₁ ≡ putOn (deskIn source (record { at = 0; from = 0; marks = m }) out) opens)
-    (ed : (_≡_ {A = Bool} false false) → deskIn (t .source) d o₂ ≡ emitAll (deskIn (t .source) a o₁) (blocksE t 64 (nodesIn t all s)))
+    (ed : deskIn (t .source) d o₂ ≡ emitAll (deskIn (t .source) a o₁) (blocksE t 64 (nodesIn t all s)))
     (ee : deskIn (t .source) e o₃ ≡ lay (deskIn (t .source) d o₂) (lastEnds (stateIn (t .source) (d .marks))))
     (ez : (source : Bytes) → deskIn source z o₄ ≡ putOn (deskIn source e o₃) ends) where
   whole-page : n ≡ firstState t .number → deskIn (t .source) z o₄ .page ≡ wholeIn t out
   whole-page en =
       parts-page t out (deskIn (t .source) a o₁) (deskIn (t .source) d o₂) (deskIn (t .source) e o₃) (deskIn (t .source) z o₄)
       (ea (t .source) ∙ ap (λ (u : State). putOn (record { page = record { at = 0; from = 0; buf = out }; state = u }) opens) (first-state t em en))
-      (ed refl ∙ ap (emitAll (deskIn (t .source) a o₁)) (events-all t (es ∙ ap (firstChild t) ek)))
+      (ed ∙ ap (emitAll (deskIn (t .source) a o₁)) (events-all t (es ∙ ap (firstChild t) ek)))
       ee
       (ez (t .source))
 

@@ -7,7 +7,6 @@ ghost use Rattle.events.specs.Text.{firstState, textOf, fitting, outcome};
 ghost use Rattle.usx.specs.Answer.{outcomeOf, wholeIn};
 use admit::Admitted;
 use blocks::blocks;
-use lists::Span;
 use marks::Marks;
 use sink::Sink;
 use sink::literal;
@@ -47,13 +46,9 @@ fn write_text(file: &[u8], tape: Sections, number: u32, out: &mut [u8]) -> usize
         from: 0,
         marks: Marks::new(number),
     };
-    let span = Span {
-        cut: false,
-        sifted: false,
-    };
     let first = Cursor::new(0).first_child(file, tape);
     let a = literal(sink, out, b"<usx version=\"3.0\">");
-    let d = blocks(file, tape, span, first, 64, a, out);
+    let d = blocks(file, tape, false, first, 64, a, out);
     let e = milestone::last_ends(file, tape, d, out);
     let z = literal(e, out, b"\n</usx>");
     z.at

@@ -1,6 +1,5 @@
 use borrow.Author.Needs.{needs}
 use mathlib.Core.Path.{_≡_, refl}
-use mathlib.Core.Bool.{false}
 use Prim.Native.Nat.{ℕ, _<_, _+_, _*_}
 use lib.ListN.{length}
 use Rattle.tape.specs.File.{tapeIn}
@@ -91,13 +90,13 @@ inner-calls t = (blocks-below t, blocks.Post)
 -- ---- blocks
 
 abbrev blocks-Inv-loop : blocks-lts.InvT-loop
-blocks-Inv-loop file tape span depth out₀ s₀ step₀ out s step = (span .cut ≡ false → emitAll (deskIn (tapeIn tape file .source) s out) (blocksAll (below (tapeIn tape file) depth) (tapeIn tape file) depth (nodesIn (tapeIn tape file) span step)) ≡ emitAll (deskIn (tapeIn tape file .source) s₀ out₀) (blocksAll (below (tapeIn tape file) depth) (tapeIn tape file) depth (nodesIn (tapeIn tape file) span step₀))) × (length out ≡ length out₀)
+blocks-Inv-loop file tape depth span out₀ s₀ step₀ out s step = (emitAll (deskIn (tapeIn tape file .source) s out) (blocksAll (below (tapeIn tape file) depth) (tapeIn tape file) depth (nodesIn (tapeIn tape file) span step)) ≡ emitAll (deskIn (tapeIn tape file .source) s₀ out₀) (blocksAll (below (tapeIn tape file) depth) (tapeIn tape file) depth (nodesIn (tapeIn tape file) span step₀))) × (length out ≡ length out₀)
 
 abbrev blocks-μ-loop : blocks-lts.MeasureT-loop
-blocks-μ-loop file tape span depth out₀ s₀ step₀ out s step = left (tapeIn tape file) step
+blocks-μ-loop file tape depth span out₀ s₀ step₀ out s step = left (tapeIn tape file) step
 
 blocks-loop-holds : (t : ℕ) → blocks-lts.Need-loop-holds (blocks-calls t) (blocks-at t) blocks.Post blocks-Inv-loop blocks-μ-loop
-blocks-loop-holds t c = ((λ h. refl), refl)
+blocks-loop-holds t c = (refl, refl)
 
 blocks-enum-told : (t : ℕ) → blocks-lts.Need-enum-told (blocks-calls t) (blocks-at t) blocks.Post blocks-Inv-loop blocks-μ-loop
 blocks-enum-told t c = search needs
