@@ -25,7 +25,8 @@ use Rattle.events.specs.Walk.{Manner, asInline, asNote, Role, roleOf, markerAs,
 use Rattle.events.specs.Emit.{Desk, emit, emitAll}
 use Rattle.events.proofs.Emits.{emit-append}
 use Rattle.events.proofs.Turns.{inline-none}
-use Rattle.tagging.specs.Roles.{isWhole, mannerOf, mannerBy, opening, closing, leafOf}
+use Rattle.roles.specs.Roles.{isWhole, mannerOf, mannerBy}
+use Rattle.tagging.specs.Marker.{opening, closing, leafOf}
 use Rattle.tagging.proofs.Splits.{marker-split}
 use Rattle.turns.specs.Turn.{sortIn, noteSort, plainFrom, onward, notePlain, noteOnward, KeptAt}
 use Rattle.turns.specs.declared.Sort.{Sort}

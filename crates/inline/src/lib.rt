@@ -8,7 +8,7 @@ ghost use Rattle.events.specs.Walk.{roleOf, markerAs, nodeIn, inside as insideO
 ghost use Rattle.events.specs.Emit.{emitAll};
 ghost use Rattle.sink.specs.Desk.{deskIn};
 ghost use Rattle.lists.specs.Span.{nodesIn};
-ghost use Rattle.tagging.specs.Roles.{mannerBy};
+ghost use Rattle.roles.specs.Roles.{mannerBy};
 use lists::Span;
 use sink::Sink;
 use tape::Cursor;
@@ -33,10 +33,10 @@ fn marker(
 ) -> Sink
     ensures { λ r. ⌜ deskIn (tapeIn tape (now (file .entry)) .source) r (now (out .exit)) ≡ emitAll (deskIn (tapeIn tape (now (file .entry)) .source) sink (now (out .entry))) (markerAs (insideOf (tapeIn tape (now (file .entry))) depth) (tapeIn tape (now (file .entry))) (c .at) outer (roleOf (tapeIn tape (now (file .entry))) (c .at))) ⌝ }
 {
-    let role = tagging::role_of(file, tape, c);
-    if tagging::is_whole(file, tape, c, role) {
+    let role = roles::role_of(file, tape, c);
+    if roles::is_whole(file, tape, c, role) {
         let a = tagging::open_marker(file, tape, c, role, sink, out);
-        let z = inside(file, tape, c, depth, outer, tagging::is_note(role), a, out);
+        let z = inside(file, tape, c, depth, outer, roles::is_note(role), a, out);
         tagging::close_marker(file, tape, c, role, z, out)
     } else {
         tagging::write_leaf(file, tape, c, role, sink, out)

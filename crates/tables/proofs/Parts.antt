@@ -29,7 +29,7 @@ use Rattle.lists.proofs.Nodes.{nodes-done, nodes-cut, nodes-skip, nodes-go}
 use Rattle.sink.specs.Desk.{deskIn, putOn}
 use Rattle.sink.specs.declared.Sink.{Sink}
 use Rattle.sink.proofs.Chains.{item-on}
-use Rattle.tagging.specs.Roles.{mannerBy}
+use Rattle.roles.specs.Roles.{mannerBy}
 use Rattle.tables.specs.Rows.{isNoRow, rowOpens, rowCloses, tableOpens, tableCloses}
 use Rattle.tables.proofs.Spans.{up-row, up-other, up-none}
 

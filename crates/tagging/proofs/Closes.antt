@@ -14,9 +14,10 @@ use Rattle.events.specs.Walk.{linkOf, char}
 use Rattle.events.specs.Emit.{Desk, emitAll}
 use Rattle.sink.specs.Desk.{deskIn, putOn}
 use Rattle.sink.specs.declared.Sink.{Sink}
-use Rattle.tagging.specs.declared.role.Role.{Role}
-use Rattle.tagging.specs.declared.role.Role.the-variants.{UnknownBlock, UnknownInline, Unwritten, Figure, Ref, Id, Note, Ms, Char, Para}
-use Rattle.tagging.specs.Roles.{roleIn, closing, linkCloses}
+use Rattle.roles.specs.declared.Role.{Role}
+use Rattle.roles.specs.declared.Role.the-variants.{UnknownBlock, UnknownInline, Unwritten, Figure, Ref, Id, Note, Ms, Char, Para}
+use Rattle.roles.specs.Roles.{roleIn}
+use Rattle.tagging.specs.Marker.{closing, linkCloses}
 use Rattle.tagging.proofs.Written.{one-on, items-on}
 
 -- ---- a char

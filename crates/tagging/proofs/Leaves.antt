@@ -24,9 +24,10 @@ use Rattle.events.specs.Emit.{Desk, emit, emitAll}
 use Rattle.sink.specs.Desk.{windowIn, overBy, deskIn, putOn}
 use Rattle.sink.specs.declared.Sink.{Sink}
 use Rattle.sink.proofs.Chains.{paint-three}
-use Rattle.tagging.specs.declared.role.Role.{Role}
-use Rattle.tagging.specs.declared.role.Role.the-variants.{UnknownBlock, UnknownInline, Unwritten, Figure, Ref, Id, Note, Ms, Char, Para}
-use Rattle.tagging.specs.Roles.{roleIn, oldFigure, leafOf}
+use Rattle.roles.specs.declared.Role.{Role}
+use Rattle.roles.specs.declared.Role.the-variants.{UnknownBlock, UnknownInline, Unwritten, Figure, Ref, Id, Note, Ms, Char, Para}
+use Rattle.roles.specs.Roles.{roleIn}
+use Rattle.tagging.specs.Marker.{oldFigure, leafOf}
 use Rattle.tagging.proofs.Written.{one-on, desk-one, desk-items, figure-bytes, ms-bytes, empty-para-bytes}
 
 -- ---- tags

@@ -1,4 +1,3 @@
-pub mod Roles
 pub mod Written
 pub mod Opens
 pub mod Closes

@@ -15,7 +15,8 @@ use Rattle.figure.specs.Figure.{legacyAt}
 use Rattle.tags.specs.Items.{start, close}
 use Rattle.events.specs.Event.{Event, item, collected, element}
 use Rattle.events.specs.Walk.{style, styled, unclosed, linkOf, linked, figureAs, markerAs, Manner, asInline, Role, unknownBlock, unknownInline, unwritten, figure, ref, id, note, ms, char, para}
-use Rattle.tagging.specs.Roles.{isWhole, mannerOf, linkOpens, linkCloses, opening, closing, oldFigure, leafOf}
+use Rattle.roles.specs.Roles.{isWhole, mannerOf}
+use Rattle.tagging.specs.Marker.{linkOpens, linkCloses, opening, closing, oldFigure, leafOf}
 
 -- a link around events, and more behind it
 link-split : (o : Option Bytes) (es rest : List Event) → linked o es ++ rest ≡ linkOpens o ++ (es ++ (linkCloses o ++ rest))

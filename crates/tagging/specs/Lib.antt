@@ -1,1 +1,1 @@
-pub mod Roles
+pub mod Marker

@@ -35,9 +35,9 @@ use Rattle.render.proofs.trims_after.Reads as trims-after-reads
 use Rattle.tagging.proofs.close_marker.Reads as close-marker-reads
 use Rattle.tagging.proofs.write_leaf.Reads as write-leaf-reads
 use Rattle.tagging.proofs.open_marker.Reads as open-marker-reads
-use Rattle.tagging.proofs.is_note.Reads as is-note-reads
-use Rattle.tagging.proofs.is_whole.Reads as is-whole-reads
-use Rattle.tagging.proofs.role_of.Reads as role-of-reads
+use Rattle.roles.proofs.is_note.Reads as is-note-reads
+use Rattle.roles.proofs.is_whole.Reads as is-whole-reads
+use Rattle.roles.proofs.role_of.Reads as role-of-reads
 use Rattle.tape.proofs.Cursor.first_child.Reads as first-child-reads
 use Rattle.tape.proofs.Cursor.kind.Reads as kind-reads
 use Rattle.tape.proofs.Cursor.next_sibling.Reads as next-sibling-reads

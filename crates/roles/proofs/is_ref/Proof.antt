@@ -1,7 +1,7 @@
-use Rattle.tagging.proofs.Roles.{ref-some, ref-none}
+use Rattle.roles.proofs.Roles.{ref-some, ref-none}
 use borrow.Author.Needs.{needs}
-use Rattle.tagging.proofs.role.is_ref.Statement.{statement}
-use Rattle.tagging.proofs.role.is_ref.Tie as tie
+use Rattle.roles.proofs.is_ref.Statement.{statement}
+use Rattle.roles.proofs.is_ref.Tie as tie
 
 kind-requires : tie.Need-kind-requires
 kind-requires c κs = search needs

@@ -1,7 +1,7 @@
-use Rattle.tagging.proofs.Roles.{link-some, link-none}
+use Rattle.roles.proofs.Roles.{link-some, link-none}
 use borrow.Author.Needs.{needs}
-use Rattle.tagging.proofs.role.link_of.Statement.{statement}
-use Rattle.tagging.proofs.role.link_of.Tie as tie
+use Rattle.roles.proofs.link_of.Statement.{statement}
+use Rattle.roles.proofs.link_of.Tie as tie
 
 can-link-requires : tie.Need-can-link-requires
 can-link-requires c κs = search needs

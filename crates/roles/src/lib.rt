@@ -6,7 +6,7 @@ ghost use Rattle.tape.specs.declared.Info.the-variants.{Known};
 ghost use Rattle.render.specs.First.{any};
 ghost use Rattle.attrs.specs.Walk.{soughtOf};
 ghost use Rattle.events.specs.Walk.{roleOf, roleBy, roleOfShape, roleOfCategory, isRef, linkOf};
-ghost use Rattle.tagging.specs.Roles.{roleIn, roleOfEntry, isWhole, mannerOf, mannerBy, canLink};
+ghost use Rattle.roles.specs.Roles.{roleIn, roleOfEntry, isWhole, mannerOf, mannerBy, canLink};
 use attrs::Sought;
 use render::Shape;
 use tape::Category;

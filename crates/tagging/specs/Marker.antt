@@ -1,76 +1,19 @@
 -- A marker as opening tags, what stands inside, and closing tags; or as a leaf with nothing inside.
 use Prim.Native.Nat.{ℕ}
 use mathlib.Core.List.{List, [], _∷_, _++_}
-use mathlib.Core.Bool.{Bool, true, false, not, cond, _&&_}
-use lib.Dec.{eqb}
 use mathlib.Core.Option.{Option, none, some}
-use Rattle.parts.specs.Bytes.{Bytes, b, same}
-use Rattle.tape.specs.File.{Tape, isNested}
-use Rattle.tape.specs.Tree.{firstChild, children, found}
+use Rattle.parts.specs.Bytes.{Bytes, b}
+use Rattle.tape.specs.File.{Tape}
 use Rattle.tape.specs.Name.{markerName}
 use Rattle.tape.specs.declared.Step.{Step}
 use Rattle.tape.specs.declared.Step.the-variants.{At, Done}
-use Rattle.render.specs.First.{any}
-use Rattle.render.specs.Children.{hasContent}
 use Rattle.render.specs.Note.{noteCaller, categoryOf, bookCode, bookRest}
 use Rattle.attrs.specs.Attr.{attributesOf}
 use Rattle.attrs.specs.Walk.{firstOf}
 use Rattle.figure.specs.Figure.{legacyAt, legacyPairs, captionOf}
 use Rattle.tags.specs.Items.{start, empty, close, text}
 use Rattle.events.specs.Event.{Event, item, book, escaped, perhaps, collected, element}
-use Rattle.events.specs.Walk.{style, styled, unclosed, Manner, asInline, asNote, Role, unknownBlock, unknownInline, unwritten, figure, ref, id, note, ms, char, para, roleOfCategory, isRef, linkOf}
-use Rattle.tagging.specs.declared.role.Role.{Role as Code}
-use Rattle.tagging.specs.declared.role.Role.the-variants.{UnknownBlock, UnknownInline, Unwritten, Figure, Ref, Id, Note, Ms, Char, Para}
-
--- the role that the code names
-unfoldable pub roleIn : Code → Role
-roleIn UnknownBlock = unknownBlock
-roleIn UnknownInline = unknownInline
-roleIn Unwritten = unwritten
-roleIn Figure = figure
-roleIn Ref = ref
-roleIn Id = id
-roleIn Note = note
-roleIn Ms = ms
-roleIn Char = char
-roleIn Para = para
-
--- behind the names that decide: `id` by its entry's name and category, others by category
-unfoldable pub roleOfEntry : ℕ → Bytes → Role
-roleOfEntry category name = cond (eqb category 0 && same name (b "id")) id (roleOfCategory category)
-
-unfoldable pub mannerBy : Bool → Manner
-mannerBy true = asNote
-mannerBy false = asInline
-
--- what could be linked: `xt`, nested, with content and no `ref` inside
-unfoldable pub canLink : Tape → ℕ → Bool
-canLink t k = same (markerName t k) (b "xt") && (isNested t k && (hasContent t k && not (any (isRef t) (children t k))))
-
--- whether the events inside a marker are written: not of a figure of old, nor of a paragraph with no child
-unfoldable pub isWhole : Tape → ℕ → Role → Bool
-isWhole t k unknownBlock = true
-isWhole t k unknownInline = true
-isWhole t k unwritten = false
-isWhole t k figure = not (found (legacyAt t k))
-isWhole t k ref = true
-isWhole t k id = false
-isWhole t k note = true
-isWhole t k ms = false
-isWhole t k char = true
-isWhole t k para = found (firstChild t k)
-
-unfoldable pub mannerOf : Role → Manner
-mannerOf unknownBlock = asInline
-mannerOf unknownInline = asInline
-mannerOf unwritten = asInline
-mannerOf figure = asInline
-mannerOf ref = asInline
-mannerOf id = asInline
-mannerOf note = asNote
-mannerOf ms = asInline
-mannerOf char = asInline
-mannerOf para = asInline
+use Rattle.events.specs.Walk.{style, styled, unclosed, Role, unknownBlock, unknownInline, unwritten, figure, ref, id, note, ms, char, para, linkOf}
 
 -- the `ref` around what an `xt` links
 unfoldable pub linkOpens : Option Bytes → List Event

@@ -1,8 +1,8 @@
-use Rattle.tagging.specs.Roles.{roleIn}
+use Rattle.roles.specs.Roles.{roleIn}
 use Rattle.events.specs.Walk.{roleOfShape}
 use borrow.Author.Needs.{needs}
-use Rattle.tagging.proofs.role.role_of_shape.Statement.{statement}
-use Rattle.tagging.proofs.role.role_of_shape.Tie as tie
+use Rattle.roles.proofs.role_of_shape.Statement.{statement}
+use Rattle.roles.proofs.role_of_shape.Tie as tie
 
 enum-told : tie.Need-enum-told
 enum-told c = search needs

@@ -1,8 +1,8 @@
-use Rattle.tagging.specs.Roles.{roleIn, isWhole}
-use Rattle.tagging.proofs.Roles.{whole-figure, whole-para}
+use Rattle.roles.specs.Roles.{roleIn, isWhole}
+use Rattle.roles.proofs.Roles.{whole-figure, whole-para}
 use borrow.Author.Needs.{needs}
-use Rattle.tagging.proofs.role.is_whole.Statement.{statement}
-use Rattle.tagging.proofs.role.is_whole.Tie as tie
+use Rattle.roles.proofs.is_whole.Statement.{statement}
+use Rattle.roles.proofs.is_whole.Tie as tie
 
 enum-told : tie.Need-enum-told
 enum-told c = search needs

@@ -1,7 +1,7 @@
-use Rattle.tagging.proofs.Roles.{known-usfm, known-figure, known-ref, known-other}
+use Rattle.roles.proofs.Roles.{known-usfm, known-figure, known-ref, known-other}
 use borrow.Author.Needs.{needs}
-use Rattle.tagging.proofs.role.role_known.Statement.{statement}
-use Rattle.tagging.proofs.role.role_known.Tie as tie
+use Rattle.roles.proofs.role_known.Statement.{statement}
+use Rattle.roles.proofs.role_known.Tie as tie
 
 entry-name-requires : tie.Need-entry-name-requires
 entry-name-requires c κs = search needs

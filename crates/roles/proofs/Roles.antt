@@ -27,9 +27,9 @@ use Rattle.attrs.specs.Walk.{firstOf, soughtOf}
 use Rattle.attrs.specs.declared.Sought.the-variants.{Nowhere}
 use Rattle.figure.specs.Figure.{legacyAt}
 use Rattle.events.specs.Walk.{Role as Written, roleOf, roleBy, roleOfShape, roleOfCategory, isRef, linkOf}
-use Rattle.tagging.specs.declared.role.Role.{Role}
-use Rattle.tagging.specs.declared.role.Role.the-variants.{Unwritten, Figure, Ref, Id, Note, Ms, Char, Para}
-use Rattle.tagging.specs.Roles.{roleIn, roleOfEntry, isWhole, canLink}
+use Rattle.roles.specs.declared.Role.{Role}
+use Rattle.roles.specs.declared.Role.the-variants.{Unwritten, Figure, Ref, Id, Note, Ms, Char, Para}
+use Rattle.roles.specs.Roles.{roleIn, roleOfEntry, isWhole, canLink}
 
 -- ---- by category
 

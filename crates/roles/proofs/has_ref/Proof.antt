@@ -1,4 +1,4 @@
-use Rattle.tagging.proofs.Roles.{ref-hit, ref-turn, ref-end}
+use Rattle.roles.proofs.Roles.{ref-hit, ref-turn, ref-end}
 use mathlib.Core.Path.{_≡_, refl}
 use Rattle.tape.specs.File.{tapeIn}
 use Rattle.tape.specs.Tree.{walkFrom, left}
@@ -6,8 +6,8 @@ use Rattle.tape.proofs.Walk.{left-turn}
 use Rattle.render.specs.First.{firstWith}
 use Rattle.events.specs.Walk.{isRef}
 use borrow.Author.Needs.{needs}
-use Rattle.tagging.proofs.role.has_ref.Statement.{statement}
-use Rattle.tagging.proofs.role.has_ref.Tie as tie
+use Rattle.roles.proofs.has_ref.Statement.{statement}
+use Rattle.roles.proofs.has_ref.Tie as tie
 
 abbrev Inv-loop : tie.InvT-loop
 Inv-loop file tape s₀ s = firstWith (isRef (tapeIn tape file)) (walkFrom (tapeIn tape file) s) ≡ firstWith (isRef (tapeIn tape file)) (walkFrom (tapeIn tape file) s₀)

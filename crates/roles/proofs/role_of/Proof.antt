@@ -1,7 +1,7 @@
-use Rattle.tagging.proofs.Roles.{role-known, role-unknown}
+use Rattle.roles.proofs.Roles.{role-known, role-unknown}
 use borrow.Author.Needs.{needs}
-use Rattle.tagging.proofs.role.role_of.Statement.{statement}
-use Rattle.tagging.proofs.role.role_of.Tie as tie
+use Rattle.roles.proofs.role_of.Statement.{statement}
+use Rattle.roles.proofs.role_of.Tie as tie
 
 marker-info-requires : tie.Need-marker-info-requires
 marker-info-requires c κs = search needs

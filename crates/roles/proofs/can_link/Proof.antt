@@ -1,7 +1,7 @@
-use Rattle.tagging.proofs.Roles.{link-other, link-outer, link-empty, link-full}
+use Rattle.roles.proofs.Roles.{link-other, link-outer, link-empty, link-full}
 use borrow.Author.Needs.{needs}
-use Rattle.tagging.proofs.role.can_link.Statement.{statement}
-use Rattle.tagging.proofs.role.can_link.Tie as tie
+use Rattle.roles.proofs.can_link.Statement.{statement}
+use Rattle.roles.proofs.can_link.Tie as tie
 
 slice-aggregate-is-named : tie.Need-slice-aggregate-is-named
 slice-aggregate-is-named c = search needs

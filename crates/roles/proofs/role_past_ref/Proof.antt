@@ -1,7 +1,7 @@
-use Rattle.tagging.proofs.Roles.{entry-id, entry-identification, entry-other}
+use Rattle.roles.proofs.Roles.{entry-id, entry-identification, entry-other}
 use borrow.Author.Needs.{needs}
-use Rattle.tagging.proofs.role.role_past_ref.Statement.{statement}
-use Rattle.tagging.proofs.role.role_past_ref.Tie as tie
+use Rattle.roles.proofs.role_past_ref.Statement.{statement}
+use Rattle.roles.proofs.role_past_ref.Tie as tie
 
 slice-aggregate-same : tie.Need-slice-aggregate-same
 slice-aggregate-same c = search needs

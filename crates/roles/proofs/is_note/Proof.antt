@@ -1,7 +1,7 @@
-use Rattle.tagging.specs.Roles.{roleIn, mannerOf, mannerBy}
+use Rattle.roles.specs.Roles.{roleIn, mannerOf, mannerBy}
 use borrow.Author.Needs.{needs}
-use Rattle.tagging.proofs.role.is_note.Statement.{statement}
-use Rattle.tagging.proofs.role.is_note.Tie as tie
+use Rattle.roles.proofs.is_note.Statement.{statement}
+use Rattle.roles.proofs.is_note.Tie as tie
 
 enum-told : tie.Need-enum-told
 enum-told c = search needs
