@@ -1,6 +1,6 @@
 -- What an admitted file gives to those above: sizes, spans, entries, links, children, depth.
 use mathlib.Core.Path.{_≡_, refl, sym, ap, _∙_, subst}
-use mathlib.Core.Bool.{Bool, true, false, cond, not, _&&_, _||_}
+use mathlib.Core.Bool.{Bool, true, false, cond, not, _&&_, _||_, or-true}
 use mathlib.Core.List.{List, [], _∷_, flatten}
 use mathlib.Core.Logic.{⊎-elim}
 use Prim.Native.Nat.{ℕ, _+_, _≤_, _<_}
@@ -100,11 +100,7 @@ module _ (t : Tape) (z : Nested (t .nodes)) where
 
   stops-close : (a : ℕ) → Close (t .nodes) a → stops (t .nodes) a ≡ true
   unfolding stops
-  stops-close a c = rw c (go (leb (length (t .nodes)) a))
-    where
-      go : (x : Bool) → (x || true) ≡ true
-      go true = refl
-      go false = refl
+  stops-close a c = rw c (or-true (leb (length (t .nodes)) a))
 
   stops-end : RootEnds (t .nodes) → stops (t .nodes) (linkAt (t .nodes) 0) ≡ true
   unfolding stops

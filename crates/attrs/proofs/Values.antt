@@ -1,6 +1,6 @@
 -- Laws of values: quotes, and the pieces between escaped ones.
 use mathlib.Core.Path.{_≡_, refl, sym, ap, _∙_}
-use mathlib.Core.Bool.{Bool, true, false, cond, not, _&&_}
+use mathlib.Core.Bool.{Bool, true, false, cond, not, _&&_, and-false}
 use mathlib.Core.List.{[], _∷_, _++_}
 use Prim.Native.Nat.{ℕ, suc, _+_, _≤_, _<_, min, max}
 use native.Mathlib.Omega.{arith}
@@ -8,7 +8,7 @@ use lib.ListN.{length, getD, take, drop, drop-of-length-le, length-drop}
 use lib.Dec.{eqb}
 use borrow.Author.Tests.{eq-eqb, ne-eqb, eqb-true}
 use Rattle.parts.specs.Bytes.{Bytes, b, begins, firstAt, find}
-use Rattle.parts.proofs.Laws.{drop-at, begins-fits, and-true, and-false, first-found}
+use Rattle.parts.proofs.Laws.{drop-at, begins-fits, and-true, first-found}
 use Rattle.words.specs.Words.{whiteLen, wordLen}
 use Rattle.words.specs.declared.Set.the-variants.{Unicode}
 use Rattle.words.proofs.Texts.{word-le}

@@ -1,7 +1,7 @@
 -- What a node is at block level, and the turns that enter no sidebar and no periph.
 use mathlib.Core.Path.{_≡_, refl, sym, ap, _∙_}
 use mathlib.Core.Bool.{Bool, true, false, cond, _||_}
-use mathlib.Core.List.{List, [], _∷_, _++_, append-assoc}
+use mathlib.Core.List.{List, [], _∷_, _++_}
 use Prim.Native.Nat.{ℕ, _≤_, _<_}
 use native.Mathlib.Omega.{arith}
 use Rattle.parts.specs.Bytes.{Bytes, b}
@@ -25,7 +25,7 @@ use Rattle.tags.specs.Names.{nameOf}
 use Rattle.events.specs.Event.{Event, item, chapter, rawly, element}
 use Rattle.events.specs.Walk.{levelOf, styled, Place, aRow, aChapter, aSidebar, aPeriph, aBlock, aVerse, dropped, placeOf, fromFirst, nodeIn, inside, inlineAll, tableE, blockTurn}
 use Rattle.events.specs.Emit.{Desk, emit, emitAll}
-use Rattle.events.proofs.Emits.{emit-append}
+use Rattle.events.proofs.Emits.{between, then}
 use Rattle.events.proofs.Turns.{blocksAll, blocksOn, blocks-turn}
 use Rattle.sink.specs.Desk.{deskIn, putOn}
 use Rattle.sink.specs.declared.Sink.{Sink}
@@ -93,19 +93,6 @@ module _ (t : Tape) (k : ℕ) where
   place-chapter : isRow t k ≡ false → isChapter t k ≡ true → placeOf t k ≡ aChapter
   unfolding placeOf
   place-chapter hr h = rw (hr, h)
-
--- ---- events in parts
-
--- events, others behind them, and others behind those
-pub between : (d : Desk) {e f g : Desk} (xs ys zs : List Event) → e ≡ emitAll d xs → f ≡ emitAll e ys → g ≡ emitAll f zs → g ≡ emitAll d (xs ++ (ys ++ zs))
-between d xs ys zs ee ef eg =
-    eg ∙ ap (λ (u : Desk). emitAll u zs) (ef ∙ ap (λ (u : Desk). emitAll u ys) ee)
-    ∙ ap (λ (u : Desk). emitAll u zs) (sym (emit-append d xs ys)) ∙ sym (emit-append d (xs ++ ys) zs)
-    ∙ ap (emitAll d) (append-assoc xs ys zs)
-
--- what is written in a turn, and then the list behind it
-pub then : (d : Desk) {e : Desk} (xs ys : List Event) → e ≡ emitAll d xs → emitAll e ys ≡ emitAll d (xs ++ ys)
-then d xs ys ee = ap (λ (u : Desk). emitAll u ys) ee ∙ sym (emit-append d xs ys)
 
 -- ---- a chapter
 

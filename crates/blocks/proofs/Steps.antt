@@ -2,11 +2,11 @@
 use mathlib.Core.Path.{_≡_, refl, sym, ap, _∙_}
 use mathlib.Core.Bool.{Bool, true, false, cond}
 use mathlib.Core.List.{List, [], _∷_, _++_}
-use Prim.Native.Nat.{ℕ, zero, suc, _-_, _<_}
+use Prim.Native.Nat.{ℕ, zero, suc, _-_}
 use native.Mathlib.Omega.{arith}
 use Rattle.parts.specs.Bytes.{Bytes}
 use Rattle.tape.specs.File.{Tape}
-use Rattle.tape.specs.Tree.{nextSibling, firstChild, children, left}
+use Rattle.tape.specs.Tree.{nextSibling, firstChild, children}
 use Rattle.tape.specs.declared.Cursor.{Cursor}
 use Rattle.tape.specs.declared.Step.{Step}
 use Rattle.tape.specs.declared.Step.the-variants.{At, Done}
@@ -21,12 +21,13 @@ use Rattle.events.specs.Event.{Event, item}
 use Rattle.events.specs.Walk.{levelOf, holder, sidebarIn, periphIn, blocksE, aSidebar, aPeriph, blockTurn}
 use Rattle.events.specs.Emit.{Desk, emit, emitAll}
 use Rattle.events.proofs.Turns.{blocksAll, blocksOn, blocks-none}
+use Rattle.events.proofs.Emits.{between, then}
 use Rattle.sink.specs.Desk.{deskIn}
 use Rattle.sink.specs.declared.Sink.{Sink}
 use Rattle.blocks.specs.Blocks.{uncut, holderOf, isBlockOrRow, below, sidebarAttrs, periphAttrs, attrsOf, elementNo, holderIn}
 use Rattle.blocks.specs.declared.Holder.{Holder}
 use Rattle.blocks.specs.declared.Holder.the-variants.{Sidebar, Periph, Neither}
-use Rattle.blocks.proofs.Places.{place-side, place-peri, between, then, turn-by}
+use Rattle.blocks.proofs.Places.{place-side, place-peri, turn-by}
 
 -- ---- by depth
 
@@ -147,7 +148,3 @@ module _ (t : Tape) (span : Span) (d : ℕ) (s s₀ : Desk) (step step₀ : Step
           → emitAll u (blocksAll B t d (nodesIn t span n)) ≡ emitAll s (blocksAll B t d (nodesIn t span (At c))))
           → emitAll u (blocksAll (below t d) t d (nodesIn t span n)) ≡ emitAll s₀ (blocksAll (below t d) t d (nodesIn t span step₀))
       blocks-turned hh u n e = e (sym em ∙ hm) (sym eh ∙ hh) (below t d) ∙ here
-
--- a turn that enters nothing goes on
-pub left-turned : (t : Tape) {step : Step} {c : Cursor} (n : Step) → step ≡ At c → left t n < left t (At c) → left t n < left t step
-left-turned t n e h = rw e h

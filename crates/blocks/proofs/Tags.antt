@@ -24,15 +24,15 @@ use Rattle.render.specs.Children.{firstText}
 use Rattle.render.specs.Note.{categoryOf, textOf, firstWords, unlessEmpty, periphAlt}
 use Rattle.render.proofs.Shapes.{kind-is, kind-not}
 use Rattle.attrs.specs.Attr.{attributesOf}
-use Rattle.tags.specs.Items.{Attr, Item, start, empty, close, line, valueOf, attrBytes, attrsBytes, bytesOf}
+use Rattle.tags.specs.Items.{Attr, start, empty, close, line, valueOf, attrBytes, attrsBytes, bytesOf}
 use Rattle.tags.specs.Names.{nameOf}
 use Rattle.tags.proofs.Rendered.{attrs-append}
 use Rattle.events.specs.Event.{item, rawly, escaped, perhaps, collected}
 use Rattle.events.specs.Walk.{style, unclosed}
-use Rattle.events.specs.Emit.{Desk, emit, emitAll}
+use Rattle.events.specs.Emit.{emit, emitAll}
 use Rattle.sink.specs.Desk.{windowIn, overBy, deskIn, putOn}
 use Rattle.sink.specs.declared.Sink.{Sink}
-use Rattle.sink.proofs.Chains.{paint-three, item-on, desk-item}
+use Rattle.sink.proofs.Chains.{paint-three, desk-item, on-line}
 use Rattle.blocks.specs.Blocks.{holderOf, isBlockOrRow, sidebarAttrs, periphAttrs, attrsOf, elementNo}
 use Rattle.blocks.specs.declared.Holder.the-variants.{Sidebar, Periph, Neither}
 
@@ -162,17 +162,12 @@ module _ (source : Bytes) (n : ℕ) (qs : List Attr) (sink : Sink) {w v : Window
 
 module _ (level : ℕ) (sink a r : Sink) (out mid last : Bytes)
     (ea : (source : Bytes) → deskIn source a mid ≡ emit (deskIn source sink out) (item (line level))) where
-  on-line : (i : Item) → ((source : Bytes) → deskIn source r last ≡ putOn (deskIn source a mid) (bytesOf i))
-      → (source : Bytes) → deskIn source r last ≡ emitAll (deskIn source sink out) (item (line level) ∷ item i ∷ [])
-  unfolding emitAll
-  on-line i er source = er source ∙ item-on (deskIn source a mid) i ∙ ap (λ (d : Desk). emit d (item i)) (ea source)
-
   pub side-closed : {sidebar : Bool} → sidebar ≡ true → ((source : Bytes) → deskIn source r last ≡ putOn (deskIn source a mid) (b "</sidebar>"))
       → (source : Bytes) → deskIn source r last ≡ emitAll (deskIn source sink out) (item (line level) ∷ item (close (elementNo sidebar)) ∷ [])
   unfolding elementNo bytesOf nameOf
-  side-closed h er = rw h (on-line (close 13) er)
+  side-closed h er = rw h (on-line level sink a r out mid last ea (close 13) er)
 
   pub peri-closed : {sidebar : Bool} → sidebar ≡ false → ((source : Bytes) → deskIn source r last ≡ putOn (deskIn source a mid) (b "</periph>"))
       → (source : Bytes) → deskIn source r last ≡ emitAll (deskIn source sink out) (item (line level) ∷ item (close (elementNo sidebar)) ∷ [])
   unfolding elementNo bytesOf nameOf
-  peri-closed h er = rw h (on-line (close 14) er)
+  peri-closed h er = rw h (on-line level sink a r out mid last ea (close 14) er)

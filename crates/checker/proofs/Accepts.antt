@@ -1,6 +1,6 @@
 -- What pairing makes of any events has its milestones right, and is accepted where the events without it are right.
 use mathlib.Core.Path.{_≡_, refl, sym, ap, _∙_, subst}
-use mathlib.Core.Bool.{Bool, true, false, cond, not, _||_}
+use mathlib.Core.Bool.{Bool, true, false, cond, not, _||_, or-true}
 use mathlib.Core.List.{List, [], _∷_}
 use mathlib.Core.Logic.{inl, inr}
 use Prim.Native.Nat.{ℕ, suc}
@@ -276,10 +276,6 @@ high-end k (held j) h g ts i = high-leaf h g k _ (views ts) i
 
 pub noted-on : (h : ℤ) (g : Bool) → Noted h (g || ltZ (pos 160) h)
 noted-on h g e = rw e (or-true g)
-  where
-    or-true : (t : Bool) → (t || true) ≡ true
-    or-true true = refl
-    or-true false = refl
 
 pairing-low : (z : List Token) (c v : Held) (es : List Event) (h : ℤ) (g : Bool) → Noted h g → highFold h g (views (paired z c v es)) ≡ highFold h g (views (unpaired z es))
 unfolding paired unpaired view highFold

@@ -1,6 +1,6 @@
 -- The folds decide what the rules say.
 use mathlib.Core.Path.{_≡_, refl, sym, ap, _∙_, subst}
-use mathlib.Core.Bool.{Bool, true, false, cond, not, _&&_, _||_}
+use mathlib.Core.Bool.{Bool, true, false, cond, not, _&&_, _||_, or-true}
 use mathlib.Core.List.{List, [], _∷_, _++_}
 use mathlib.Core.Logic.{_↔_, _⊎_, inl, inr}
 use Prim.Native.Nat.{ℕ, suc, _+_}
@@ -84,10 +84,6 @@ high-complete : (a z : List View) (r : Run) → (ltZ (pos 160) (r .height) ≡ t
 unfolding folds stepOn rises
 high-complete [] z r inv h = high-stays r z (inv h)
 high-complete (v ∷ a) z r inv h = high-complete a z (stepOn r v) (λ e. rw e (or-true (r .high))) h
-  where
-    or-true : (t : Bool) → (t || true) ≡ true
-    or-true true = refl
-    or-true false = refl
 
 -- answer 12: exactly where some height is over 160
 pub high-decides : (vs : List View) → (folds atStart vs .high ≡ true) ↔ SomeHigh vs
@@ -213,10 +209,6 @@ module _ (p : Pairs) (h : p .amiss ≡ false) where
   unfolding isMilestone
   tag-fits n true i e = absurd (miss e)
   tag-fits n false i e = (λ a. never (sym i ∙ rw (eq-eqb n 3 a)), λ a. never (sym i ∙ rw (eq-eqb n 4 a) (or-true (eqb n 3))))
-    where
-      or-true : (t : Bool) → (t || true) ≡ true
-      or-true true = refl
-      or-true false = refl
 
   on-fits : (v : View) → pairUp p v .amiss ≡ false → Fits (p .chapter) (p .verse) v
   unfolding pairUp chapterTo verseTo

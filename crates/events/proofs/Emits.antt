@@ -15,6 +15,17 @@ unfolding emitAll
 emit-append w [] z = refl
 emit-append w (e ∷ a) z = emit-append (emit w e) a z
 
+-- what is emitted, and then another list
+pub then : (d : Desk) {e : Desk} (xs ys : List Event) → e ≡ emitAll d xs → emitAll e ys ≡ emitAll d (xs ++ ys)
+then d xs ys ee = ap (λ (u : Desk). emitAll u ys) ee ∙ sym (emit-append d xs ys)
+
+-- events, others behind them, and others behind those
+pub between : (d : Desk) {e f g : Desk} (xs ys zs : List Event) → e ≡ emitAll d xs → f ≡ emitAll e ys → g ≡ emitAll f zs → g ≡ emitAll d (xs ++ (ys ++ zs))
+between d xs ys zs ee ef eg =
+    eg ∙ ap (λ (u : Desk). emitAll u zs) (ef ∙ ap (λ (u : Desk). emitAll u ys) ee)
+    ∙ ap (λ (u : Desk). emitAll u zs) (sym (emit-append d xs ys)) ∙ sym (emit-append d (xs ++ ys) zs)
+    ∙ ap (emitAll d) (append-assoc xs ys zs)
+
 -- the items of a list and of another behind it
 pub emitted-append : (s : State) (a z : List Event) → emitted s (a ++ z) ≡ emitted s a ++ emitted (afterAll s a) z
 unfolding emitted afterAll

@@ -1,6 +1,6 @@
 -- Laws of a folded number: collapsing byte by byte, by runs, and along the texts.
 use mathlib.Core.Path.{_≡_, refl, sym, ap, _∙_}
-use mathlib.Core.Bool.{Bool, true, false, _&&_, _||_}
+use mathlib.Core.Bool.{Bool, true, false, _&&_, _||_, or-true, or-false}
 use mathlib.Core.List.{List, [], _∷_, _++_, flatten, append-nil}
 use Prim.Native.Nat.{ℕ, suc, _+_, _-_, _≤_, _<_, min, max}
 use native.Mathlib.Omega.{arith}
@@ -157,14 +157,6 @@ module _ (x : ℕ) (s : Bytes) where
   word-ends : isAsciiWhite x ≡ true → wordLen Ascii (x ∷ s) ≡ 0
   unfolding wordLen takeWhile solid white flatten
   word-ends e = rw (chars-cons x s, e)
-
-or-true : (t : Bool) → t || true ≡ true
-or-true true = refl
-or-true false = refl
-
-or-false : (t : Bool) → t || false ≡ t
-or-false true = refl
-or-false false = refl
 
 shut : (z : Bytes) → spaceIf (true && false) ++ z ≡ z
 unfolding spaceIf

@@ -3,11 +3,11 @@ use mathlib.Core.Path.{_≡_, refl, sym, ap, _∙_, subst}
 use mathlib.Core.Logic.{inl}
 use mathlib.Core.Bool.{Bool, true, false, cond}
 use mathlib.Core.List.{List, _++_}
-use Prim.Native.Nat.{ℕ, zero, suc, _+_, _-_, _<_}
+use Prim.Native.Nat.{ℕ, zero, suc, _+_, _-_}
 use native.Mathlib.Omega.{arith}
 use borrow.Author.Tests.{eq-eqb, ne-eqb}
 use Rattle.tape.specs.File.{Tape, kindAt, numberAt}
-use Rattle.tape.specs.Tree.{nextSibling, firstChild, children, walkFrom, left}
+use Rattle.tape.specs.Tree.{nextSibling, firstChild, children, walkFrom}
 use Rattle.tape.specs.declared.Cursor.{Cursor}
 use Rattle.tape.specs.declared.kinds.Kind.{Kind}
 use Rattle.tape.specs.declared.Step.{Step}
@@ -192,7 +192,3 @@ module _ (node : ℕ → Bool → List Event) (t : Tape) (first : ℕ) (behind t
     note-plain h kept hk u x n e =
         e (kept-for t hk ec) node
         ∙ ap (λ (z : Sort). emitAll s (noteOnward node t behind trim first (c .at) (walkFrom t (nextSibling t (c .at))) z)) (sym h) ∙ note-turned refl
-
--- a turn that enters no marker goes on
-pub left-plain : (t : Tape) {step : Step} {c : Cursor} (n : Step) → step ≡ At c → left t n < left t (At c) → left t n < left t step
-left-plain t n e h = rw e h

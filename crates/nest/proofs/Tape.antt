@@ -1,6 +1,6 @@
 -- Laws of the tape: its nodes are what a reader of the bytes finds, and a node plays one part.
 use mathlib.Core.Path.{_≡_, refl, sym, ap, _∙_, subst}
-use mathlib.Core.Bool.{Bool, true, false, cond, not, _&&_}
+use mathlib.Core.Bool.{Bool, true, false, cond, not, _&&_, and-false}
 use mathlib.Core.List.{List, [], _∷_}
 use mathlib.Core.Logic.{_↔_, inl, inr, ⊎-elim}
 use Prim.Native.Nat.{ℕ, zero, suc, _+_, _≤_, _<_}
@@ -50,11 +50,7 @@ opens-not t i n = simp (ne-eqb _ _ n)
 
 pub opens-self : (t : List Node) (i : ℕ) → linkAt t i ≡ i → container t i ≡ false
 unfolding container
-opens-self t i h = rw (eq-eqb _ _ h) (go (eqb (kindAt t i) 3))
-  where
-    go : (b : Bool) → (b && false) ≡ false
-    go true = refl
-    go false = refl
+opens-self t i h = rw (eq-eqb _ _ h) (and-false (eqb (kindAt t i) 3))
 
 pub kind-opens : (t : List Node) (i : ℕ) → Container t i → kindAt t i ≡ 3
 unfolding container

@@ -1,6 +1,6 @@
 -- On a tape that nests the children of a container, and of Root, tile the nodes between it and its end.
 use mathlib.Core.Path.{_≡_, refl, sym, ap, _∙_, subst}
-use mathlib.Core.Bool.{Bool, true, false, _||_}
+use mathlib.Core.Bool.{Bool, true, false, _||_, or-true}
 use mathlib.Core.List.{List, [], _∷_}
 use mathlib.Core.Logic.{inl, inr, ⊎-elim}
 use Prim.Native.Nat.{ℕ, zero, suc, _+_, _*_, _≤_, _<_}
@@ -39,11 +39,7 @@ by-part {P} t a f g = go (container t a) refl
 
 stops-close : (t : List Node) (a : ℕ) → Close t a → stops t a ≡ true
 unfolding stops
-stops-close t a c = rw c (go (leb (length t) a))
-  where
-    go : (b : Bool) → (b || true) ≡ true
-    go true = refl
-    go false = refl
+stops-close t a c = rw c (or-true (leb (length t) a))
 
 stops-end : (t : List Node) (a : ℕ) → length t ≤ a → stops t a ≡ true
 unfolding stops

@@ -1,6 +1,6 @@
 -- Laws of parts, of words at the front and of first places.
 use mathlib.Core.Path.{_≡_, refl, sym, ap, _∙_}
-use mathlib.Core.Bool.{Bool, true, false, _&&_}
+use mathlib.Core.Bool.{Bool, true, false, _&&_, and-false, _||_}
 use mathlib.Core.List.{[], _∷_, _++_}
 use Prim.Native.Nat.{ℕ, zero, suc, _+_, _-_, _≤_, _<_}
 use native.Mathlib.Omega.{arith}
@@ -39,13 +39,13 @@ drop-at s i h = rw add-one (drop-cons s i 0 h)
 
 -- ---- truth of a conjunction
 
-pub and-false : (t : Bool) → t && false ≡ false
-and-false true = refl
-and-false false = refl
-
 pub and-true : (a z : Bool) → a && z ≡ true → (a ≡ true) × (z ≡ true)
 and-true true z e = (refl, e)
 and-true false z e = absurd (let no-way : _≡_ {A = ℕ} 0 1 = cc in omega arith)
+
+pub or-both : (a z : Bool) → a || z ≡ false → (a ≡ false) × (z ≡ false)
+or-both true z e = absurd (let no-way : _≡_ {A = ℕ} 0 1 = cc in omega arith)
+or-both false z e = (refl, e)
 
 -- ---- a word at the front
 

@@ -9,6 +9,7 @@ use lib.Seq.{drop-drop, getD-drop}
 use lib.Dec.{ltb}
 use borrow.Author.Tests.{lt-ltb, ltb-true, ltb-false}
 use Rattle.parts.specs.Bytes.{Bytes, firstAt}
+use Rattle.parts.proofs.Laws.{first-le}
 use Rattle.chars.specs.Range.{within, inAny}
 use Rattle.chars.specs.Utf8.{fits, rowLen, table37, seqLen, step, isSequence, point, codeOf, firstChar}
 use Rattle.chars.specs.Space.{isWhite, whiteSpace}
@@ -119,15 +120,6 @@ module _ (s : Bytes) (i : ℕ) {test : Test} {r : Bool} where
 -- ---- the first that passes
 
 module _ (p : Bytes → Bool) where
-  pub first-le : (u : Bytes) → firstAt p u ≤ length u
-  unfolding firstAt
-  first-le [] = omega arith
-  first-le (x ∷ u) = go (p (x ∷ u)) (first-le u)
-    where
-      go : (t : Bool) → firstAt p u ≤ length u → elim t as (λ z. ℕ) [ true ↦ 0 | false ↦ suc (firstAt p u) ] ≤ suc (length u)
-      go true h = omega arith
-      go false h = omega arith
-
   pub first-hit : (u : Bytes) → p u ≡ true → firstAt p u ≡ 0
   unfolding firstAt
   first-hit [] e = refl

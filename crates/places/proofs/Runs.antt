@@ -9,7 +9,7 @@ use lib.Seq.{drop-drop, length-take-le, getD-drop}
 use lib.Dec.{ltb}
 use borrow.Author.Tests.{lt-ltb, le-ltb, ltb-true, leb-true, not-false}
 use Rattle.parts.specs.Bytes.{Bytes, firstAt}
-use Rattle.parts.proofs.Laws.{and-true as both-true}
+use Rattle.parts.proofs.Laws.{and-true as both-true, first-le}
 use Rattle.chars.specs.Range.{within}
 use Rattle.chars.specs.Utf8.{tail, seqLen, step, cutAt, characters, codeOf}
 use Rattle.chars.proofs.Characters.{seq-inner, step-seq, step-byte, step-some, step-le, cut-first, cut-induct}
@@ -19,7 +19,7 @@ use Rattle.tape.specs.Name.{endsName, inName, nameLen}
 use Rattle.places.specs.Seek.{endsAt, whiteAt, solidAt, gapAt, passesAt, nextFrom, Right, toWord, Dull}
 use Rattle.places.specs.declared.Test.{Test}
 use Rattle.places.specs.declared.Test.the-variants.{Ender, Gap}
-use Rattle.places.proofs.Firsts.{dull-passes, first-le, first-hit, first-skip}
+use Rattle.places.proofs.Firsts.{dull-passes, first-hit, first-skip}
 use Rattle.places.proofs.Dulls.{ends-white-not}
 
 -- ---- places inside a character

@@ -1,6 +1,6 @@
 -- Blocks of a text that its body shares.
 use mathlib.Core.Path.{_≡_, refl, sym, ap, _∙_}
-use mathlib.Core.Bool.{Bool, true, false, not, _&&_, _||_, or-assoc, or-false}
+use mathlib.Core.Bool.{Bool, true, false, not, _&&_, _||_, or-assoc, or-false, or-true}
 use mathlib.Core.List.{[], _∷_}
 use Prim.Native.Nat.{ℕ, zero, suc, _+_, _-_, _≤_, _<_}
 use native.Mathlib.Nat.{zero-add}
@@ -10,17 +10,9 @@ use lib.Seq.{drop-drop}
 use lib.Dec.{eqb, ltb}
 use borrow.Author.Tests.{eqb-false, ltb-false}
 use Rattle.parts.specs.Bytes.{Bytes, firstAt}
-use Rattle.parts.proofs.Laws.{drop-at}
+use Rattle.parts.proofs.Laws.{drop-at, or-both}
 use Rattle.prose.specs.Body.{plain, startsSolid, differs, sharedLen, odd, anyOdd, SharedTo}
 use Rattle.prose.proofs.Rest.{solid-above}
-
-or-both : (a z : Bool) → a || z ≡ false → (a ≡ false) × (z ≡ false)
-or-both true z e = absurd (let no-way : _≡_ {A = ℕ} 0 1 = cc in omega arith)
-or-both false z e = (refl, e)
-
-or-true : (a : Bool) → a || true ≡ true
-or-true true = refl
-or-true false = refl
 
 -- ---- a block
 

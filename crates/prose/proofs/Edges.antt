@@ -1,6 +1,6 @@
 -- A body trimmed is the body of its text without soft characters at its edges.
 use mathlib.Core.Path.{_≡_, refl, sym, ap, _∙_}
-use mathlib.Core.Bool.{Bool, true, false, cond, _&&_, _||_}
+use mathlib.Core.Bool.{Bool, true, false, cond, _&&_, _||_, or-true}
 use mathlib.Core.List.{List, [], _∷_, _++_, flatten}
 use Prim.Native.Nat.{ℕ, _≤_, _<_}
 use native.Mathlib.Omega.{arith}
@@ -33,10 +33,6 @@ record Fine (c : Bytes) : Type 0 where
 abbrev AllFine : List Bytes → Type 0
 AllFine [] = Unit {0}
 AllFine (c ∷ cs) = Fine c × AllFine cs
-
-or-true : (a : Bool) → a || true ≡ true
-or-true true = refl
-or-true false = refl
 
 low-code : (x : ℕ) → x < 128 → codeOf (x ∷ []) ≡ x
 unfolding codeOf isSequence seqLen rowLen table37 fits within point

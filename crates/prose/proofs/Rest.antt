@@ -1,6 +1,6 @@
 -- What a body goes on with behind a solid byte: a run that it shares with its text, and the gap behind that.
 use mathlib.Core.Path.{_≡_, refl, sym, ap, _∙_}
-use mathlib.Core.Bool.{Bool, true, false, cond, not, _&&_, _||_}
+use mathlib.Core.Bool.{Bool, true, false, cond, not, _&&_, _||_, and-false}
 use mathlib.Core.List.{[], _∷_, _++_, flatten}
 use Prim.Native.Nat.{ℕ, suc, _-_, _≤_, _<_}
 use native.Mathlib.Omega.{arith}
@@ -8,7 +8,7 @@ use lib.ListN.{length, take, drop, length-drop}
 use lib.Dec.{eqb, leb}
 use borrow.Author.Tests.{eqb-true, eqb-false, lt-leb, not-true, not-false}
 use Rattle.parts.specs.Bytes.{Bytes, firstAt}
-use Rattle.parts.proofs.Laws.{and-false, first-le}
+use Rattle.parts.proofs.Laws.{first-le}
 use Rattle.chars.specs.Range.{inAny, within}
 use Rattle.chars.specs.Space.{isAsciiWhite}
 use Rattle.chars.specs.Utf8.{cutAt}

@@ -15,6 +15,7 @@ use Rattle.tape.specs.declared.Node.{Node}
 use Rattle.tape.specs.declared.Entry.{Entry}
 use Rattle.tape.specs.declared.Info.{Info}
 use Rattle.tape.specs.declared.Info.the-variants.{Known, Unknown}
+use Rattle.tape.proofs.Laws.{kind-of}
 use Rattle.render.specs.declared.shape.Shape.{Shape}
 use Rattle.render.specs.declared.shape.Shape.the-variants.{Block, Inline, Leaf, Other}
 use Rattle.render.specs.Shape.{closedBy, shapeBy, unknownShape, isInlineShape, isBlockShape, inlineCategory, inlineMarker, isInline, blockMarker, isTopLevelBlock, trimsAfter, isElement, isRow, isCategoryMarker, isBlank, isContent}
@@ -83,22 +84,19 @@ module _ {s : Shape} where
   block-other e = rw e
 
 module _ (t : Tape) (k : ℕ) {n : Node} (e : n ≡ nodeAt t k) where
-  kind-here : n .kind .code ≡ kindAt t k
-  kind-here = ap (λ (m : Node). m .kind .code) e
-
   pub shape-other : (n .kind .code ≡ 3 → ⊥) → Other ≡ unknownShape t k
   unfolding unknownShape
-  shape-other h = rw (ne-eqb (kindAt t k) 3 (λ z. h (kind-here ∙ z)))
+  shape-other h = rw (ne-eqb (kindAt t k) 3 (λ z. h (kind-of t k e ∙ z)))
 
   pub shape-known : {i : Info} (x : Entry) → n .kind .code ≡ 3 → i ≡ infoAt t k → i ≡ Known x → Other ≡ unknownShape t k
   unfolding unknownShape shapeBy
-  shape-known x h ei ex = rw (eq-eqb (kindAt t k) 3 (sym kind-here ∙ h), ← ei, ex)
+  shape-known x h ei ex = rw (eq-eqb (kindAt t k) 3 (sym (kind-of t k e) ∙ h), ← ei, ex)
 
   pub shape-unknown : {i : Info} {z : Kind} {r : Shape} → n .kind .code ≡ 3 → i ≡ infoAt t k → i ≡ Unknown → z .code ≡ kindAt t (n .link)
       → r ≡ closedBy (z .code) → r ≡ unknownShape t k
   unfolding unknownShape shapeBy
   shape-unknown h ei ex ez er =
-      rw (eq-eqb (kindAt t k) 3 (sym kind-here ∙ h), ← ei, ex)
+      rw (eq-eqb (kindAt t k) 3 (sym (kind-of t k e) ∙ h), ← ei, ex)
       (er ∙ ap closedBy (ez ∙ ap (λ (m : Node). kindAt t (m .link)) e))
 
 -- ---- a node whose kind is read

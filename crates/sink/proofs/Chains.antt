@@ -1,14 +1,15 @@
 -- Runs painted one behind the other, and the desk that they make.
 use mathlib.Core.Path.{_≡_, sym, ap, _∙_}
-use mathlib.Core.List.{_++_, append-nil}
+use mathlib.Core.List.{_++_, append-nil, [], _∷_}
+use Prim.Native.Nat.{ℕ}
 use Rattle.parts.specs.Bytes.{Bytes}
 use Rattle.window.specs.Page.{Page, pageOf, paint}
 use Rattle.window.specs.declared.Window.{Window}
 use Rattle.window.proofs.Paint.{paint-two}
-use Rattle.tags.specs.Items.{Item, render, bytesOf}
+use Rattle.tags.specs.Items.{Item, render, bytesOf, line}
 use Rattle.events.specs.Event.{item}
 use Rattle.events.specs.Pairing.{itemsOf, after}
-use Rattle.events.specs.Emit.{Desk, emit}
+use Rattle.events.specs.Emit.{Desk, emit, emitAll}
 use Rattle.sink.specs.Desk.{windowIn, overBy, stateIn, deskIn, putOn}
 use Rattle.sink.specs.declared.Sink.{Sink}
 
@@ -39,3 +40,10 @@ desk-on sink {w} {v} {r} out {last} x ew ev er source =
 pub desk-item : (sink : Sink) {w v : Window} {r : Sink} (out : Bytes) {last : Bytes} (i : Item) → w ≡ windowIn sink → pageOf v last ≡ paint (pageOf w out) (bytesOf i) → r ≡ overBy sink v
     → (source : Bytes) → deskIn source r last ≡ emit (deskIn source sink out) (item i)
 desk-item sink out i ew ev er source = desk-on sink out (bytesOf i) ew ev er source ∙ item-on (deskIn source sink out) i
+
+-- an item on a line of its own
+pub on-line : (level : ℕ) (sink a r : Sink) (out mid last : Bytes) → ((source : Bytes) → deskIn source a mid ≡ emit (deskIn source sink out) (item (line level)))
+    → (i : Item) → ((source : Bytes) → deskIn source r last ≡ putOn (deskIn source a mid) (bytesOf i))
+    → (source : Bytes) → deskIn source r last ≡ emitAll (deskIn source sink out) (item (line level) ∷ item i ∷ [])
+unfolding emitAll
+on-line level sink a r out mid last ea i er source = er source ∙ item-on (deskIn source a mid) i ∙ ap (λ (d : Desk). emit d (item i)) (ea source)

@@ -19,14 +19,14 @@ use Rattle.render.specs.Note.{cellAlign, alignWord}
 use Rattle.render.specs.declared.note.Align.{Align}
 use Rattle.render.specs.declared.note.Align.the-variants.{Start, Center, End}
 use Rattle.render.proofs.Shapes.{kind-is, kind-not}
-use Rattle.tags.specs.Items.{Item, start, empty, close, line, valueOf, attrBytes, attrsBytes, bytesOf}
+use Rattle.tags.specs.Items.{start, empty, close, line, valueOf, attrBytes, attrsBytes, bytesOf}
 use Rattle.tags.specs.Names.{nameOf}
 use Rattle.events.specs.Event.{item, rawly, escaped}
 use Rattle.events.specs.Walk.{levelOf, isKnown, isCell, style, styled}
-use Rattle.events.specs.Emit.{Desk, emit, emitAll}
+use Rattle.events.specs.Emit.{emit, emitAll}
 use Rattle.sink.specs.Desk.{windowIn, overBy, deskIn, putOn}
 use Rattle.sink.specs.declared.Sink.{Sink}
-use Rattle.sink.proofs.Chains.{paint-three, item-on, desk-item}
+use Rattle.sink.proofs.Chains.{paint-three, desk-item, on-line}
 use Rattle.tagging.proofs.Written.{start-styled, empty-styled}
 use Rattle.tables.specs.Rows.{rowOpens, rowCloses, tableOpens, tableCloses}
 
@@ -136,27 +136,22 @@ module _ (t : Tape) (k : ℕ) (sink : Sink) {w v : Window} {r : Sink} (out : Byt
 
 module _ (level : ℕ) (sink a r : Sink) (out mid last : Bytes)
     (ea : (source : Bytes) → deskIn source a mid ≡ emit (deskIn source sink out) (item (line level))) where
-  on-line : (i : Item) → ((source : Bytes) → deskIn source r last ≡ putOn (deskIn source a mid) (bytesOf i))
-      → (source : Bytes) → deskIn source r last ≡ emitAll (deskIn source sink out) (item (line level) ∷ item i ∷ [])
-  unfolding emitAll
-  on-line i er source = er source ∙ item-on (deskIn source a mid) i ∙ ap (λ (d : Desk). emit d (item i)) (ea source)
-
   pub row-opened : ((source : Bytes) → deskIn source r last ≡ putOn (deskIn source a mid) (b "<row style=\"tr\">"))
       → (source : Bytes) → deskIn source r last ≡ emitAll (deskIn source sink out) (rowOpens level)
   unfolding rowOpens styled bytesOf nameOf attrsBytes attrBytes valueOf rawly
-  row-opened er = on-line (start 11 (styled (b "tr"))) er
+  row-opened er = on-line level sink a r out mid last ea (start 11 (styled (b "tr"))) er
 
   pub row-closed : ((source : Bytes) → deskIn source r last ≡ putOn (deskIn source a mid) (b "</row>"))
       → (source : Bytes) → deskIn source r last ≡ emitAll (deskIn source sink out) (rowCloses level)
   unfolding rowCloses bytesOf nameOf
-  row-closed er = on-line (close 11) er
+  row-closed er = on-line level sink a r out mid last ea (close 11) er
 
   pub table-opened : ((source : Bytes) → deskIn source r last ≡ putOn (deskIn source a mid) (b "<table>"))
       → (source : Bytes) → deskIn source r last ≡ emitAll (deskIn source sink out) (tableOpens level)
   unfolding tableOpens bytesOf nameOf attrsBytes
-  table-opened er = on-line (start 10 []) er
+  table-opened er = on-line level sink a r out mid last ea (start 10 []) er
 
   pub table-closed : ((source : Bytes) → deskIn source r last ≡ putOn (deskIn source a mid) (b "</table>"))
       → (source : Bytes) → deskIn source r last ≡ emitAll (deskIn source sink out) (tableCloses level)
   unfolding tableCloses bytesOf nameOf
-  table-closed er = on-line (close 10) er
+  table-closed er = on-line level sink a r out mid last ea (close 10) er

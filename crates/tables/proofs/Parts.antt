@@ -1,7 +1,7 @@
 -- Cells, rows and tables from their parts, over desks.
 use mathlib.Core.Path.{_≡_, refl, sym, ap, _∙_}
 use mathlib.Core.Bool.{Bool, true, false, cond}
-use mathlib.Core.List.{List, [], _∷_, _++_, append-assoc}
+use mathlib.Core.List.{List, [], _∷_, _++_}
 use Prim.Native.Nat.{ℕ, zero, suc, _+_, _-_}
 use native.Mathlib.Omega.{arith}
 use Rattle.parts.specs.Bytes.{Bytes, b}
@@ -20,7 +20,7 @@ use Rattle.tags.specs.Names.{nameOf}
 use Rattle.events.specs.Event.{Event, item, escaped, element}
 use Rattle.events.specs.Walk.{asInline, inside, levelOf, isCell, style, cellIn, cellsAlong, cells, rowE, rowsE, tableE}
 use Rattle.events.specs.Emit.{Desk, emit, emitAll}
-use Rattle.events.proofs.Emits.{emit-append}
+use Rattle.events.proofs.Emits.{emit-append, between}
 use Rattle.lists.specs.Span.{nodesIn, memberOf}
 use Rattle.lists.specs.declared.Span.{Span}
 use Rattle.lists.specs.declared.Member.{Member}
@@ -32,15 +32,6 @@ use Rattle.sink.proofs.Chains.{item-on}
 use Rattle.roles.specs.Roles.{mannerBy}
 use Rattle.tables.specs.Rows.{isNoRow, rowOpens, rowCloses, tableOpens, tableCloses}
 use Rattle.tables.proofs.Spans.{up-row, up-other, up-none}
-
--- ---- events in parts
-
--- events, others behind them, and others behind those
-between : (d : Desk) {e f g : Desk} (xs ys zs : List Event) → e ≡ emitAll d xs → f ≡ emitAll e ys → g ≡ emitAll f zs → g ≡ emitAll d (xs ++ (ys ++ zs))
-between d xs ys zs ee ef eg =
-    eg ∙ ap (λ (u : Desk). emitAll u zs) (ef ∙ ap (λ (u : Desk). emitAll u ys) ee)
-    ∙ ap (λ (u : Desk). emitAll u zs) (sym (emit-append d xs ys)) ∙ sym (emit-append d (xs ++ ys) zs)
-    ∙ ap (emitAll d) (append-assoc xs ys zs)
 
 -- ---- a cell
 

@@ -24,7 +24,7 @@ use Rattle.tags.specs.declared.Found.the-variants.{Got, Nothing}
 use Rattle.tags.specs.declared.Head.the-variants.{Bad, Words, Closing}
 use Rattle.tags.specs.declared.Tail.the-variants.{Open, Empty, Neither}
 use Rattle.tags.proofs.Laws.{run-le, pair-says}
-use Rattle.tags.proofs.ReadBack.{ok-more, clean-first, read-back}
+use Rattle.tags.proofs.ReadBack.{ok-more, clean-first, read-back, or-more}
 
 never {ℓ} : {A : Type ℓ} → false ≡ true → A
 never e = absurd (let no-way : _≡_ {A = ℕ} 0 1 = cc in omega arith)
@@ -76,11 +76,6 @@ begins-take (x ∷ w) (y ∷ s) (suc k) h e =
     let both = and-true (eqb x y) (begins w s) e in
     rw (both .0) (begins-take w s k (omega arith) (both .1))
 
-or-cut : (x y x′ y′ : Bool) → (x ≡ true → x′ ≡ true) → (y ≡ true → y′ ≡ true) → (x || y) ≡ true → (x′ || y′) ≡ true
-or-cut true y x′ y′ f g e = rw (f refl)
-or-cut false y true y′ f g e = refl
-or-cut false y false y′ f g e = g e
-
 -- what may stand may stand in what is cut off behind its run
 module _ (x : ℕ) (s : Bytes) where
   word-cut : (c : Class) (w : Bytes) → ok c (x ∷ s) ≡ true → Long c w (x ∷ s)
@@ -104,7 +99,7 @@ module _ (x : ℕ) (s : Bytes) where
 
       go : (y : Bool) → cond y true (escape (x ∷ s)) ≡ true → cond y true (escape (x ∷ z)) ≡ true
       go true e = refl
-      go false e = or-cut _ _ _ _ (cut _ (lt-text _)) (or-cut _ _ _ _ (cut _ (gt-text _)) (cut _ (amp-text _))) e
+      go false e = or-more _ _ _ _ (cut _ (lt-text _)) (or-more _ _ _ _ (cut _ (gt-text _)) (cut _ (amp-text _))) e
   ok-cut Value o = go (plain x) o
     where
       z : Bytes
@@ -117,7 +112,7 @@ module _ (x : ℕ) (s : Bytes) where
           → cond y (not (eqb x 34)) (escape (x ∷ z) || begins (b "&quot;") (x ∷ z)) ≡ true
       go true e = e
       go false e =
-          or-cut _ _ _ _ (or-cut _ _ _ _ (cut _ (lt-value _)) (or-cut _ _ _ _ (cut _ (gt-value _)) (cut _ (amp-value _))))
+          or-more _ _ _ _ (or-more _ _ _ _ (cut _ (lt-value _)) (or-more _ _ _ _ (cut _ (gt-value _)) (cut _ (amp-value _))))
           (cut _ (quot-value _)) e
   ok-cut Key o = o
 

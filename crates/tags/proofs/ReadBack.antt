@@ -31,7 +31,7 @@ begins-more (x ∷ w) (y ∷ s) r e =
     let h = and-true (eqb x y) (begins w s) e in
     rw (h .0) (begins-more w s r (h .1))
 
-or-more : (x y x′ y′ : Bool) → (x ≡ true → x′ ≡ true) → (y ≡ true → y′ ≡ true) → (x || y) ≡ true → (x′ || y′) ≡ true
+pub or-more : (x y x′ y′ : Bool) → (x ≡ true → x′ ≡ true) → (y ≡ true → y′ ≡ true) → (x || y) ≡ true → (x′ || y′) ≡ true
 or-more true y x′ y′ f g e = rw (f refl)
 or-more false y true y′ f g e = refl
 or-more false y false y′ f g e = g e

@@ -131,3 +131,7 @@ module _ (p : ℕ → Bool) (t : Tape) (c : Cursor) {s : Step} (es : s ≡ At c)
 
   pub filter-walk-turn : {n : Step} → n ≡ nextSibling t (c .at) → p (c .at) ≡ false → without p (walkFrom t s) ≡ c .at ∷ without p (walkFrom t n)
   filter-walk-turn {n} en h = ap (without p) (walk-turn t c es en) ∙ without-keep p (c .at) (walkFrom t n) h
+
+-- what is left behind a node is less than at a step that leads to it
+pub left-behind : (t : Tape) {step : Step} {c : Cursor} (n : Step) → step ≡ At c → left t n < left t (At c) → left t n < left t step
+left-behind t n e h = rw e h

@@ -1,6 +1,6 @@
 -- The segments of a body are the bodies of the text's own pieces, trimmed: the text is split, never a copy of its body.
 use mathlib.Core.Path.{_≡_, refl, sym, ap, _∙_}
-use mathlib.Core.Bool.{Bool, true, false, cond, _&&_, _||_}
+use mathlib.Core.Bool.{Bool, true, false, cond, _&&_, _||_, and-false}
 use mathlib.Core.List.{List, [], _∷_, _++_, flatten, map, append-assoc, append-nil}
 use Prim.Native.Nat.{ℕ, zero, suc, _+_, _≤_, _<_}
 use native.Mathlib.Omega.{arith}
@@ -8,7 +8,7 @@ use lib.ListN.{length, take, drop, length-append}
 use lib.Dec.{eqb}
 use borrow.Author.Tests.{eqb-true, le-ltb}
 use Rattle.parts.specs.Bytes.{Bytes, b, begins, firstAt, find}
-use Rattle.parts.proofs.Laws.{and-false, and-true as both-hold}
+use Rattle.parts.proofs.Laws.{and-true as both-hold, or-both}
 use Rattle.chars.specs.Space.{isAsciiWhite}
 use Rattle.chars.specs.Range.{inAny, within}
 use Rattle.chars.specs.Utf8.{cutAt}
@@ -163,10 +163,6 @@ up-both (y ∷ u) = go (isAsciiWhite y) refl (up-both u)
     )
 
 -- ---- splits
-
-or-both : (a z : Bool) → a || z ≡ false → (a ≡ false) × (z ≡ false)
-or-both true z e = absurd (let no-way : _≡_ {A = ℕ} 0 1 = cc in omega arith)
-or-both false z e = (refl, e)
 
 module _ (x y : ℕ) (s : Bytes) where
   split-here : eqb x 47 && eqb y 47 ≡ true → splitBreaks (x ∷ y ∷ s) ≡ [] ∷ splitBreaks s

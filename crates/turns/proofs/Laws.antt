@@ -1,6 +1,6 @@
 -- One law for each return of a turn.
 use mathlib.Core.Path.{_≡_, refl, sym, ap, _∙_}
-use mathlib.Core.Bool.{Bool, true, false, not, _&&_, _||_}
+use mathlib.Core.Bool.{Bool, true, false, not, _&&_, _||_, or-true, or-false}
 use mathlib.Core.List.{List, _++_}
 use Prim.Native.Nat.{ℕ, _+_, _-_, _≤_, _<_}
 use native.Mathlib.Omega.{arith}
@@ -67,14 +67,6 @@ module _ (c : Cursor) {kept : Step} (next : Step) where
   past-far d ed n t h en = solid-on t c next (behind-far t c d ed n h) en
 
 -- ---- a text as it is normalized
-
-or-true : (x : Bool) → x || true ≡ true
-or-true true = refl
-or-true false = refl
-
-or-false : (x : Bool) → x || false ≡ x
-or-false true = refl
-or-false false = refl
 
 module _ (t : Tape) (c : Cursor) (s : Bytes) (trim behind : Bool) (kept : Step) {n : Normalized} where
   pub look-behind : behind ≡ true → n ≡ normalizeText s (not trim) true → Kept t c kept → n ≡ normalized t (c .at) s trim behind

@@ -1,6 +1,6 @@
 -- Laws of escapes: a text is runs of plain bytes with escapes between them.
 use mathlib.Core.Path.{_≡_, refl, sym, ap, _∙_}
-use mathlib.Core.Bool.{Bool, true, false, cond, _&&_, _||_}
+use mathlib.Core.Bool.{Bool, true, false, cond, _&&_, _||_, or-false, or-assoc, and-false}
 use mathlib.Core.List.{[], _∷_, _++_, append-assoc, append-nil}
 use Prim.Native.Nat.{ℕ, zero, suc, _+_, _-_, _≤_, _<_, max}
 use native.Mathlib.Nat.{add-zero, zero-add}
@@ -10,7 +10,7 @@ use lib.Seq.{getD-drop, drop-drop}
 use lib.Dec.{eqb}
 use borrow.Author.Tests.{ne-eqb}
 use Rattle.parts.specs.Bytes.{Bytes, b, firstAt}
-use Rattle.parts.proofs.Laws.{drop-part, drop-at, and-false, first-turn, first-stop, first-end, first-le, first-found}
+use Rattle.parts.proofs.Laws.{drop-part, drop-at, first-turn, first-stop, first-end, first-le, first-found}
 use Rattle.chars.specs.Escape.{special, escape, escaped}
 use Rattle.chars.proofs.Escapes.{escaped-plain}
 use Rattle.window.specs.Page.{Page, paint}
@@ -134,14 +134,6 @@ pub plain-fits : {attr : Bool} {s : Bytes} {i n : ℕ} → PlainTo attr s i → 
 plain-fits {attr} {s} z e = omega (arith, plain-on z e, plain-le attr s)
 
 -- ---- a block
-
-pub or-false : (t : Bool) → t || false ≡ t
-or-false true = refl
-or-false false = refl
-
-or-assoc : (p q r : Bool) → (p || q) || r ≡ p || (q || r)
-or-assoc true q r = refl
-or-assoc false q r = refl
 
 pub any-turn : (attr : Bool) (s : Bytes) (i : ℕ) (found : Bool) {t z : Bool} → i < length s → t ≡ special attr (getD s i 0)
     → found || anySpecial attr (drop i s) ≡ z → (found || t) || anySpecial attr (drop (i + 1) s) ≡ z

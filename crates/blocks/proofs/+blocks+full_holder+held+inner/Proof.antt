@@ -4,13 +4,13 @@ use Prim.Native.Nat.{ℕ, _<_, _+_, _*_}
 use lib.ListN.{length}
 use Rattle.tape.specs.File.{tapeIn}
 use Rattle.tape.specs.Tree.{left}
-use Rattle.tape.proofs.Walk.{left-turn}
+use Rattle.tape.proofs.Walk.{left-turn, left-behind}
 use Rattle.lists.specs.Span.{nodesIn}
 use Rattle.events.specs.Emit.{emitAll}
 use Rattle.events.proofs.Turns.{blocksAll}
 use Rattle.sink.specs.Desk.{deskIn}
 use Rattle.blocks.specs.Blocks.{below}
-use Rattle.blocks.proofs.Steps.{inner-zero, inner-deep, held-whole, held-full, held-bare, blocks-done, blocks-ended, blocks-skipped, blocks-side, blocks-peri, blocks-turned, left-turned}
+use Rattle.blocks.proofs.Steps.{inner-zero, inner-deep, held-whole, held-full, held-bare, blocks-done, blocks-ended, blocks-skipped, blocks-side, blocks-peri, blocks-turned}
 use borrow.Fn.Kinds.{In}
 use borrow.Fn.PlainCycle.{Measures, is, falls, and}
 use Rattle.blocks.proofs.blocks.Reads as blocks
@@ -177,7 +177,7 @@ blocks-block-turn-requires : (t : ℕ) → blocks-lts.Need-block-turn-requires (
 blocks-block-turn-requires t c κs = search needs
 
 blocks-loop-less-4 : (t : ℕ) → blocks-lts.Need-loop-less-4 (blocks-calls t) (blocks-at t) blocks.Post blocks-Inv-loop blocks-μ-loop
-blocks-loop-less-4 t c = search left-turned
+blocks-loop-less-4 t c = search left-behind
 
 blocks-loop-again-4 : (t : ℕ) → blocks-lts.Need-loop-again-4 (blocks-calls t) (blocks-at t) blocks.Post blocks-Inv-loop blocks-μ-loop
 blocks-loop-again-4 t c = (blocks-turned _ _ _ _ _ _ _ (c .before .before .before .before .before .before .before .before .before .before .before .before .before .before .loop .inv .0) (search needs) (c .before .before .before .before .before .before .before .before .before .before .member-of .ensures) (search needs) (c .before .before .before .before .before .before .before .holder-of .ensures) (search needs) _ _ (c .before .before .before .block-turn .ensures .0), search needs)

@@ -4,13 +4,13 @@ use Prim.Native.Nat.{ℕ, _<_, _+_, _*_}
 use lib.ListN.{length}
 use Rattle.tape.specs.File.{tapeIn}
 use Rattle.tape.specs.Tree.{walkFrom, left}
-use Rattle.tape.proofs.Walk.{left-turn}
+use Rattle.tape.proofs.Walk.{left-turn, left-behind}
 use Rattle.lists.specs.Span.{nodesIn}
 use Rattle.events.specs.Walk.{nodeIn, inside as insideOf, inlineAll, noteAll}
 use Rattle.events.specs.Emit.{emitAll}
 use Rattle.sink.specs.Desk.{deskIn}
 use Rattle.turns.specs.Turn.{KeptAt}
-use Rattle.inline.proofs.Steps.{marker-whole, marker-leaf, node-chapter, node-verse, node-marker, node-other, inside-zero, inside-inline, inside-note, inline-done, inline-ended, inline-entered, inline-plain, note-done, note-ended, note-entered, note-plain, kept-here, kept-plain, left-plain}
+use Rattle.inline.proofs.Steps.{marker-whole, marker-leaf, node-chapter, node-verse, node-marker, node-other, inside-zero, inside-inline, inside-note, inline-done, inline-ended, inline-entered, inline-plain, note-done, note-ended, note-entered, note-plain, kept-here, kept-plain}
 use borrow.Fn.Kinds.{In}
 use borrow.Fn.PlainCycle.{Measures, is, falls, and}
 use Rattle.inline.proofs.inline.Reads as inline
@@ -169,7 +169,7 @@ inline-plain-turn-requires : (t : ℕ) → inline-lts.Need-plain-turn-requires (
 inline-plain-turn-requires t c κs = search needs
 
 inline-loop-less-2 : (t : ℕ) → inline-lts.Need-loop-less-2 (inline-calls t) (inline-at t) inline.Post inline-Inv-loop inline-μ-loop
-inline-loop-less-2 t c = search left-plain
+inline-loop-less-2 t c = search left-behind
 
 inline-loop-again-2 : (t : ℕ) → inline-lts.Need-loop-again-2 (inline-calls t) (inline-at t) inline.Post inline-Inv-loop inline-μ-loop
 inline-loop-again-2 t c = (search inline-plain, (search kept-plain, search needs))
@@ -342,7 +342,7 @@ note-inline-note-turn-requires : (t : ℕ) → note-inline-lts.Need-note-turn-re
 note-inline-note-turn-requires t c κs = search needs
 
 note-inline-loop-less-2 : (t : ℕ) → note-inline-lts.Need-loop-less-2 (note-inline-calls t) (note-inline-at t) note-inline.Post note-inline-Inv-loop note-inline-μ-loop
-note-inline-loop-less-2 t c = search left-plain
+note-inline-loop-less-2 t c = search left-behind
 
 note-inline-loop-again-2 : (t : ℕ) → note-inline-lts.Need-loop-again-2 (note-inline-calls t) (note-inline-at t) note-inline.Post note-inline-Inv-loop note-inline-μ-loop
 note-inline-loop-again-2 t c = (search note-plain, (search kept-plain, search needs))
