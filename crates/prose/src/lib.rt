@@ -280,17 +280,6 @@ pub fn put_written(w: Window, out: &mut [u8], s: &[u8], n: Normalized) -> Window
     put_space(u, out, n.trail)
 }
 
-// A text with its escapes, as a value or as text.
-fn put_escaped(w: Window, out: &mut [u8], s: &[u8], attr: bool) -> Window
-    ensures { λ r. ⌜ pageOf r (now (out .exit)) ≡ paint (pageOf w (now (out .entry))) (escape attr (now (s .entry))) ⌝ }
-{
-    if attr {
-        window::escape_xml_attr(w, out, s)
-    } else {
-        window::escape_xml(w, out, s)
-    }
-}
-
 // The words from a place on, a space before each.
 fn put_spaced(w: Window, out: &mut [u8], s: &[u8], start: usize, attr: bool) -> Window
     ensures { λ r. ⌜ pageOf r (now (out .exit)) ≡ paint (pageOf w (now (out .entry))) (escape attr (spaced (words Set.Unicode (drop start (now (s .entry)))))) ⌝ }
@@ -303,7 +292,7 @@ fn put_spaced(w: Window, out: &mut [u8], s: &[u8], start: usize, attr: bool) -> 
             return v;
         }
         v = window::put_run(v, out, b" ");
-        v = put_escaped(v, out, parts::part(s, word.start, word.len), attr);
+        v = window::escape_xml_with(v, out, parts::part(s, word.start, word.len), attr);
         at = word.start + word.len;
     }
     v
@@ -314,6 +303,6 @@ pub fn put_words(w: Window, out: &mut [u8], s: &[u8], attr: bool) -> Window
     ensures { λ r. ⌜ pageOf r (now (out .exit)) ≡ paint (pageOf w (now (out .entry))) (escape attr (joined (words Set.Unicode (now (s .entry))))) ⌝ }
 {
     let word = words::next_word(s, Set::Unicode, 0);
-    let v = put_escaped(w, out, parts::part(s, word.start, word.len), attr);
+    let v = window::escape_xml_with(w, out, parts::part(s, word.start, word.len), attr);
     put_spaced(v, out, s, word.start + word.len, attr)
 }

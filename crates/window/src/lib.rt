@@ -246,7 +246,7 @@ fn put_escape(w: Window, out: &mut [u8], x: u8) -> Window
 }
 
 // A text with its escapes; in an attribute's value the double quote too.
-fn escape_xml_with(w: Window, out: &mut [u8], s: &[u8], attr: bool) -> Window
+pub fn escape_xml_with(w: Window, out: &mut [u8], s: &[u8], attr: bool) -> Window
     ensures { λ r. ⌜ pageOf r (now (out .exit)) ≡ paint (pageOf w (now (out .entry))) (escape attr (now (s .entry))) ⌝ }
 {
     let mut v = w;

@@ -40,8 +40,8 @@ put-run-requires c κs = search needs
 part-requires : tie.Need-part-requires Inv-loop μ-loop
 part-requires c κs = search needs
 
-put-escaped-requires : tie.Need-put-escaped-requires Inv-loop μ-loop
-put-escaped-requires c κs = search needs
+escape-xml-with-requires : tie.Need-escape-xml-with-requires Inv-loop μ-loop
+escape-xml-with-requires c κs = search needs
 
 add-at : tie.Need-add-at Inv-loop μ-loop
 add-at c = omega (arith, c .before .before .before .before .before .before .before .before .before .before .before .before .before .before .before .loop .inv .2, word-ends _ false _ _ (c .before .before .before .before .before .before .before .before .before .before .before .before .before .next-word .ensures) (omega arith))
@@ -71,7 +71,7 @@ put-spaced-spec =
     slice-aggregate-put-run
     put-run-requires
     part-requires
-    put-escaped-requires
+    escape-xml-with-requires
     add-at
     loop-less
     loop-again

@@ -11,8 +11,8 @@ next-word-requires c κs = search needs
 part-requires : tie.Need-part-requires
 part-requires c κs = search needs
 
-put-escaped-requires : tie.Need-put-escaped-requires
-put-escaped-requires c κs = search needs
+escape-xml-with-requires : tie.Need-escape-xml-with-requires
+escape-xml-with-requires c κs = search needs
 
 add-put-spaced : tie.Need-add-put-spaced
 add-put-spaced c = omega (arith, word-ends _ false _ _ (c .before .before .before .before .before .before .before .next-word .ensures) (omega arith))
@@ -32,7 +32,7 @@ put-words-spec =
     (tie.spec
     next-word-requires
     part-requires
-    put-escaped-requires
+    escape-xml-with-requires
     add-put-spaced
     put-spaced-requires
     same-length
