@@ -10,28 +10,15 @@ use Rattle.tape.specs.declared.Step.{Step}
 use Rattle.tape.specs.declared.Step.the-variants.{At, Done}
 use Rattle.render.specs.First.{firstWith, any}
 use Rattle.render.proofs.Finds.{first-hit, first-miss}
-use Rattle.events.specs.Walk.{fromFirst}
 use Rattle.lists.specs.Span.{nodesIn, memberOf}
 use Rattle.lists.specs.declared.Span.{Span}
 use Rattle.lists.specs.declared.Member.{Member}
 use Rattle.lists.specs.declared.Member.the-variants.{End, Skipped, Listed}
 use Rattle.lists.proofs.Nodes.{nodes-done, nodes-cut, nodes-skip, nodes-go}
 
--- ---- the first that passes a test
+-- ---- whether one passes a test
 
 module _ (p : ℕ → Bool) where
-  from-yes : (k : ℕ) (ks : List ℕ) → p k ≡ true → fromFirst p (k ∷ ks) ≡ k ∷ ks
-  unfolding fromFirst
-  from-yes k ks h = rw h
-
-  from-no : (k : ℕ) (ks : List ℕ) → p k ≡ false → fromFirst p (k ∷ ks) ≡ fromFirst p ks
-  unfolding fromFirst
-  from-no k ks h = rw h
-
-  from-none : {ks : List ℕ} → ks ≡ [] → ks ≡ fromFirst p ks
-  unfolding fromFirst
-  from-none h = rw h
-
   any-yes : (k : ℕ) (ks : List ℕ) → p k ≡ true → any p (k ∷ ks) ≡ true
   unfolding any found
   any-yes k ks h = ap found (first-hit p k ks h)
@@ -45,29 +32,6 @@ module _ (p : ℕ → Bool) where
   any-none h = rw h
 
 -- ---- a walk to it
-
-module _ (p : ℕ → Bool) (t : Tape) (span : Span) (s₀ s : Step) (inv : fromFirst p (nodesIn t span s) ≡ fromFirst p (nodesIn t span s₀)) where
-  pub next-ended : s ≡ Done → nodesIn t span s ≡ fromFirst p (nodesIn t span s₀)
-  next-ended e = from-none p (nodes-done t span e) ∙ inv
-
-  module _ {c : Cursor} (es : s ≡ At c) {m : Member} (em : m ≡ memberOf t span (c .at)) where
-    pub next-cut : m ≡ End → nodesIn t span (At c) ≡ fromFirst p (nodesIn t span s₀)
-    next-cut h = ap (nodesIn t span) (sym es) ∙ from-none p (nodes-cut t span es em h) ∙ inv
-
-    pub next-skipped : {n : Step} → m ≡ Skipped → n ≡ nextSibling t (c .at) → fromFirst p (nodesIn t span n) ≡ fromFirst p (nodesIn t span s₀)
-    next-skipped h en = ap (fromFirst p) (sym (nodes-skip t span es em h en)) ∙ inv
-
-    module _ (h : m ≡ Listed) {x : Bool} (ex : x ≡ p (c .at)) where
-      pub next-found : x ≡ true → nodesIn t span (At c) ≡ fromFirst p (nodesIn t span s₀)
-      next-found hx =
-          ap (nodesIn t span) (sym es) ∙ nodes-go t span es em h refl
-          ∙ sym (ap (fromFirst p) (nodes-go t span es em h refl) ∙ from-yes p (c .at) (nodesIn t span (nextSibling t (c .at))) (sym ex ∙ hx)) ∙ inv
-
-      pub next-past : {n : Step} → x ≡ false → n ≡ nextSibling t (c .at) → fromFirst p (nodesIn t span n) ≡ fromFirst p (nodesIn t span s₀)
-      next-past {n} hx en =
-          sym (ap (fromFirst p) (nodes-go t span es em h en) ∙ from-no p (c .at) (nodesIn t span n) (sym ex ∙ hx)) ∙ inv
-
--- ---- whether there is one
 
 module _ (p : ℕ → Bool) (t : Tape) (span : Span) (s₀ s : Step) (inv : any p (nodesIn t span s) ≡ any p (nodesIn t span s₀)) where
   pub has-ended : s ≡ Done → false ≡ any p (nodesIn t span s₀)

@@ -6,7 +6,7 @@ use Prim.Native.Nat.{ℕ, _≤_, _<_}
 use native.Mathlib.Omega.{arith}
 use Rattle.parts.specs.Bytes.{Bytes, b}
 use Rattle.tape.specs.File.{Tape, kindAt, infoAt, numberAt}
-use Rattle.tape.specs.Tree.{nextSibling, upTo, left}
+use Rattle.tape.specs.Tree.{nextSibling, upTo, left, fromFirst}
 use Rattle.tape.specs.declared.Cursor.{Cursor}
 use Rattle.tape.specs.declared.kinds.Kind.{Kind}
 use Rattle.tape.specs.declared.Step.{Step}
@@ -23,7 +23,7 @@ use Rattle.lists.proofs.Nodes.{nodes-go}
 use Rattle.tags.specs.Items.{start, close, line, valueOf, attrBytes, attrsBytes, bytesOf}
 use Rattle.tags.specs.Names.{nameOf}
 use Rattle.events.specs.Event.{Event, item, chapter, rawly, element}
-use Rattle.events.specs.Walk.{levelOf, styled, Place, aRow, aChapter, aSidebar, aPeriph, aBlock, aVerse, dropped, placeOf, fromFirst, nodeIn, inside, inlineAll, tableE, blockTurn}
+use Rattle.events.specs.Walk.{levelOf, styled, Place, aRow, aChapter, aSidebar, aPeriph, aBlock, aVerse, dropped, placeOf, nodeIn, inside, inlineAll, tableE, blockTurn}
 use Rattle.events.specs.Emit.{Desk, emit, emitAll}
 use Rattle.events.proofs.Emits.{between, then}
 use Rattle.events.proofs.Turns.{blocksAll, blocksOn, blocks-turn}

@@ -2,7 +2,7 @@
 ghost use mathlib.Core.Path.{_≡_};
 ghost use mathlib.Core.Bool.{false, true};
 ghost use mathlib.Core.List.{List, [], _∷_, _++_};
-ghost use Prim.Native.Nat.{ℕ, _≤_, _<_};
+ghost use Prim.Native.Nat.{ℕ, _<_};
 ghost use Rattle.parts.specs.Bytes.{Bytes, b};
 ghost use Rattle.window.specs.Page.{pageOf, paint};
 ghost use Rattle.tape.specs.File.{tapeIn};
@@ -14,7 +14,7 @@ ghost use Rattle.render.specs.Shape.{isTopLevelBlock};
 ghost use Rattle.render.specs.Note.{periphAlt};
 ghost use Rattle.tags.specs.Items.{attrsBytes, line as lineItem, close, start, empty};
 ghost use Rattle.events.specs.Event.{Event, item, perhaps};
-ghost use Rattle.events.specs.Walk.{aChapter, aBlock, aVerse, fromFirst, levelOf, blocksE};
+ghost use Rattle.events.specs.Walk.{aChapter, aBlock, aVerse, levelOf, blocksE};
 ghost use Rattle.events.specs.Emit.{emit, emitAll};
 ghost use Rattle.events.proofs.Turns.{blocksAll, blocksOn};
 ghost use Rattle.sink.specs.Desk.{deskIn};
@@ -23,8 +23,10 @@ ghost use Rattle.lists.specs.declared.Member.the-variants.{Listed};
 ghost use Rattle.blocks.specs.Blocks.{uncut, holderOf, isBlockOrRow, below, sidebarAttrs, periphAttrs, attrsOf, elementNo, holderIn, runOpens, runIn};
 use lists::Member;
 use lists::Span;
+use lists::Stop;
 use lists::fold_in;
 use lists::member_of;
+use lists::past_run;
 use sink::Sink;
 use sink::line;
 use sink::literal;
@@ -101,31 +103,6 @@ fn chapter(
     Going { sink: r, next }
 }
 
-// The first node from here on that is a block.
-fn next_block(file: &[u8], tape: Sections, span: Span, first: Step) -> Step
-    ensures { λ r. ⌜ nodesIn (tapeIn tape (now (file .entry))) span r ≡ fromFirst (isTopLevelBlock (tapeIn tape (now (file .entry)))) (nodesIn (tapeIn tape (now (file .entry))) span first) ⌝ }
-    ensures { λ r. ⌜ left (tapeIn tape (now (file .entry))) r ≤ left (tapeIn tape (now (file .entry))) first ⌝ }
-{
-    let mut step = first;
-    loop {
-        match step {
-            Step::Done => return step,
-            Step::At(c) => match member_of(file, tape, span, c) {
-                Member::End => return step,
-                Member::Skipped => {
-                    step = c.next_sibling(file, tape);
-                }
-                Member::Listed => {
-                    if render::is_top_level_block(file, tape, c) {
-                        return step;
-                    }
-                    step = c.next_sibling(file, tape);
-                }
-            },
-        }
-    }
-}
-
 // The line and the tag of a paragraph around a verse.
 fn open_run(level: usize, sink: Sink, out: &mut [u8]) -> Sink
     ensures { λ r. ⌜ ((source : Bytes) → deskIn source r (now (out .exit)) ≡ emitAll (deskIn source sink (now (out .entry))) (runOpens level)) ⌝ }
@@ -167,7 +144,7 @@ fn verse_run(
 {
     let span = Span { cut: false, sifted };
     let s = verse_para(file, tape, sifted, c, depth, sink, out);
-    let next = next_block(file, tape, span, c.next_sibling(file, tape));
+    let next = past_run(file, tape, span, Stop::Block, c.next_sibling(file, tape));
     Going { sink: s, next }
 }
 
@@ -208,7 +185,7 @@ fn block_turn(
     if render::is_row(file, tape, c) {
         return Going {
             sink: tables::table(file, tape, span, Step::At(c), depth, sink, out),
-            next: tables::past_rows(file, tape, span, c.next_sibling(file, tape)),
+            next: past_run(file, tape, span, Stop::NoRow, c.next_sibling(file, tape)),
         };
     }
     let kind = c.kind(file, tape);

@@ -9,14 +9,13 @@ use lib.Dec.{eqb}
 use borrow.Author.Tests.{ne-eqb}
 use Rattle.parts.specs.Bytes.{Bytes}
 use Rattle.tape.specs.File.{Tape, tapeOf}
-use Rattle.tape.specs.Tree.{children, upTo, without}
+use Rattle.tape.specs.Tree.{children, upTo, without, fromFirst}
 use Rattle.nest.specs.Tape.{linkAt}
 use Rattle.nest.specs.Nest.{Container}
 use Rattle.nest.specs.Walk.{past, Tiles}
 use Rattle.nest.proofs.Walk.{past-open, by-part, past-forward}
 use Rattle.admit.specs.Refusal.{Kept₇}
 use Rattle.admit.proofs.Gives.{leaf-children, children-cover, root-cover}
-use Rattle.events.specs.Walk.{fromFirst}
 
 -- ---- costs
 

@@ -14,7 +14,7 @@ use Rattle.words.specs.Words.{stepOf, charsOf, white, solid, takeWhile, dropWhi
 use Rattle.texts.specs.Text.{hardSpaces, bodyOf, startsWhite, endsWhite, blankLead, normalizeText, spaceIf, written, hasBreak, splitBreaks, segments}
 use Rattle.tape.specs.File.{le16, le32, nodeOf, entryOf, recordsOf, tapeIn, sectionsOf, tapeOf, nodeAt, entryAt, textAt, entryName, isSynthetic, isNested, bearsMarker, infoAt, numberAt, elementOf, baseLen}
 use Rattle.tape.specs.Name.{strip, bare, endsName, inName, nameIn, markerName}
-use Rattle.tape.specs.Tree.{isClose, holds, childBefore, firstChild, lastOf as tapeLastOf, siblingPast, nextSibling, left, along, walkFrom, children, siblings, upTo, without, found}
+use Rattle.tape.specs.Tree.{isClose, holds, childBefore, firstChild, lastOf as tapeLastOf, siblingPast, nextSibling, left, along, walkFrom, children, siblings, upTo, without, found, fromFirst}
 use Rattle.nest.specs.Decide.{deepFrom, tooDeep, stepOf as nestStepOf, matchFrom, allMatched, rootEnds, sound}
 use Rattle.nest.specs.Nest.{container, close, partOf}
 use Rattle.admit.specs.Decide.{allBelow, laidOut, small, goodByte, goodEntry, goodNames, labelCut, goodNode, goodNodes, refusalIn, refusal}
@@ -33,7 +33,7 @@ use Rattle.tags.specs.Names.{nameOf}
 use Rattle.events.specs.Event.{rawly, escaped as eventsEscaped, perhaps, collected, element}
 use Rattle.events.specs.Pairing.{chapterId, verseId, after, endOf, chapterAttrs, verseAttrs, bookAttrs, bookItems, itemsOf, lastEnds, paired}
 use Rattle.events.specs.Text.{anyChapter, firstState, itemsOfTape, textOf as eventsTextOf, fitting, outcomeBy, outcome}
-use Rattle.events.specs.Walk.{unbroken, breaks, segmented, broken, style, styled, unclosed, roleOfShape, roleOfCategory, roleBy, roleOf, isRef, linkOf, linked, figureAs, markerAs, nodeIn, childOf, noteChildOf, normalized, inlineTurn, inlineFrom, inlineAll, noteText, noteTurn, noteAll, inside, levelOf, isKnown, isCell, cellIn, cellsAlong, cells, rowE, rowsE, tableE, holder, sidebarIn, periphIn, placeOf, fromFirst, blockTurn, blocksFrom, blocksE, eventsOf}
+use Rattle.events.specs.Walk.{unbroken, breaks, segmented, broken, style, styled, unclosed, roleOfShape, roleOfCategory, roleBy, roleOf, isRef, linkOf, linked, figureAs, markerAs, nodeIn, childOf, noteChildOf, normalized, inlineTurn, inlineFrom, inlineAll, noteText, noteTurn, noteAll, inside, levelOf, isKnown, isCell, cellIn, cellsAlong, cells, rowE, rowsE, tableE, holder, sidebarIn, periphIn, placeOf, blockTurn, blocksFrom, blocksE, eventsOf}
 
 -- what a file and a buffer of so many zeros give
 unfoldable pub answered : Bytes → ℕ → Outcome

@@ -8,13 +8,14 @@ use native.Mathlib.Omega.{arith}
 use lib.ListN.{length}
 use Rattle.parts.specs.Bytes.{Bytes}
 use Rattle.tape.specs.File.{Tape, kindAt}
+use Rattle.tape.specs.Tree.{fromFirst}
 use Rattle.render.specs.Shape.{isRow, isTopLevelBlock}
 use Rattle.fold.specs.Fold.{claimOf, numberIn, isSome, foldFrom, foldAt}
 use Rattle.fold.specs.declared.Claim.{Claim}
 use Rattle.fold.specs.declared.Claim.the-variants.{Blank, Alt, Pub, Stops}
 use Rattle.fold.proofs.Folding.{fold-blank, fold-alt, fold-pub, fold-stops, fold-nil}
 use Rattle.events.specs.Event.{Event}
-use Rattle.events.specs.Walk.{Child, anchor, words, passed, marker, childOf, Turn, inlineTurn, inlineFrom, inlineAll, Place, aRow, aChapter, aSidebar, aPeriph, aBlock, aVerse, dropped, placeOf, fromFirst, Blocks, blockTurn, blocksFrom}
+use Rattle.events.specs.Walk.{Child, anchor, words, passed, marker, childOf, Turn, inlineTurn, inlineFrom, inlineAll, Place, aRow, aChapter, aSidebar, aPeriph, aBlock, aVerse, dropped, placeOf, Blocks, blockTurn, blocksFrom}
 
 -- ---- a fold goes on in its list
 

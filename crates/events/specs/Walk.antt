@@ -9,7 +9,7 @@ use Rattle.parts.specs.Bytes.{Bytes, b, same}
 use Rattle.texts.specs.Text.{bodyOf, hasBreak, normalizeText, written, segments}
 use Rattle.texts.specs.declared.Normalized.{Normalized}
 use Rattle.tape.specs.File.{Tape, kindAt, nodeAt, textAt, infoAt, isSynthetic, isNested, numberAt, entryName}
-use Rattle.tape.specs.Tree.{children, firstChild, upTo, without, found}
+use Rattle.tape.specs.Tree.{children, firstChild, upTo, without, found, fromFirst}
 use Rattle.tape.specs.Name.{markerName}
 use Rattle.tape.specs.declared.Info.{Info}
 use Rattle.tape.specs.declared.Info.the-variants.{Known, Unknown}
@@ -291,11 +291,6 @@ placeOf t k =
     (cond (isElement 1 (infoAt t k)) aSidebar
     (cond (isElement 2 (infoAt t k)) aPeriph
     (cond (isTopLevelBlock t k) aBlock (cond (isVerse t k) aVerse dropped)))))
-
--- a list from the first node on that passes a test
-unfoldable pub fromFirst : (ℕ → Bool) → List ℕ → List ℕ
-fromFirst p [] = []
-fromFirst p (k ∷ ks) = cond (p k) (k ∷ ks) (fromFirst p ks)
 
 -- one turn along a list of blocks: what is written, and where the list goes on
 pub record Blocks : Type 0 where

@@ -1,24 +1,26 @@
 -- Lists of siblings, cut or filtered: one turn along them, and the fold.
 use mathlib.Core.Path.{_≡_, refl, sym, ap, _∙_}
-use mathlib.Core.Bool.{Bool, true, false, _&&_}
+use mathlib.Core.Bool.{Bool, true, false, _&&_, not}
 use mathlib.Core.List.{List, [], _∷_}
 use Prim.Native.Nat.{ℕ, _≤_}
 use native.Mathlib.Omega.{arith}
 use Rattle.tape.specs.File.{Tape}
-use Rattle.tape.specs.Tree.{nextSibling, walkFrom, upTo, without, left, found}
+use Rattle.tape.specs.Tree.{nextSibling, walkFrom, upTo, without, left, found, fromFirst}
 use Rattle.tape.specs.declared.Cursor.{Cursor}
 use Rattle.tape.specs.declared.Step.{Step}
 use Rattle.tape.specs.declared.Step.the-variants.{At, Done}
 use Rattle.tape.proofs.Walk.{walk-turn, walk-end, left-turn}
-use Rattle.render.specs.Shape.{isTopLevelBlock, isCategoryMarker}
+use Rattle.render.specs.Shape.{isTopLevelBlock, isCategoryMarker, isRow}
 use Rattle.fold.specs.Fold.{claimOf, Folded, isSome, foldFrom, foldAt, numberOf}
 use Rattle.fold.specs.declared.Claim.{Claim}
 use Rattle.fold.specs.declared.Claim.the-variants.{Blank, Alt, Pub, Stops}
 use Rattle.fold.proofs.Folding.{fold-blank, fold-alt, fold-pub, fold-stops, fold-nil}
-use Rattle.lists.specs.Span.{filtered, cutAt, nodesIn, memberOf, listedBy, foldedIn}
+use Rattle.lists.specs.Span.{filtered, cutAt, nodesIn, memberOf, listedBy, foldedIn, stopsAt}
 use Rattle.lists.specs.declared.Span.{Span}
 use Rattle.lists.specs.declared.Member.{Member}
 use Rattle.lists.specs.declared.Member.the-variants.{End, Skipped, Listed}
+use Rattle.lists.specs.declared.Stop.{Stop}
+use Rattle.lists.specs.declared.Stop.the-variants.{Block, NoRow}
 
 true-false : true ≡ false → ⊥
 true-false e = let no-way : _≡_ {A = ℕ} 0 1 = cc in omega arith
@@ -110,6 +112,49 @@ module _ (t : Tape) (span : Span) {c : Cursor} {s : Step} (es : s ≡ At c) {m :
   pub nodes-go : {n : Step} → m ≡ Listed → n ≡ nextSibling t (c .at) → nodesIn t span s ≡ c .at ∷ nodesIn t span n
   unfolding listedBy
   nodes-go h en = nodes-turn t span es en em ∙ rw h
+
+-- ---- past a run
+
+module _ (t : Tape) (k : ℕ) {stop : Stop} {x : Bool} where
+  pub stops-block : stop ≡ Block → x ≡ isTopLevelBlock t k → x ≡ stopsAt t stop k
+  stops-block h e = rw h e
+
+  pub stops-row : stop ≡ NoRow → x ≡ isRow t k → not x ≡ stopsAt t stop k
+  stops-row h e = rw h (ap not e)
+
+module _ (p : ℕ → Bool) where
+  from-yes : (k : ℕ) (ks : List ℕ) → p k ≡ true → fromFirst p (k ∷ ks) ≡ k ∷ ks
+  unfolding fromFirst
+  from-yes k ks h = rw h
+
+  from-no : (k : ℕ) (ks : List ℕ) → p k ≡ false → fromFirst p (k ∷ ks) ≡ fromFirst p ks
+  unfolding fromFirst
+  from-no k ks h = rw h
+
+  from-none : {ks : List ℕ} → ks ≡ [] → ks ≡ fromFirst p ks
+  unfolding fromFirst
+  from-none h = rw h
+
+module _ (p : ℕ → Bool) (t : Tape) (span : Span) (s₀ s : Step) (inv : fromFirst p (nodesIn t span s) ≡ fromFirst p (nodesIn t span s₀)) where
+  pub run-over : s ≡ Done → nodesIn t span s ≡ fromFirst p (nodesIn t span s₀)
+  run-over e = from-none p (nodes-done t span e) ∙ inv
+
+  module _ {c : Cursor} (es : s ≡ At c) {m : Member} (em : m ≡ memberOf t span (c .at)) where
+    pub run-cut : m ≡ End → nodesIn t span (At c) ≡ fromFirst p (nodesIn t span s₀)
+    run-cut h = ap (nodesIn t span) (sym es) ∙ from-none p (nodes-cut t span es em h) ∙ inv
+
+    pub run-skipped : {n : Step} → m ≡ Skipped → n ≡ nextSibling t (c .at) → fromFirst p (nodesIn t span n) ≡ fromFirst p (nodesIn t span s₀)
+    run-skipped h en = ap (fromFirst p) (sym (nodes-skip t span es em h en)) ∙ inv
+
+    module _ (h : m ≡ Listed) {x : Bool} (ex : x ≡ p (c .at)) where
+      pub run-found : x ≡ true → nodesIn t span (At c) ≡ fromFirst p (nodesIn t span s₀)
+      run-found hx =
+          ap (nodesIn t span) (sym es) ∙ nodes-go t span es em h refl
+          ∙ sym (ap (fromFirst p) (nodes-go t span es em h refl) ∙ from-yes p (c .at) (nodesIn t span (nextSibling t (c .at))) (sym ex ∙ hx)) ∙ inv
+
+      pub run-past : {n : Step} → x ≡ false → n ≡ nextSibling t (c .at) → fromFirst p (nodesIn t span n) ≡ fromFirst p (nodesIn t span s₀)
+      run-past {n} hx en =
+          sym (ap (fromFirst p) (nodes-go t span es em h en) ∙ from-no p (c .at) (nodesIn t span n) (sym ex ∙ hx)) ∙ inv
 
 -- ---- the fold
 

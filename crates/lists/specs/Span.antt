@@ -1,15 +1,17 @@
 -- Lists of siblings that may be cut or filtered, and the fold over them.
 use Prim.Native.Nat.{ℕ}
 use mathlib.Core.List.{List, [], _∷_}
-use mathlib.Core.Bool.{Bool, true, false, cond, _&&_}
+use mathlib.Core.Bool.{Bool, true, false, cond, _&&_, not}
 use Rattle.tape.specs.File.{Tape}
 use Rattle.tape.specs.Tree.{walkFrom, upTo, without}
 use Rattle.tape.specs.declared.Step.{Step}
-use Rattle.render.specs.Shape.{isTopLevelBlock, isCategoryMarker}
+use Rattle.render.specs.Shape.{isTopLevelBlock, isCategoryMarker, isRow}
 use Rattle.fold.specs.Fold.{Folded, numberOf}
 use Rattle.lists.specs.declared.Span.{Span}
 use Rattle.lists.specs.declared.Member.{Member}
 use Rattle.lists.specs.declared.Member.the-variants.{End, Skipped, Listed}
+use Rattle.lists.specs.declared.Stop.{Stop}
+use Rattle.lists.specs.declared.Stop.the-variants.{Block, NoRow}
 use Rattle.lists.specs.declared.Folds.{Folds}
 
 -- without category markers, or with them
@@ -36,6 +38,11 @@ unfoldable pub listedBy : Member → ℕ → List ℕ → List ℕ
 listedBy End k ks = []
 listedBy Skipped k ks = ks
 listedBy Listed k ks = k ∷ ks
+
+-- whether a run ends at a node: at a block, or at what is no row
+abbrev pub stopsAt : Tape → Stop → ℕ → Bool
+stopsAt t Block = isTopLevelBlock t
+stopsAt t NoRow = λ k. not (isRow t k)
 
 -- what a fold's answer stands for in a list
 unfoldable pub foldedIn : Tape → Span → Folds → Folded

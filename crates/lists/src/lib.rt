@@ -4,9 +4,9 @@ ghost use mathlib.Core.Bool.{_&&_};
 ghost use Prim.Native.Nat.{_≤_};
 ghost use Rattle.render.specs.Shape.{isCategoryMarker, isTopLevelBlock};
 ghost use Rattle.tape.specs.File.{tapeIn};
-ghost use Rattle.tape.specs.Tree.{left};
+ghost use Rattle.tape.specs.Tree.{left, fromFirst};
 ghost use Rattle.fold.specs.Fold.{foldAt};
-ghost use Rattle.lists.specs.Span.{nodesIn, memberOf, foldedIn};
+ghost use Rattle.lists.specs.Span.{nodesIn, memberOf, foldedIn, stopsAt};
 use fold::Claim;
 use tape::Cursor;
 use tape::Kind;
@@ -25,6 +25,12 @@ pub enum Member {
     End,
     Skipped,
     Listed,
+}
+
+// What a run of siblings ends at.
+pub enum Stop {
+    Block,
+    NoRow,
 }
 
 // The markers that folded, and where the siblings go on.
@@ -64,6 +70,41 @@ pub fn member_of(file: &[u8], tape: Sections, span: Span, c: Cursor) -> Member
         return Member::End;
     }
     Member::Listed
+}
+
+// Whether a run ends at a node.
+fn stops(file: &[u8], tape: Sections, stop: Stop, c: Cursor) -> bool
+    ensures { λ r. ⌜ r ≡ stopsAt (tapeIn tape (now (file .entry))) stop (c .at) ⌝ }
+{
+    match stop {
+        Stop::Block => render::is_top_level_block(file, tape, c),
+        Stop::NoRow => !render::is_row(file, tape, c),
+    }
+}
+
+// The first node of a list, from here on, that ends a run.
+pub fn past_run(file: &[u8], tape: Sections, span: Span, stop: Stop, first: Step) -> Step
+    ensures { λ r. ⌜ nodesIn (tapeIn tape (now (file .entry))) span r ≡ fromFirst (stopsAt (tapeIn tape (now (file .entry))) stop) (nodesIn (tapeIn tape (now (file .entry))) span first) ⌝ }
+    ensures { λ r. ⌜ left (tapeIn tape (now (file .entry))) r ≤ left (tapeIn tape (now (file .entry))) first ⌝ }
+{
+    let mut step = first;
+    loop {
+        match step {
+            Step::Done => return step,
+            Step::At(c) => match member_of(file, tape, span, c) {
+                Member::End => return step,
+                Member::Skipped => {
+                    step = c.next_sibling(file, tape);
+                }
+                Member::Listed => {
+                    if stops(file, tape, stop, c) {
+                        return step;
+                    }
+                    step = c.next_sibling(file, tape);
+                }
+            },
+        }
+    }
 }
 
 // Both numbers of an anchor, from the list behind it, and where that list goes on.

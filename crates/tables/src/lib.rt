@@ -6,22 +6,17 @@ ghost use Rattle.parts.specs.Bytes.{Bytes, b};
 ghost use Rattle.window.specs.Page.{pageOf, paint};
 ghost use Rattle.tape.specs.File.{tapeIn};
 ghost use Rattle.tape.specs.Name.{markerName};
-ghost use Rattle.tape.specs.Tree.{left};
 ghost use Rattle.render.specs.Note.{cellAlign, alignWord};
 ghost use Rattle.tags.specs.Items.{start, empty};
 ghost use Rattle.events.specs.Event.{item, escaped};
-ghost use Rattle.events.specs.Walk.{levelOf, isKnown, isCell, style, fromFirst};
+ghost use Rattle.events.specs.Walk.{levelOf, isKnown, isCell, style};
 ghost use Rattle.events.specs.Emit.{emit, emitAll};
 ghost use Rattle.sink.specs.Desk.{deskIn};
-ghost use Rattle.lists.specs.Span.{nodesIn};
-ghost use Rattle.tables.specs.Rows.{isNoRow, rowOpens, rowCloses, tableOpens, tableCloses};
+ghost use Rattle.tables.specs.Rows.{rowOpens, rowCloses, tableOpens, tableCloses};
 
 mod full;
 
 pub use full::table;
-use lists::Member;
-use lists::Span;
-use lists::member_of;
 use render::Align;
 use sink::Sink;
 use sink::line;
@@ -30,7 +25,6 @@ use tape::Cursor;
 use tape::Info;
 use tape::Kind;
 use tape::Sections;
-use tape::Step;
 use window::Window;
 use window::put_run;
 
@@ -109,32 +103,6 @@ fn close_row(level: usize, sink: Sink, out: &mut [u8]) -> Sink
 {
     let a = line(sink, out, level);
     literal(a, out, b"</row>")
-}
-
-// Where they end.
-pub fn past_rows(file: &[u8], tape: Sections, span: Span, first: Step) -> Step
-    ensures { λ r. ⌜ nodesIn (tapeIn tape (now (file .entry))) span r ≡ fromFirst (isNoRow (tapeIn tape (now (file .entry)))) (nodesIn (tapeIn tape (now (file .entry))) span first) ⌝ }
-    ensures { λ r. ⌜ left (tapeIn tape (now (file .entry))) r ≤ left (tapeIn tape (now (file .entry))) first ⌝ }
-{
-    let mut step = first;
-    loop {
-        match step {
-            Step::Done => return step,
-            Step::At(c) => match member_of(file, tape, span, c) {
-                Member::End => return step,
-                Member::Skipped => {
-                    step = c.next_sibling(file, tape);
-                }
-                Member::Listed => {
-                    if render::is_row(file, tape, c) {
-                        step = c.next_sibling(file, tape);
-                    } else {
-                        return step;
-                    }
-                }
-            },
-        }
-    }
 }
 
 fn open_table(level: usize, sink: Sink, out: &mut [u8]) -> Sink

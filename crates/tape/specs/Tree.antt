@@ -79,6 +79,11 @@ unfoldable pub upTo : (ℕ → Bool) → List ℕ → List ℕ
 upTo p [] = []
 upTo p (k ∷ ks) = cond (p k) [] (k ∷ upTo p ks)
 
+-- a list from the first node on that passes a test
+unfoldable pub fromFirst : (ℕ → Bool) → List ℕ → List ℕ
+fromFirst p [] = []
+fromFirst p (k ∷ ks) = cond (p k) (k ∷ ks) (fromFirst p ks)
+
 -- a list without the nodes that pass a test
 unfoldable pub without : (ℕ → Bool) → List ℕ → List ℕ
 without p [] = []

@@ -12,8 +12,8 @@ table-requires c κs = search needs
 next-sibling-requires : tie.Need-next-sibling-requires
 next-sibling-requires c κs = search needs
 
-past-rows-requires : tie.Need-past-rows-requires
-past-rows-requires c κs = search needs
+past-run-requires : tie.Need-past-run-requires
+past-run-requires c κs = search needs
 
 same-length : tie.Need-same-length
 same-length c = search needs
@@ -67,7 +67,7 @@ block-turn-spec =
     is-row-requires
     table-requires
     next-sibling-requires
-    past-rows-requires
+    past-run-requires
     same-length
     returns
     kind-requires

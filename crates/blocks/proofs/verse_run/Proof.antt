@@ -9,8 +9,8 @@ verse-para-requires c κs = search needs
 next-sibling-requires : tie.Need-next-sibling-requires
 next-sibling-requires c κs = search needs
 
-next-block-requires : tie.Need-next-block-requires
-next-block-requires c κs = search needs
+past-run-requires : tie.Need-past-run-requires
+past-run-requires c κs = search needs
 
 same-length : tie.Need-same-length
 same-length c = search needs
@@ -24,6 +24,6 @@ verse-run-spec =
     (tie.spec
     verse-para-requires
     next-sibling-requires
-    next-block-requires
+    past-run-requires
     same-length
     returns)
