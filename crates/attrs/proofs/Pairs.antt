@@ -8,6 +8,7 @@ use lib.ListN.{length, take, drop, length-drop, length-take}
 use lib.Dec.{ltb}
 use borrow.Author.Tests.{lt-ltb, le-ltb, ltb-true, ltb-false}
 use Rattle.parts.specs.Bytes.{Bytes, b, part, find}
+use Rattle.parts.proofs.Laws.{part-front}
 use Rattle.words.specs.Words.{words, lastOf, whiteLen, bytesOf}
 use Rattle.words.specs.declared.Set.the-variants.{Unicode}
 use Rattle.words.specs.declared.Part.{Part}
@@ -73,17 +74,6 @@ pairs-step (x ∷ s) h =
     from-step (length s) (x ∷ s) h
     ∙ ap (λ (ps : List Pair). pairOn (x ∷ s) ++ ps)
     (enough (length s) (length (drop (valueOn (x ∷ s) .past) (x ∷ s))) (drop (valueOn (x ∷ s) .past) (x ∷ s)) (omega (arith, w .further)) (omega arith))
-
--- a part of the front of a text is a part of the text
-pub part-front : (s : Bytes) (n a l : ℕ) → a + l ≤ length (take n s) → part (take n s) a l ≡ part s a l
-part-front [] zero a l h = refl
-part-front [] (suc n) a l h = refl
-part-front (x ∷ s) zero zero zero h = refl
-part-front (x ∷ s) zero zero (suc l) h = absurd (omega arith)
-part-front (x ∷ s) zero (suc a) l h = absurd (omega arith)
-part-front (x ∷ s) (suc n) zero zero h = refl
-part-front (x ∷ s) (suc n) zero (suc l) h = ap (λ (z : Bytes). x ∷ z) (part-front s n zero l (omega arith))
-part-front (x ∷ s) (suc n) (suc a) l h = part-front s n a l (omega arith)
 
 -- the pair at the front of a text that holds a `=`
 pub pair-first : (s : Bytes) {e : ℕ} {r : Bytes} {key : Part} {v : Taken} → e ≡ find (b "=") s → e < length s → r ≡ part s 0 e

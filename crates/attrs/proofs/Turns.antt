@@ -1,12 +1,12 @@
--- Laws of a walk over the pairs of a part: the parts of a part, and one turn.
+-- Laws of a walk over the pairs of a part: one turn.
 use mathlib.Core.Path.{_≡_, refl, sym, ap, _∙_}
 use mathlib.Core.List.{List, [], _∷_}
-use Prim.Native.Nat.{ℕ, zero, suc, _+_, _-_, _≤_, _<_, max}
-use native.Mathlib.Nat.{sub-zero}
+use Prim.Native.Nat.{ℕ, _+_, _-_, _≤_, _<_, max}
 use native.Mathlib.Omega.{arith}
-use lib.ListN.{length, take, drop, length-drop, length-take}
-use lib.Seq.{drop-drop, take-nil, length-take-le}
+use lib.ListN.{length, drop, length-drop, length-take}
+use lib.Seq.{length-take-le}
 use Rattle.parts.specs.Bytes.{Bytes, part}
+use Rattle.parts.proofs.Laws.{part-past, part-part}
 use Rattle.words.specs.Words.{bytesOf}
 use Rattle.words.specs.declared.Part.{Part}
 use Rattle.attrs.specs.Attr.{Pair, shown, keyed, pairsIn}
@@ -15,23 +15,6 @@ use Rattle.attrs.specs.declared.Taken.{Taken}
 use Rattle.attrs.specs.declared.First.{First}
 use Rattle.attrs.specs.declared.First.the-variants.{Pair as FirstPair, Nothing as FirstNone}
 use Rattle.attrs.specs.declared.Item.the-variants.{Pair as ItemPair, Nothing as ItemNone}
-use Rattle.attrs.proofs.Pairs.{part-front}
-
--- ---- parts of a part
-
-drop-take : (p n : ℕ) (s : Bytes) → drop p (take n s) ≡ take (n - p) (drop p s)
-drop-take zero n s = rw (sub-zero n)
-drop-take (suc p) zero s = let e : 0 - suc p ≡ 0 = omega arith in rw e
-drop-take (suc p) (suc n) [] = sym (take-nil (suc n - suc p))
-drop-take (suc p) (suc n) (x ∷ s) = let e : suc n - suc p ≡ n - p = omega arith in rw e (drop-take p n s)
-
--- what follows within a part
-pub part-past : (s : Bytes) (a n p : ℕ) → drop p (part s a n) ≡ part s (a + p) (n - p)
-part-past s a n p = drop-take p n (drop a s) ∙ ap (take (n - p)) (drop-drop p a s)
-
--- a part of a part
-pub part-in : (s : Bytes) (a n c l : ℕ) → c + l ≤ length (part s a n) → part (part s a n) c l ≡ part s (a + c) l
-part-in s a n c l h = part-front (drop a s) n c l h ∙ ap (take l) (drop-drop c a s)
 
 -- ---- a pair with no key, and one with a key
 
@@ -87,7 +70,7 @@ module _ (source : Bytes) (a n : ℕ) {r : Bytes} {f : First} (er : r ≡ part s
         sym (ap pairsIn (sym er) ∙ front .listed ∙ rw (keyed-none (bytesOf r key) (shown (v .quoted) (part r (v .start) (v .len))) (omega (arith, key-size)), past-rest)) ∙ inv
 
     inner : (c l : ℕ) → c + l ≤ length r → part r c l ≡ part source (a + c) l
-    inner c l h = ap (λ (z : Bytes). part z c l) er ∙ part-in source a n c l (rw er at h)
+    inner c l h = ap (λ (z : Bytes). part z c l) er ∙ part-part source a n c l (rw er at h)
 
     pub turn-found : 0 < key .len → {ps : List Pair} → pairsIn (part source a n) ≡ ps
         → ps ≡ itemList source (ItemPair (record { start = a + key .start; len = key .len }) (record { start = a + v .start; len = v .len; quoted = v .quoted })

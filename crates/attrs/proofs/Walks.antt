@@ -8,7 +8,7 @@ use lib.ListN.{length, take, drop, length-drop}
 use lib.Seq.{drop-drop}
 use borrow.Author.Tests.{eq-eqb, ne-eqb, lt-ltb, le-ltb}
 use Rattle.parts.specs.Bytes.{Bytes, b, part, same, begins, find}
-use Rattle.parts.proofs.Laws.{begins-fits}
+use Rattle.parts.proofs.Laws.{begins-fits, part-part}
 use Rattle.words.specs.Words.{trimStart, trimEnd, trim, whiteLen, bytesOf}
 use Rattle.words.specs.declared.Set.the-variants.{Unicode}
 use Rattle.words.specs.declared.Part.{Part}
@@ -36,7 +36,6 @@ use Rattle.attrs.specs.declared.Next.{Next}
 use Rattle.attrs.specs.declared.Next.the-variants.{Pair as NextPair, Done as NextDone}
 use Rattle.attrs.specs.declared.Sought.the-variants.{At as Found, Nowhere}
 use Rattle.attrs.proofs.Pairs.{pairs-nil}
-use Rattle.attrs.proofs.Turns.{part-in}
 
 -- ---- a part of the source
 
@@ -120,7 +119,7 @@ pub body-placed : (t : Tape) (k : ℕ) {n : Node} {x : Bytes} {body : Part} {a :
     → bytesOf (t .source) (record { start = a + body .start; len = body .len }) ≡ bodyOf (textAt t k)
 unfolding textAt
 body-placed t k {n} {x} {body} {a} en ex sp ea =
-    rw (ea, en) (sym (part-in (t .source) (nodeAt t k .start) (nodeAt t k .len) (body .start) (body .len) (rw ex at (sp .inside))))
+    rw (ea, en) (sym (part-part (t .source) (nodeAt t k .start) (nodeAt t k .len) (body .start) (body .len) (rw ex at (sp .inside))))
     ∙ ap (λ (z : Bytes). bytesOf z body) (sym ex)
     ∙ sp .here
     ∙ ap bodyOf ex

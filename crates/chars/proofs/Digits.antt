@@ -21,11 +21,11 @@ value-last n (y ∷ s) x = value-last (10 * n + (y - 48)) s x
 
 -- the two cases of a number's digits
 module _ (k n : ℕ) where
-  digits-one : n < 10 → digits (suc k) n ≡ (48 + n) ∷ []
+  pub digits-one : n < 10 → digits (suc k) n ≡ (48 + n) ∷ []
   unfolding digits
   digits-one h = rw (lt-ltb n 10 h, digits)
 
-  digits-more : 10 ≤ n → digits (suc k) n ≡ digits k (n / 10) ++ ((48 + n % 10) ∷ [])
+  pub digits-more : 10 ≤ n → digits (suc k) n ≡ digits k (n / 10) ++ ((48 + n % 10) ∷ [])
   unfolding digits
   digits-more h = rw (le-ltb n 10 h, digits)
 

@@ -9,6 +9,7 @@ use lib.Seq.{take-take}
 use lib.Dec.{ltb}
 use borrow.Author.Tests.{lt-ltb, eq-eqb, ne-eqb}
 use Rattle.parts.specs.Bytes.{Bytes, part}
+use Rattle.parts.proofs.Laws.{part-past}
 use Rattle.chars.specs.Utf8.{cutAt}
 use Rattle.chars.specs.Space.{isAsciiWhite}
 use Rattle.words.specs.Words.{stepOf, charsOf, white, solid, takeWhile, onto, pieces, nonempty, words, joined, whiteLen, wordLen, trimStart, bytesOf}
@@ -22,7 +23,6 @@ use Rattle.tape.specs.declared.Cursor.{Cursor}
 use Rattle.tape.specs.declared.Step.{Step}
 use Rattle.tape.specs.declared.Step.the-variants.{At, Done}
 use Rattle.tape.proofs.Walk.{walk-turn, walk-end, children-walk}
-use Rattle.attrs.proofs.Turns.{part-past}
 use Rattle.fold.specs.Fold.{textOf, textsOf, numberIn}
 use Rattle.fold.specs.Number.{spaceIf, collapse, runList, toCome, pieceList, wordSome, pieceSome}
 use Rattle.fold.specs.declared.Run.{Run}

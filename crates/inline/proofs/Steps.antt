@@ -1,6 +1,5 @@
 -- What a marker, a node, the inside of a container and a turn along a list emit.
 use mathlib.Core.Path.{_≡_, refl, sym, ap, _∙_, subst}
-use mathlib.Core.Logic.{inl}
 use mathlib.Core.Bool.{Bool, true, false, cond}
 use mathlib.Core.List.{List, _++_}
 use Prim.Native.Nat.{ℕ, zero, suc, _+_, _-_}
@@ -114,10 +113,6 @@ module _ (t : Tape) (k : ℕ) (outer : Bool) (s : Desk) where
       ∙ ap (λ (x : Bool). emitAll s (inside t d (mannerBy x) k outer)) (sym hn)
 
 -- ---- what is kept
-
-pub kept-here : (t : Tape) (s : Step) → KeptAt t s s
-kept-here t Done = tt
-kept-here t (At c) = inl refl
 
 kept-for : (t : Tape) {step kept : Step} {c : Cursor} → KeptAt t step kept → step ≡ At c → Kept t c kept
 kept-for t {step} {kept} h e = subst (λ (s : Step). KeptAt t s kept) e h

@@ -5,11 +5,11 @@ use mathlib.Core.List.{[], _∷_, _++_}
 use Prim.Native.Nat.{ℕ, zero, suc, _+_, _-_, _≤_, _<_}
 use native.Mathlib.Omega.{arith}
 use native.Mathlib.Numerals.{add-one}
-use lib.ListN.{length, getD, take, drop, drop-of-length-le, length-drop, List·getD-eq-default}
-use lib.Seq.{drop-cons, take-all, length-take-le}
+use lib.ListN.{length, getD, take, drop, drop-of-length-le, length-drop, List·getD-eq-default, length-take}
+use lib.Seq.{drop-cons, take-all, length-take-le, drop-drop, take-nil, take-take}
 use lib.Dec.{eqb}
 use borrow.Author.Tests.{eq-eqb, ne-eqb, eqb-true, eqb-false}
-use Rattle.parts.specs.Bytes.{Bytes, same, begins, firstAt, find}
+use Rattle.parts.specs.Bytes.{Bytes, same, begins, firstAt, find, part}
 
 -- ---- parts
 
@@ -37,7 +37,27 @@ part-count n r h = sym (length-take-le n r (omega arith))
 pub drop-at : (s : Bytes) (i : ℕ) → i < length s → drop i s ≡ getD s i 0 ∷ drop (i + 1) s
 drop-at s i h = rw add-one (drop-cons s i 0 h)
 
--- ---- truth of a conjunction
+-- ---- parts of parts
+
+pub drop-take : (i n : ℕ) (s : Bytes) → drop i (take n s) ≡ take (n - i) (drop i s)
+drop-take zero n s = let e : n - 0 ≡ n = omega arith in rw e
+drop-take (suc i) zero s = let e : 0 - suc i ≡ 0 = omega arith in rw e
+drop-take (suc i) (suc n) [] = sym (take-nil (suc n - suc i))
+drop-take (suc i) (suc n) (x ∷ s) = let e : suc n - suc i ≡ n - i = omega arith in rw e (drop-take i n s)
+
+-- what follows within a part
+pub part-past : (s : Bytes) (a n i : ℕ) → drop i (part s a n) ≡ part s (a + i) (n - i)
+part-past s a n i = drop-take i n (drop a s) ∙ ap (take (n - i)) (drop-drop i a s)
+
+-- a part of what stands in front
+pub part-front : (s : Bytes) (n c l : ℕ) → c + l ≤ length (take n s) → part (take n s) c l ≡ part s c l
+part-front s n c l h = rw (drop-take c n s) (take-take l (n - c) (drop c s) (omega (arith, length-take n s)))
+
+-- a part of a part is a part of the whole
+pub part-part : (s : Bytes) (a n c l : ℕ) → c + l ≤ length (part s a n) → part (part s a n) c l ≡ part s (a + c) l
+part-part s a n c l h = part-front (drop a s) n c l h ∙ ap (take l) (drop-drop c a s)
+
+-- ---- both of two tests
 
 pub and-true : (a z : Bool) → a && z ≡ true → (a ≡ true) × (z ≡ true)
 and-true true z e = (refl, e)

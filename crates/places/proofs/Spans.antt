@@ -3,15 +3,15 @@ use mathlib.Core.Path.{_≡_, refl, sym, ap, _∙_}
 use mathlib.Core.Bool.{Bool, true, false, cond, not, _&&_}
 use mathlib.Core.Logic.{_↔_, _⊎_, inl, inr, ⊎-elim}
 use mathlib.Core.List.{List, [], _∷_, _++_, flatten}
-use Prim.Native.Nat.{ℕ, zero, suc, _+_, _-_, _≤_, _<_}
+use Prim.Native.Nat.{ℕ, suc, _+_, _-_, _≤_, _<_}
 use native.Mathlib.Nat.{lt-of-not-le}
 use native.Mathlib.Omega.{arith}
 use lib.ListN.{length, getD, take, drop, length-drop, length-append, take-append-drop, List·getD-eq-default}
-use lib.Seq.{take-nil, drop-drop, length-take-le, getD-drop, getD-append-add}
+use lib.Seq.{drop-drop, length-take-le, getD-drop, getD-append-add}
 use lib.Dec.{eqb, ltb}
 use borrow.Author.Tests.{lt-ltb, le-ltb, ltb-true, ltb-false, eqb-true, not-true}
 use Rattle.parts.specs.Bytes.{Bytes, part, begins}
-use Rattle.parts.proofs.Laws.{and-true as both-true, begins-fits, begins-split}
+use Rattle.parts.proofs.Laws.{and-true as both-true, begins-fits, begins-split, drop-take}
 use Rattle.chars.specs.Range.{within, inAny}
 use Rattle.chars.specs.Utf8.{tail, fits, rowLen, table37, seqLen, step, isSequence, point, codeOf, cut, characters, isBoundary}
 use Rattle.chars.specs.Space.{isWhite, whiteSpace}
@@ -290,12 +290,6 @@ module _ (s : Bytes) (at m : ℕ) (fits : at + m ≤ length s) (end : isBoundary
       w = to-within false (characters (part s at m)) (filled-characters (part s at m)) (characters (drop (at + m) s))
 
 -- ---- a text and what stands behind its `\` and `+`
-
-drop-take : (j n : ℕ) (s : Bytes) → drop j (take n s) ≡ take (n - j) (drop j s)
-drop-take zero n s = let e : n ≡ n - 0 = omega arith in ap (λ (i : ℕ). take i s) e
-drop-take (suc j) zero s = let e : 0 ≡ 0 - suc j = omega arith in ap (λ (i : ℕ). take i (drop (suc j) s)) e
-drop-take (suc j) (suc n) [] = sym (take-nil (suc n - suc j))
-drop-take (suc j) (suc n) (x ∷ s) = let e : n - j ≡ suc n - suc j = omega arith in drop-take j n s ∙ ap (λ (i : ℕ). take i (drop j s)) e
 
 -- how a text without a byte in front comes of it
 record Front (s t : Bytes) : Type 0 where

@@ -12,14 +12,15 @@ use Rattle.parts.proofs.Laws.{and-true}
 use Rattle.chars.specs.Range.{inAny, within}
 use Rattle.chars.specs.Space.{isAsciiWhite, isWhite, whiteSpace}
 use Rattle.chars.specs.Utf8.{table37, fits, rowLen, seqLen, codeOf, isSequence, point}
-use Rattle.words.specs.Words.{stepOf, charsOf, white, takeWhile, dropWhile, keep, dropEnd, trim, trimEnd}
+use Rattle.words.specs.Words.{stepOf, charsOf, white, takeWhile, dropWhile, keep, dropEnd, trim}
 use Rattle.words.specs.declared.Set.the-variants.{Ascii, Unicode}
 use Rattle.words.proofs.Rows.{Row, none, more}
 use Rattle.words.proofs.Runs.{take-drop-while, end-split}
 use Rattle.words.proofs.Steps.{space-white}
-use Rattle.words.proofs.Texts.{chars-flatten, chars-row, half-before, half-behind, trim-start-chars}
+use Rattle.words.proofs.Texts.{chars-flatten, chars-row, half-before, half-behind}
 use Rattle.texts.specs.Text.{hardSpaces, bodyOf}
 use Rattle.texts.proofs.Texts.{by-tilde, hard-tilde, hard-other}
+use Rattle.texts.proofs.Segments.{trim-chars}
 use Rattle.prose.specs.Edge.{soft, coreEnd, coreOf}
 use Rattle.prose.proofs.Characters.{tale, High, high-solid, hard-high, Shape, low, high, shape-of, spacedIf, taleChars, tale-chars}
 
@@ -201,10 +202,6 @@ end-trim on (c ∷ cs) f = go (white Ascii c) refl (dropEnd soft cs) refl (λ on
     go false ey ds ed later = ap (keep W (hardSpaces c)) (later true) ∙ before (dropEnd soft cs) refl ey
 
 -- ---- the core of a text
-
-trim-chars : (s : Bytes) → trim Unicode s ≡ flatten (dropEnd W (dropWhile W (charsOf Unicode s)))
-unfolding trim trimEnd
-trim-chars s = rw (trim-start-chars Unicode s)
 
 body-chars : (s : Bytes) → charsOf Unicode (bodyOf s) ≡ taleChars false (charsOf Unicode s)
 unfolding tale

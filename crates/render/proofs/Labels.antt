@@ -7,11 +7,11 @@ use Prim.Native.Nat.{ℕ, zero, suc, _+_, _-_, _≤_, _<_}
 use native.Mathlib.Nat.{lt-of-not-le}
 use native.Mathlib.Omega.{arith}
 use lib.ListN.{length, getD, take, drop, length-drop, length-take, drop-of-length-le}
-use lib.Seq.{take-take, take-nil, drop-drop, take-length}
+use lib.Seq.{take-take, drop-drop, take-length}
 use lib.Dec.{leb}
 use borrow.Author.Tests.{eq-eqb, ne-eqb, leb-true, leb-false}
 use Rattle.parts.specs.Bytes.{Bytes, part, begins}
-use Rattle.parts.proofs.Laws.{begins-fits}
+use Rattle.parts.proofs.Laws.{begins-fits, drop-take, part-part}
 use Rattle.words.specs.Words.{words, nextWord, nthWord, bytesOf}
 use Rattle.words.specs.declared.Set.{Set}
 use Rattle.words.specs.declared.Set.the-variants.{Unicode}
@@ -23,20 +23,6 @@ use Rattle.tape.specs.declared.Node.{Node}
 use Rattle.tape.proofs.Laws.{text-of}
 use Rattle.tape.proofs.NameRule.{name-of}
 use Rattle.render.specs.Label.{secondOr, labelOf, inSource, nameStart, wordPart, nameRest, labelPart, IsLabel}
-
--- ---- parts of parts
-
-pub drop-take : (i n : ℕ) (l : Bytes) → drop i (take n l) ≡ take (n - i) (drop i l)
-drop-take zero n l = let e : n - 0 ≡ n = omega arith in rw e
-drop-take (suc i) zero l = let e : 0 - suc i ≡ 0 = omega arith in rw e
-drop-take (suc i) (suc n) [] = sym (take-nil (suc n - suc i))
-drop-take (suc i) (suc n) (x ∷ l) = let e : suc n - suc i ≡ n - i = omega arith in rw e (drop-take i n l)
-
--- a part of a part is a part of the whole
-pub part-part : (s : Bytes) (a l : ℕ) (p : Part) → p .start + p .len ≤ length (part s a l) → bytesOf (part s a l) p ≡ part s (a + p .start) (p .len)
-part-part s a l p h =
-    rw (drop-take (p .start) l (drop a s), drop-drop (p .start) a s)
-    (take-take (p .len) (l - p .start) (drop (a + p .start) s) (omega (arith, length-take l (drop a s))))
 
 -- ---- words
 
@@ -53,7 +39,7 @@ word-within src a l n {r} er ew =
 module _ (t : Tape) (k : ℕ) where
   pub source-bytes : (p : Part) → endOf p ≤ length (textAt t k) → bytesOf (t .source) (inSource t k p) ≡ bytesOf (textAt t k) p
   unfolding inSource textAt
-  source-bytes p h = sym (part-part (t .source) (nodeAt t k .start) (nodeAt t k .len) p h)
+  source-bytes p h = sym (part-part (t .source) (nodeAt t k .start) (nodeAt t k .len) (p .start) (p .len) h)
 
   -- the bytes of a word's part
   pub word-bytes : (n : ℕ) → bytesOf (t .source) (wordPart t k n) ≡ getD (words Unicode (textAt t k)) n []

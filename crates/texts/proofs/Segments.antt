@@ -12,12 +12,11 @@ use Rattle.parts.proofs.Laws.{and-true as both-hold, or-both}
 use Rattle.chars.specs.Space.{isAsciiWhite}
 use Rattle.chars.specs.Range.{inAny, within}
 use Rattle.chars.specs.Utf8.{cutAt}
-use Rattle.chars.proofs.Characters.{cut-first}
-use Rattle.words.specs.Words.{stepOf, charsOf, white, dropWhile, keep, dropEnd, onto, words, joined, trim, trimEnd}
+use Rattle.words.specs.Words.{charsOf, white, dropWhile, keep, dropEnd, onto, words, joined, trim, trimEnd}
 use Rattle.words.specs.declared.Set.the-variants.{Ascii, Unicode}
-use Rattle.words.proofs.Rows.{flatten-append, row-join}
-use Rattle.words.proofs.Steps.{size-some, space-apart, space-size, space-white}
-use Rattle.words.proofs.Texts.{chars-flatten, chars-row, row-chars, trim-start-chars}
+use Rattle.words.proofs.Steps.{space-white}
+use Rattle.words.proofs.Texts.{trim-start-chars}
+use Rattle.words.proofs.Joins.{chars-space, space-chars}
 use Rattle.texts.specs.Text.{hardSpaces, bodyOf, spaced, hasBreak, splitBreaks, segments}
 use Rattle.texts.proofs.Texts.{hard-append, hard-other, hard-space, joined-tail}
 use Rattle.texts.proofs.Breaks.{isSlash, pairIn, slash-pair, break-pair, onto-first, pair-words, pair-hard}
@@ -25,19 +24,7 @@ use Rattle.texts.proofs.Told.{told, more, told-nil, more-nil, told-word
 
 -- ---- spaces at the edges of what is trimmed
 
-chars-space : (w t : Bytes) → charsOf Unicode (w ++ 32 ∷ t) ≡ charsOf Unicode w ++ charsOf Unicode (32 ∷ t)
-chars-space w t =
-    let cs : List Bytes = charsOf Unicode w in
-    let ds : List Bytes = charsOf Unicode (32 ∷ t) in
-    let e : flatten (cs ++ ds) ≡ w ++ 32 ∷ t = flatten-append cs ds ∙ rw (chars-flatten Unicode w, chars-flatten Unicode (32 ∷ t)) in
-    let apart : (x : Bytes) → 0 < length x → stepOf Unicode (x ++ flatten ds) ≡ stepOf Unicode x = λ x h. rw (chars-flatten Unicode (32 ∷ t)) (space-apart Unicode t x h) in
-    sym (ap (charsOf Unicode) e) ∙ row-chars Unicode (row-join (stepOf Unicode) cs ds apart (chars-row Unicode w) (chars-row Unicode (32 ∷ t)))
-
-space-chars : (t : Bytes) → charsOf Unicode (32 ∷ t) ≡ (32 ∷ []) ∷ charsOf Unicode t
-unfolding charsOf
-space-chars t = cut-first (size-some Unicode) (32 ∷ t) (omega arith) ∙ rw (space-size Unicode t)
-
-trim-chars : (s : Bytes) → trim Unicode s ≡ flatten (dropEnd (white Unicode) (dropWhile (white Unicode) (charsOf Unicode s)))
+pub trim-chars : (s : Bytes) → trim Unicode s ≡ flatten (dropEnd (white Unicode) (dropWhile (white Unicode) (charsOf Unicode s)))
 unfolding trim trimEnd
 trim-chars s = rw (trim-start-chars Unicode s)
 
@@ -63,12 +50,12 @@ chars-nil = refl
 
 trim-lead : (t : Bytes) → trim Unicode (32 ∷ t) ≡ trim Unicode t
 unfolding dropWhile
-trim-lead t = trim-chars (32 ∷ t) ∙ rw (space-chars t, space-white Unicode) (sym (trim-chars t))
+trim-lead t = trim-chars (32 ∷ t) ∙ rw (space-chars Unicode t, space-white Unicode) (sym (trim-chars t))
 
 trim-trail : (t : Bytes) → trim Unicode (t ++ 32 ∷ []) ≡ trim Unicode t
 trim-trail t =
     trim-chars (t ++ 32 ∷ [])
-    ∙ rw (chars-space t [], space-chars [], chars-nil, both-more (white Unicode) (32 ∷ []) (space-white Unicode) (charsOf Unicode t)) (sym (trim-chars t))
+    ∙ rw (chars-space Unicode t [], space-chars Unicode [], chars-nil, both-more (white Unicode) (32 ∷ []) (space-white Unicode) (charsOf Unicode t)) (sym (trim-chars t))
 
 -- so many spaces
 unfoldable spaces : ℕ → Bytes

@@ -6,17 +6,9 @@ use native.Mathlib.Nat.{pow-suc, div-lt-iff-lt-mul}
 use native.Mathlib.Omega.{arith}
 use lib.ListN.{length, drop, set, length-set, drop-of-length-le}
 use lib.Seq.{drop-cons, getD-set-same, drop-set-lt}
-use borrow.Author.Tests.{lt-ltb, le-ltb}
 use Rattle.parts.specs.Bytes.{Bytes}
 use Rattle.chars.specs.Decimal.{digits, decimal}
-
-digits-one : (k m : ℕ) → m < 10 → digits (suc k) m ≡ (48 + m) ∷ []
-unfolding digits
-digits-one k m h = rw (lt-ltb m 10 h, digits)
-
-digits-more : (k m : ℕ) → 10 ≤ m → digits (suc k) m ≡ digits k (m / 10) ++ ((48 + m % 10) ∷ [])
-unfolding digits
-digits-more k m h = rw (le-ltb m 10 h, digits)
+use Rattle.chars.proofs.Digits.{digits-one, digits-more}
 
 -- what is left of a number, in front of the digits that stand behind index i
 pub record Left (n : ℕ) (bytes : Bytes) (i m : ℕ) : Type 0 where

@@ -29,7 +29,7 @@ Each P (w ∷ ws) = P w × Each P ws
 
 module _ (set : Set) where
   -- a space begins a character of its own, and is one
-  chars-space : (w t : Bytes) → charsOf set (w ++ 32 ∷ t) ≡ charsOf set w ++ charsOf set (32 ∷ t)
+  pub chars-space : (w t : Bytes) → charsOf set (w ++ 32 ∷ t) ≡ charsOf set w ++ charsOf set (32 ∷ t)
   chars-space w t =
       let cs : List Bytes = charsOf set w in
       let ds : List Bytes = charsOf set (32 ∷ t) in
@@ -37,7 +37,7 @@ module _ (set : Set) where
       let apart : (x : Bytes) → 0 < length x → stepOf set (x ++ flatten ds) ≡ stepOf set x = λ x h. rw (chars-flatten set (32 ∷ t)) (space-apart set t x h) in
       sym (ap (charsOf set) e) ∙ row-chars set (row-join (stepOf set) cs ds apart (chars-row set w) (chars-row set (32 ∷ t)))
 
-  space-chars : (t : Bytes) → charsOf set (32 ∷ t) ≡ (32 ∷ []) ∷ charsOf set t
+  pub space-chars : (t : Bytes) → charsOf set (32 ∷ t) ≡ (32 ∷ []) ∷ charsOf set t
   unfolding charsOf
   space-chars t = cut-first (size-some set) (32 ∷ t) (omega arith) ∙ rw (space-size set t)
 

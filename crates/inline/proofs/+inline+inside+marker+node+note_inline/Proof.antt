@@ -10,7 +10,8 @@ use Rattle.events.specs.Walk.{nodeIn, inside as insideOf, inlineAll, noteAll}
 use Rattle.events.specs.Emit.{emitAll}
 use Rattle.sink.specs.Desk.{deskIn}
 use Rattle.turns.specs.Turn.{KeptAt}
-use Rattle.inline.proofs.Steps.{marker-whole, marker-leaf, node-chapter, node-verse, node-marker, node-other, inside-zero, inside-inline, inside-note, inline-done, inline-ended, inline-entered, inline-plain, note-done, note-ended, note-entered, note-plain, kept-here, kept-plain}
+use Rattle.inline.proofs.Steps.{marker-whole, marker-leaf, node-chapter, node-verse, node-marker, node-other, inside-zero, inside-inline, inside-note, inline-done, inline-ended, inline-entered, inline-plain, note-done, note-ended, note-entered, note-plain, kept-plain}
+use Rattle.turns.proofs.Laws.{kept-here}
 use borrow.Fn.Kinds.{In}
 use borrow.Fn.PlainCycle.{Measures, is, falls, and}
 use Rattle.inline.proofs.inline.Reads as inline
