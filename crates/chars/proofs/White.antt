@@ -10,6 +10,7 @@ use borrow.Author.Tests.{ne-eqb, le-leb, lt-leb, eqb-false, leb-true, leb-false}
 use Rattle.parts.proofs.Laws.{and-true as both-true, drop-at}
 use Rattle.chars.specs.Range.{Range, within, inAny}
 use Rattle.chars.specs.Space.{whiteSpace, isWhite, found}
+use Rattle.chars.proofs.Laws.{below, beyond}
 
 abbrev pub table : List ℕ
 table =
@@ -128,3 +129,20 @@ white-end c xs i h inv = sym (rw (drop-of-length-le xs h)) ∙ inv
 
 pub white-listed : (c : ℕ) {r : Bool} → r ≡ found c table → r ≡ isWhite c
 white-listed c e = e ∙ white-start c
+
+-- no code point between the space and U+0085 is white space
+pub between-white : (c : ℕ) → 32 < c → c < 133 → false ≡ isWhite c
+unfolding isWhite whiteSpace inAny
+between-white c l h =
+    sym (simp (
+      beyond 9 13 c (omega arith),
+      beyond 32 32 c (omega arith),
+      below 133 133 c (omega arith),
+      below 160 160 c (omega arith),
+      below 5760 5760 c (omega arith),
+      below 8192 8202 c (omega arith),
+      below 8232 8233 c (omega arith),
+      below 8239 8239 c (omega arith),
+      below 8287 8287 c (omega arith),
+      below 12288 12288 c (omega arith),
+    ))

@@ -258,6 +258,12 @@ fn listed(table: &[u32], code: u32) -> bool
 pub fn is_white(code: u32) -> bool
     ensures { λ r. ⌜ r ≡ isWhite code ⌝ }
 {
+    // Most characters are asked for nothing more.
+    if 0x20 < code {
+        if code < 0x85 {
+            return false;
+        }
+    }
     let table = WHITE;
     listed(&table, code)
 }

@@ -6,7 +6,7 @@ use Prim.Native.Nat.{ℕ, zero, suc, _+_, _*_, _/_, _%_, _≤_, _<_}
 use native.Mathlib.Nat.{mul-zero, mul-suc, add-comm}
 use native.Mathlib.Omega.{arith}
 use lib.ListN.{length, getD, drop, List·getD-eq-default}
-use lib.Seq.{drop-drop}
+use lib.Seq.{drop-drop, getD-drop}
 use lib.Dec.{eqb, leb}
 use borrow.Author.Tests.{eq-eqb, ne-eqb, lt-ltb, le-ltb, le-leb, lt-leb}
 use Rattle.parts.specs.Bytes.{Bytes, part}
@@ -26,9 +26,9 @@ use Rattle.tape.specs.declared.Step.the-variants.{At, Done}
 
 -- ---- numbers
 
-pub le16-made : (s : Bytes) {a z a′ z′ : ℕ} → a ≡ getD s 0 0 → a′ ≡ a → z ≡ getD s 1 0 → z′ ≡ z → a′ + 256 * z′ ≡ le16 s
+pub le16-made : (s : Bytes) {a z n : ℕ} → a ≡ getD s 0 0 → z ≡ getD s 1 0 → n ≡ a + 256 * z → n ≡ le16 s
 unfolding le16
-le16-made s a a′ z z′ = rw (a′, a, z′, z)
+le16-made s a z n = rw (n, a, z)
 
 pub le32-made : (s : Bytes) {a z a′ z′ : ℕ} {r : Bytes} → a ≡ le16 s → a′ ≡ a → r ≡ drop 2 s → z ≡ le16 r → z′ ≡ z → a′ + 65536 * z′ ≡ le32 s
 unfolding le32
@@ -47,6 +47,32 @@ pub sections-made : (s : Bytes) {n e m z : ℕ} {a b c d : Bytes} → a ≡ drop
     → d ≡ drop 28 s → z ≡ le32 d → _≡_ {A = Sections} (record { head = 36; nodes = n; entries = e; names = m; source = z }) (sectionsOf s)
 unfolding sectionsOf
 sections-made s ea en eb ee ec em ed ez = rw (en, ea, ee, eb, em, ec, ez, ed)
+
+-- a byte behind a place
+behind : (s : Bytes) (k i : ℕ) → getD (drop k s) i 0 ≡ getD s (k + i) 0
+behind s k i = getD-drop k s i 0
+
+quad-at : (s : Bytes) (k : ℕ) → getD s k 0 + 256 * getD s (k + 1) 0 + 65536 * (getD s (k + 2) 0 + 256 * getD s (k + 3) 0) ≡ le32 (drop k s)
+unfolding le32 le16
+quad-at s k =
+    let two : drop 2 (drop k s) ≡ drop (k + 2) s = drop-drop 2 k s in
+    let low : getD s (k + 0) 0 ≡ getD s k 0 = ap (λ (i : ℕ). getD s i 0) (omega arith) in
+    let high : getD s (k + 2 + 0) 0 ≡ getD s (k + 2) 0 = ap (λ (i : ℕ). getD s i 0) (omega arith) in
+    let last : getD s (k + 2 + 1) 0 ≡ getD s (k + 3) 0 = ap (λ (i : ℕ). getD s i 0) (omega arith) in
+    rw (two, behind s k 0, behind s k 1, behind s (k + 2) 0, behind s (k + 2) 1, low, high, last)
+
+-- the node of 16 bytes that are all there
+pub node-read : (s : Bytes) {k : Kind} {f : Flags} {m l a n : ℕ}
+    → k .code ≡ getD s 0 0 → f .bits ≡ getD s 1 0 → m ≡ getD s 2 0 + 256 * getD s 3 0
+    → l ≡ getD s 4 0 + 256 * getD s 5 0 + 65536 * (getD s 6 0 + 256 * getD s 7 0)
+    → a ≡ getD s 8 0 + 256 * getD s 9 0 + 65536 * (getD s 10 0 + 256 * getD s 11 0)
+    → n ≡ getD s 12 0 + 256 * getD s 13 0 + 65536 * (getD s 14 0 + 256 * getD s 15 0)
+    → _≡_ {A = Node} (record { kind = k; flags = f; marker = m; link = l; start = a; len = n }) (nodeOf s)
+unfolding nodeOf le16
+node-read s ek ef em el ea en =
+    let kind : _≡_ {A = Kind} _ (record { code = getD s 0 0 }) = ap (λ (z : ℕ). record { code = z }) ek in
+    let flag : _≡_ {A = Flags} _ (record { bits = getD s 1 0 }) = ap (λ (z : ℕ). record { bits = z }) ef in
+    rw (kind, flag, em, behind s 2 0, behind s 2 1, el ∙ quad-at s 4, ea ∙ quad-at s 8, en ∙ quad-at s 12)
 
 pub node-made : (s : Bytes) {x y : ℕ} {k : Kind} {f : Flags} {m l a n : ℕ} {r₂ r₄ r₈ r₁₂ : Bytes}
     → x ≡ getD s 0 0 → k .code ≡ x → y ≡ getD s 1 0 → f .bits ≡ y → r₂ ≡ drop 2 s → m ≡ le16 r₂ → r₄ ≡ drop 4 s → l ≡ le32 r₄
@@ -88,14 +114,25 @@ records-length read size (suc n) s = ap suc (records-length read size n (drop si
 -- ---- the record at an index, in the file
 
 module _ (c : Sections) (file : Bytes) (k : ℕ) where
-  pub node-in : {h a : ℕ} {r : Bytes} {n : Node} → k < c .nodes → h ≡ c .head → a ≡ k → r ≡ drop (h + 16 * a) file → n ≡ nodeOf r → n ≡ nodeAt (tapeIn c file) k
+  node-there : k < c .nodes → nodeOf (drop (c .head + 16 * k) file) ≡ nodeAt (tapeIn c file) k
   unfolding nodeAt tapeIn
-  node-in h eh ea er en =
-      en ∙ ap nodeOf (er ∙ rw (eh, ea) (sym (drop-drop (16 * k) (c .head) file))) ∙ sym (records-at nodeOf 16 (c .nodes) (drop (c .head) file) k nowhere h)
+  node-there h = ap nodeOf (sym (drop-drop (16 * k) (c .head) file)) ∙ sym (records-at nodeOf 16 (c .nodes) (drop (c .head) file) k nowhere h)
+
+  pub node-in : {p : ℕ} {r : Bytes} {n : Node} → k < c .nodes → p ≡ c .head + 16 * k → r ≡ drop p file → n ≡ nodeOf r → n ≡ nodeAt (tapeIn c file) k
+  node-in h ep er en = en ∙ ap nodeOf (er ∙ ap (λ (i : ℕ). drop i file) ep) ∙ node-there h
+
+  pub kind-in : {p x : ℕ} {z : Kind} → k < c .nodes → p ≡ c .head + 16 * k → x ≡ getD file p 0 → z .code ≡ x → z .code ≡ kindAt (tapeIn c file) k
+  unfolding nodeOf
+  kind-in {p} h ep ex ez =
+      ez ∙ ex ∙ ap (λ (i : ℕ). getD file i 0) (ep ∙ omega arith) ∙ sym (behind file (c .head + 16 * k) 0) ∙ ap (λ (n : Node). n .kind .code) (node-there h)
 
   pub node-out : c .nodes ≤ k → nowhere ≡ nodeAt (tapeIn c file) k
   unfolding nodeAt tapeIn
   node-out h = sym (List·getD-eq-default (recordsOf nodeOf 16 (c .nodes) (drop (c .head) file)) nowhere (rw (records-length nodeOf 16 (c .nodes) (drop (c .head) file)) h))
+
+  pub kind-out : {z : Kind} → c .nodes ≤ k → z .code ≡ 8 → z .code ≡ kindAt (tapeIn c file) k
+  unfolding nowhere
+  kind-out h ez = ez ∙ ap (λ (n : Node). n .kind .code) (node-out h)
 
   pub entry-in : {e a : ℕ} {r : Bytes} {n : Entry} → k < c .entries → e ≡ entriesAt c → a ≡ k → r ≡ drop (e + 8 * a) file → n ≡ entryOf r → n ≡ entryAt (tapeIn c file) k
   unfolding entryAt tapeIn
@@ -325,7 +362,7 @@ module _ {i j : Info} (ei : i ≡ j) where
 
 module _ (c : Sections) (file : Bytes) (k : ℕ) (h : k < c .nodes) where
   node-bytes : nodeAt (tapeIn c file) k ≡ nodeOf (drop (c .head + 16 * k) file)
-  node-bytes = sym (node-in c file k h refl refl refl refl)
+  node-bytes = sym (node-there c file k h)
 
   pub kind-bytes : nodeAt (tapeIn c file) k .kind .code ≡ getD (drop (c .head + 16 * k) file) 0 0
   unfolding nodeOf

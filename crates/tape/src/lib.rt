@@ -12,7 +12,7 @@ pub use name::ends_name;
 pub use number::long;
 pub use number::short;
 ghost use mathlib.Core.Path.{_≡_};
-ghost use Prim.Native.Nat.{_<_, _^_};
+ghost use Prim.Native.Nat.{_+_, _*_, _<_, _^_};
 ghost use Rattle.parts.specs.Bytes.{part, same};
 ghost use Rattle.tape.specs.File.{le32 as le32Of, nodeOf, entryOf, sectionsOf, entriesAt, namesAt, sourceAt, tapeIn, nodeAt, entryAt, kindAt, textAt, entryName, isSynthetic, isNested, bearsMarker, infoAt, numberAt, categoryOf, elementOf, baseLen, nameOf};
 ghost use Rattle.tape.specs.Name.{markerName, entryIs};
@@ -119,6 +119,16 @@ impl Node {
     pub fn of(s: &[u8]) -> Self
         ensures { λ r. ⌜ r ≡ nodeOf (now (s .entry)) ⌝ }
     {
+        if 16 <= s.len() {
+            return Node {
+                kind: Kind::new(s[0]),
+                flags: Flags::new(s[1]),
+                marker: number::pair(s[2], s[3]),
+                link: number::quad(s[4], s[5], s[6], s[7]),
+                start: number::quad(s[8], s[9], s[10], s[11]),
+                len: number::quad(s[12], s[13], s[14], s[15]),
+            };
+        }
         Node {
             kind: Kind::new(parts::byte_at(s, 0)),
             flags: Flags::new(parts::byte_at(s, 1)),
@@ -144,13 +154,19 @@ impl Entry {
     }
 }
 
+// Where the node of an index stands.
+fn node_place(tape: Sections, at: u32) -> usize
+    ensures { λ r. ⌜ r ≡ tape .head + 16 * at ⌝ }
+{
+    long(tape.head) + 16 * long(at)
+}
+
 // The node at an index.
 pub fn node_at(file: &[u8], tape: Sections, at: u32) -> Node
     ensures { λ r. ⌜ r ≡ nodeAt (tapeIn tape (now (file .entry))) at ⌝ }
 {
     if at < tape.nodes {
-        let place = long(tape.head) + 16 * long(at);
-        Node::of(parts::from(file, place))
+        Node::of(parts::from(file, node_place(tape, at)))
     } else {
         Node {
             kind: Kind { code: Kind::ERROR },
@@ -253,7 +269,11 @@ impl Cursor {
     pub fn kind(self, file: &[u8], tape: Sections) -> Kind
         ensures { λ r. ⌜ r .code ≡ kindAt (tapeIn tape (now (file .entry))) (self .at) ⌝ }
     {
-        self.node(file, tape).kind
+        if self.at < tape.nodes {
+            Kind::new(parts::byte_at(file, node_place(tape, self.at)))
+        } else {
+            Kind::new(Kind::ERROR)
+        }
     }
 
     pub fn link(self, file: &[u8], tape: Sections) -> u32

@@ -1,6 +1,6 @@
 // Numbers of the tape file, little-endian. What is missing at a file's end counts 0.
 ghost use mathlib.Core.Path.{_≡_};
-ghost use Prim.Native.Nat.{_<_, _^_};
+ghost use Prim.Native.Nat.{_+_, _*_, _<_, _^_};
 ghost use Rattle.tape.specs.File.{le16 as le16Of, le32 as le32Of};
 
 fn wide(x: u8) -> u16
@@ -25,10 +25,24 @@ pub fn long(x: u32) -> usize
     x as usize
 }
 
+// The number of two bytes, the lower first.
+pub fn pair(a: u8, z: u8) -> u16
+    ensures { λ r. ⌜ r ≡ a + 256 * z ⌝ }
+{
+    wide(a) + 256 * wide(z)
+}
+
+// The number of four bytes, the lowest first.
+pub fn quad(a: u8, e: u8, i: u8, o: u8) -> u32
+    ensures { λ r. ⌜ r ≡ a + 256 * e + 65536 * (i + 256 * o) ⌝ }
+{
+    wider(pair(a, e)) + 65536 * wider(pair(i, o))
+}
+
 pub fn le16(s: &[u8]) -> u16
     ensures { λ r. ⌜ r ≡ le16Of (now (s .entry)) ⌝ }
 {
-    wide(parts::byte_at(s, 0)) + 256 * wide(parts::byte_at(s, 1))
+    pair(parts::byte_at(s, 0), parts::byte_at(s, 1))
 }
 
 pub fn le32(s: &[u8]) -> u32

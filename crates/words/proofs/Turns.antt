@@ -9,10 +9,12 @@ use lib.Seq.{length-take-le}
 use borrow.Author.Tests.{not-true, not-false}
 use Rattle.parts.specs.Bytes.{Bytes}
 use Rattle.chars.specs.Range.{within, inAny}
-use Rattle.chars.specs.Utf8.{cutAt, firstChar}
+use Rattle.chars.specs.Utf8.{cutAt, seqLen, firstChar}
 use Rattle.chars.specs.Space.{isWhite, isAsciiWhite}
 use Rattle.chars.specs.declared.Char.{Char}
 use Rattle.chars.proofs.Characters.{cut-at}
+use Rattle.chars.proofs.Laws.{len-one, first-one}
+use Rattle.chars.proofs.White.{between-white}
 use Rattle.words.specs.Words.{stepOf, charsOf, white, solid, takeWhile, keep, dropEnd, trimEnd, whiteLen, wordLen}
 use Rattle.words.specs.First.{frontOf, runOf}
 use Rattle.words.specs.declared.Set.{Set}
@@ -37,6 +39,12 @@ pub front-wide : (s : Bytes) {c : Char} {t : Bool} → c ≡ firstChar s → t �
     → _≡_ {A = FirstChar} (record { width = c .width; white = t }) (frontOf Unicode s)
 unfolding frontOf stepOf white firstChar
 front-wide s ec et = rw (et, ec)
+
+pub front-visible : (s : Bytes) → 0 < length s → 32 < getD s 0 0 → getD s 0 0 < 128 → _≡_ {A = FirstChar} (record { width = 1; white = false }) (frontOf Unicode s)
+front-visible s some l h =
+    let one : _≡_ {A = Char} (record { code = getD s 0 0; width = 1 }) (firstChar s) =
+    first-one s (seqLen s) refl refl (sym (len-one s (λ e. omega arith) h)) refl in
+    front-wide s one (between-white (getD s 0 0) l (omega arith))
 
 pub front-by : (s : Bytes) {set v : Set} {r : FirstChar} → set ≡ v → r ≡ frontOf v s → r ≡ frontOf set s
 front-by s e er = rw e er

@@ -43,6 +43,18 @@ fn front_byte(s: &[u8]) -> FirstChar
 fn front_char(s: &[u8]) -> FirstChar
     ensures { λ r. ⌜ r ≡ frontOf Set.Unicode (now (s .entry)) ⌝ }
 {
+    if 0 < s.len() {
+        let x = s[0];
+        // Most characters: ASCII beyond the space.
+        if 0x20 < x {
+            if x < 0x80 {
+                return FirstChar {
+                    width: 1,
+                    white: false,
+                };
+            }
+        }
+    }
     let c = chars::first_char(s);
     FirstChar {
         width: c.width,

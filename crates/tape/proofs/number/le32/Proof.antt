@@ -2,6 +2,11 @@ use Rattle.tape.proofs.Laws.{le32-made}
 use borrow.Author.Needs.{needs}
 use Rattle.tape.proofs.number.le32.Statement.{statement}
 use Rattle.tape.proofs.number.le32.Tie as tie
+use Rattle.tape.proofs.number.le32.Reads as reads
+use Rattle.tape.proofs.number.le32.Lts as lts
+use Rattle.parts.proofs.from.Reads as from-reads
+use Rattle.tape.proofs.number.le16.Reads as le16-reads
+use Rattle.tape.proofs.number.wider.Reads as wider-reads
 
 le16-requires : tie.Need-le16-requires
 le16-requires c κs = search needs
