@@ -1,13 +1,14 @@
 // Runs the serializer over a stream of tapes, each with buffers of several lengths, and writes what each call gave and what it left in the buffer.
 //
-// A stream of tapes: for each its length as a u32, little-endian, then its bytes. The tapes are of at most 65,536 bytes. The buffers have no byte, one
-// byte less than the text, just as many, and 100 more; of a refused tape, no byte and 100. Before a call every byte of the buffer is a mark. The form of
-// the lines stands in oracle/README.md, under `oracle replay`.
+// Standard input is a stream (crate `stream`) of tapes of at most 65,536 bytes. The buffers have no byte, one byte less than the text, just as many, and
+// 100 more; of a refused tape, no byte and 100. Before a call every byte of the buffer is a mark. The form of the lines stands in oracle/README.md, under
+// `oracle replay`.
 //
-// How `stdin` and `stdout` are made stands in .ci/stored: `oracle both-sides`, then `gen structured`, `random`, `small`, `damaged` and `glued`, behind one
-// another; what must be written is what `oracle replay` says of them, by the Rust's own text.
-use libc::STDIN_FILENO;
+// The stored list is made by .ci/stored: `oracle both-sides` (document 01's examples 1 to 13 and its listing), then `gen structured 185 180`, `gen random
+// 185 180`, `gen small 1`, `gen damaged 61 200`, `gen damaged 62 200` and `gen glued 61 60`. What must be written of it is what `oracle replay` writes, by
+// the Rust's own text.
 use libc::STDOUT_FILENO;
+use stream::Item;
 use usx::Answer;
 
 // A byte that no UTF-8 text has.
@@ -104,28 +105,14 @@ fn replay(file: &[u8], out: &mut [u8]) {
     call_with(file, out, std::num::wrapping_add_usize(n, 100));
 }
 
-// The next so many bytes of standard input, at the front of a buffer that has room for them.
-fn read_some(space: &mut [u8], size: usize) -> bool {
-    if size <= space.len() {
-        io::read_full(STDIN_FILENO, &mut space[..size]) == size
-    } else {
-        false
-    }
-}
-
 // One tape of the stream; false at its end.
 fn step(space: &mut [u8], out: &mut [u8]) -> bool {
-    if !read_some(space, 4) {
+    let Item::Held(size) = stream::next(space) else {
         return false;
-    }
-    let size = tape::length_of(space);
-    if read_some(space, size) {
-        replay(parts::part(space, 0, size), out);
-        say(b"\n");
-        return true;
-    }
-    say(b"too long\n");
-    false
+    };
+    replay(parts::part(space, 0, size), out);
+    say(b"\n");
+    true
 }
 
 fn run(space: &mut [u8], out: &mut [u8]) {
