@@ -23,6 +23,7 @@ mod bytes;
 pub use bytes::{memchr_iter, memrchr};
 
 pub mod answer;
+pub mod both_sides;
 pub mod check;
 pub mod check_cases;
 mod document;
@@ -31,6 +32,7 @@ pub mod generate;
 pub mod loader;
 pub mod notation;
 pub mod rendered;
+pub mod replay;
 pub mod tapes;
 
 pub use document::Document;

@@ -1,10 +1,10 @@
 // Writes the number that each tape of a stream is given, 0 where it is admitted, a line a tape.
 //
-// A stream of tapes: for each its length as a u32, little-endian, then its bytes. The tapes are of at most 65,536 bytes.
+// Standard input is a stream (crate `stream`) of tapes of at most 65,536 bytes.
 ghost use Prim.Native.Nat.{_<_};
 use admit::Admitted;
-use libc::STDIN_FILENO;
 use libc::STDOUT_FILENO;
+use stream::Item;
 
 fn wide(x: u8) -> usize
     ensures { λ r. ⌜ r < 256 ⌝ }
@@ -27,27 +27,13 @@ fn judge(file: &[u8]) {
     }
 }
 
-// The next so many bytes of standard input, at the front of a buffer that has room for them.
-fn read_some(space: &mut [u8], size: usize) -> bool {
-    if size <= space.len() {
-        io::read_full(STDIN_FILENO, &mut space[..size]) == size
-    } else {
-        false
-    }
-}
-
 // One tape of the stream; false at its end.
 fn step(space: &mut [u8]) -> bool {
-    if !read_some(space, 4) {
+    let Item::Held(size) = stream::next(space) else {
         return false;
-    }
-    let size = tape::length_of(space);
-    if read_some(space, size) {
-        judge(parts::part(space, 0, size));
-        return true;
-    }
-    io::write_all(STDOUT_FILENO, b"too long\n");
-    false
+    };
+    judge(parts::part(space, 0, size));
+    true
 }
 
 fn run(space: &mut [u8]) {

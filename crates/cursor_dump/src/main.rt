@@ -1,10 +1,10 @@
 // Writes what the cursor says of every node of a stream of tapes, a line a node and an empty line behind each tape.
 //
-// A stream of tapes: for each its length as a u32, little-endian, then its bytes. The tapes are admitted ones of at most 65,536 bytes.
+// Standard input is a stream (crate `stream`) of admitted tapes of at most 65,536 bytes.
 // A line: index, kind, synthetic and nested (a digit each), number, category, element, first child, next sibling, matching close, then entry
 // name, marker name and text with `|` between them; `-` for what there is none of.
-use libc::STDIN_FILENO;
 use libc::STDOUT_FILENO;
+use stream::Item;
 use tape::Cursor;
 use tape::Info;
 use tape::Sections;
@@ -106,27 +106,13 @@ fn dump(out: &mut [u8], file: &[u8]) {
     io::write_all(STDOUT_FILENO, b"\n");
 }
 
-// The next so many bytes of standard input, at the front of a buffer that has room for them.
-fn read_some(space: &mut [u8], size: usize) -> bool {
-    if size <= space.len() {
-        io::read_full(STDIN_FILENO, &mut space[..size]) == size
-    } else {
-        false
-    }
-}
-
 // One tape of the stream; false at its end.
 fn step(out: &mut [u8], space: &mut [u8]) -> bool {
-    if !read_some(space, 4) {
+    let Item::Held(size) = stream::next(space) else {
         return false;
-    }
-    let size = tape::length_of(space);
-    if read_some(space, size) {
-        dump(out, parts::part(space, 0, size));
-        return true;
-    }
-    io::write_all(STDOUT_FILENO, b"too long\n");
-    false
+    };
+    dump(out, parts::part(space, 0, size));
+    true
 }
 
 fn run(out: &mut [u8], space: &mut [u8]) {

@@ -1,6 +1,6 @@
 // Writes what the helpers of rendering say of every node of a stream of tapes, a line an answer and an empty line behind each tape.
 //
-// A stream of tapes: for each its length as a u32, little-endian, then its bytes. The tapes are admitted ones of at most 65,536 bytes.
+// Standard input is a stream (crate `stream`) of admitted tapes of at most 65,536 bytes.
 // The forms of the lines stand in oracle/README.md, under `oracle render`.
 mod anchors;
 mod holders;
@@ -9,7 +9,7 @@ mod say;
 mod shapes;
 mod texts_of;
 
-use libc::STDIN_FILENO;
+use stream::Item;
 use tape::Cursor;
 use tape::Kind;
 use tape::Sections;
@@ -37,27 +37,13 @@ fn dump(file: &[u8]) {
     say::run(b"\n");
 }
 
-// The next so many bytes of standard input, at the front of a buffer that has room for them.
-fn read_some(space: &mut [u8], size: usize) -> bool {
-    if size <= space.len() {
-        io::read_full(STDIN_FILENO, &mut space[..size]) == size
-    } else {
-        false
-    }
-}
-
 // One tape of the stream; false at its end.
 fn step(space: &mut [u8]) -> bool {
-    if !read_some(space, 4) {
+    let Item::Held(size) = stream::next(space) else {
         return false;
-    }
-    let size = tape::length_of(space);
-    if read_some(space, size) {
-        dump(parts::part(space, 0, size));
-        return true;
-    }
-    say::run(b"too long\n");
-    false
+    };
+    dump(parts::part(space, 0, size));
+    true
 }
 
 fn run(space: &mut [u8]) {

@@ -4,8 +4,8 @@
 // little-endian), input, answer. How the list is made: oracle/src/bin/vectors.rs.
 mod answers;
 
-use libc::STDIN_FILENO;
 use libc::STDOUT_FILENO;
+use stream::read_some;
 use words::Set;
 
 // How many answers agree, by operation, how many differ, and whether the list is at its end.
@@ -41,15 +41,6 @@ fn ended(t: Tally) -> Tally {
     let mut next = t;
     next.done = true;
     next
-}
-
-// The next so many bytes of standard input, at the front of a buffer that has room for them.
-fn read_some(space: &mut [u8], size: usize) -> bool {
-    if size <= space.len() {
-        io::read_full(STDIN_FILENO, &mut space[..size]) == size
-    } else {
-        false
-    }
 }
 
 // One record, answered and compared.

@@ -3,7 +3,7 @@
 use std::io::{self, BufWriter, Read, Write};
 use std::process::ExitCode;
 
-use oracle::{answer, check, check_cases, dump, notation, rendered};
+use oracle::{answer, both_sides, check, check_cases, dump, notation, rendered, replay};
 
 const USAGE: &str = "usage: oracle print   one tape on standard input, printed as the printing program prints it
        oracle stream  a stream of tapes to a stream of answers
@@ -11,6 +11,8 @@ const USAGE: &str = "usage: oracle print   one tape on standard input, printed a
        oracle render  a stream of tapes to what the helpers of rendering say of every node
        oracle check   a stream of finished texts to what usx_check writes of each
        oracle check-cases  the texts on both sides of each rule of the checker, as a stream
+       oracle replay  a stream of tapes to what calls with buffers of several lengths give
+       oracle both-sides  the tapes of document 01's examples 1 to 13 and its listing, as a stream
        oracle tape NOTATION  the tape of docs/DIFFERENCES.md's notation, on standard output";
 
 fn main() -> ExitCode {
@@ -23,6 +25,8 @@ fn main() -> ExitCode {
         ["render"] => rendered::stream(io::stdin().lock(), BufWriter::new(io::stdout().lock())),
         ["check"] => check::stream(io::stdin().lock(), BufWriter::new(io::stdout().lock())),
         ["check-cases"] => check_cases::write(BufWriter::new(io::stdout().lock())),
+        ["replay"] => replay::stream(io::stdin().lock(), BufWriter::new(io::stdout().lock())),
+        ["both-sides"] => both_sides::write(BufWriter::new(io::stdout().lock())),
         ["stream"] => answer::stream(io::stdin().lock(), BufWriter::new(io::stdout().lock())),
         _ => {
             eprintln!("{USAGE}");

