@@ -8,6 +8,7 @@ mod raw {
         pub fn bench_check(text: *const u8, len: usize) -> u32;
         pub fn bench_body(out: *mut u8, room: usize, at: usize, from: usize, s: *const u8, len: usize) -> usize;
         pub fn bench_is_utf8(s: *const u8, len: usize) -> usize;
+        pub fn bench_serialize(file: *const u8, len: usize, out: *mut u8, room: usize) -> usize;
         pub fn bench_put_number(out: *mut u8, room: usize, at: usize, from: usize, n: u32) -> usize;
     }
 }
@@ -45,4 +46,10 @@ pub fn admit(file: &[u8]) -> u32 {
 /// The number that a finished text is given, 0 where it is accepted.
 pub fn check(text: &[u8]) -> u32 {
     unsafe { raw::bench_check(text.as_ptr(), text.len()) }
+}
+
+/// What `serialize` answers for a file and a buffer: document 01's number, and the length given.
+pub fn serialize(file: &[u8], out: &mut [u8]) -> (u8, usize) {
+    let answer = unsafe { raw::bench_serialize(file.as_ptr(), file.len(), out.as_mut_ptr(), out.len()) };
+    ((answer % 16) as u8, answer / 16)
 }

@@ -1,6 +1,7 @@
 //! Measures the proved code against the Rust that it ports, in one run, as ratios.
 //!
-//! Each area has a module with a function `rows` that returns its rows. Arguments are finished texts that the checker is also measured on.
+//! Each area has a module with a function `rows` that returns its rows. Arguments are finished texts that the checker is also measured on,
+//! and tape files (`.tape`) that the serializer is.
 
 mod admit;
 mod api;
@@ -9,11 +10,13 @@ mod check;
 mod escape;
 mod measure;
 mod number;
+mod serialize;
 mod utf8;
 
 fn main() {
-    let args: Vec<String> = std::env::args().skip(1).collect();
-    measure::print("theirs", &check::rows(&args));
+    let (tapes, texts): (Vec<String>, Vec<String>) = std::env::args().skip(1).partition(|name| name.ends_with(".tape"));
+    serialize::print(&tapes);
+    measure::print("theirs", &check::rows(&texts));
     measure::print("Rust", &utf8::rows());
     measure::print("Rust", &escape::rows());
     measure::print("Rust", &body::rows());

@@ -17,14 +17,20 @@ fn time(f: &mut dyn FnMut()) -> f64 {
     t.elapsed().as_secs_f64()
 }
 
-/// The best of several runs each; the sides take turns, so that both see the same machine.
-pub fn row(name: String, bytes: usize, ours: &mut dyn FnMut(), rust: &mut dyn FnMut()) -> Row {
-    let (mut a, mut b) = (f64::MAX, f64::MAX);
-    for _ in 0..RUNS {
-        a = a.min(time(ours));
-        b = b.min(time(rust));
+/// The best of several runs each; the sides take turns, so that all see the same machine.
+pub fn best<const SIDES: usize>(runs: usize, mut sides: [&mut dyn FnMut(); SIDES]) -> [f64; SIDES] {
+    let mut times = [f64::MAX; SIDES];
+    for _ in 0..runs {
+        for (least, side) in times.iter_mut().zip(&mut sides) {
+            *least = least.min(time(side));
+        }
     }
-    Row { name, bytes, ours: a, rust: b }
+    times
+}
+
+pub fn row(name: String, bytes: usize, ours: &mut dyn FnMut(), rust: &mut dyn FnMut()) -> Row {
+    let [ours, rust] = best(RUNS, [ours, rust]);
+    Row { name, bytes, ours, rust }
 }
 
 pub fn print(other: &str, rows: &[Row]) {

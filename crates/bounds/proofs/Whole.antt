@@ -91,7 +91,7 @@ kept (fifth k x) e = absurd (omega arith)
 kept (sixth k x) e = absurd (omega arith)
 kept (seventh k x) e = absurd (omega arith)
 
-fitting-given : (s out : Bytes) → fitting s out .given ≡ length s
+pub fitting-given : (s out : Bytes) → fitting s out .given ≡ length s
 unfolding fitting
 fitting-given s out = go (leb (length s) (length out))
   where

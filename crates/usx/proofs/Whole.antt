@@ -106,6 +106,9 @@ text-parts t =
     ∙ ap (λ (z : Bytes). opens ++ (z ++ ends)) (ap render (paired-emitted (firstState t) (eventsOf t)) ∙ render-append (emitted (firstState t) (eventsOf t)) (lastEnds (afterAll (firstState t) (eventsOf t))))
     ∙ ap (λ (z : Bytes). opens ++ z) (append-assoc (render (emitted (firstState t) (eventsOf t))) (render (lastEnds (afterAll (firstState t) (eventsOf t)))) ends)
 
+pub text-some : (t : Tape) → 0 < length (textOf t)
+text-some t = rw (text-parts t) (omega arith)
+
 -- the desk that a walk starts with
 abbrev atFirst : Tape → Bytes → Desk
 atFirst t out = record { page = record { at = 0; from = 0; buf = out }; state = firstState t }
