@@ -66,6 +66,18 @@ fn blanks(count: usize, size: usize) -> Vec<u8> {
     tape(&[block("p", inside)], &ENTRIES, false).file()
 }
 
+/// The same, all blank texts being one span of the source.
+fn shared(count: usize, size: usize) -> Vec<u8> {
+    let mut inside = vec![text("word"), text(&" ".repeat(size))];
+    inside.extend((1..count).map(|_| text("")));
+    let mut parts = tape(&[block("p", inside)], &ENTRIES, false);
+    let blank = parts.nodes[3];
+    for node in parts.nodes.iter_mut().skip(3).take(count) {
+        (node.start, node.length) = (blank.start, blank.length);
+    }
+    parts.file()
+}
+
 /// So many Errors in a marker, and as many behind it.
 fn errors(count: usize) -> Vec<u8> {
     let error = |_| single(ERROR, UNKNOWN, 0, "x");
@@ -143,9 +155,13 @@ pub fn print(tapes: &[String]) {
         let file = std::fs::read(name).unwrap_or_else(|e| panic!("{name}: {e}"));
         row(name.rsplit('/').next().unwrap_or(name), &file, 15);
     }
+    slow("a word, 200 blanks of one 8 KB span", &shared(200, 8_000));
     for count in [1_000, 2_000, 4_000] {
         slow(&format!("a word, {count} blank texts"), &blanks(count, 1));
         slow(&format!("{count} Errors, as many behind"), &errors(count));
+    }
+    for (count, size) in [(200, 8_000), (2_000, 32_000), (4_000, 32_000), (2_000, 64_000)] {
+        alone(&format!("a word, {count} blanks, a span of {size}"), &shared(count, size));
     }
     for count in [1_000, 2_000, 4_000, 64_000, 128_000] {
         alone(&format!("a word, {count} blank texts"), &blanks(count, 1));
