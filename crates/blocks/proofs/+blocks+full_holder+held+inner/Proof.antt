@@ -9,7 +9,7 @@ use Rattle.lists.specs.Span.{nodesIn}
 use Rattle.events.specs.Emit.{emitAll}
 use Rattle.events.proofs.Turns.{blocksAll}
 use Rattle.sink.specs.Desk.{deskIn}
-use Rattle.blocks.specs.Blocks.{below}
+use Rattle.blocks.specs.Blocks.{uncut, below}
 use Rattle.blocks.proofs.Steps.{inner-zero, inner-deep, held-whole, held-full, held-bare, blocks-done, blocks-ended, blocks-skipped, blocks-side, blocks-peri, blocks-turned}
 use borrow.Fn.Kinds.{In}
 use borrow.Fn.PlainCycle.{Measures, is, falls, and}
@@ -90,10 +90,10 @@ inner-calls t = (blocks-below t, blocks.Post)
 -- ---- blocks
 
 abbrev blocks-Inv-loop : blocks-lts.InvT-loop
-blocks-Inv-loop file tape depth span out₀ s₀ step₀ out s step = (emitAll (deskIn (tapeIn tape file .source) s out) (blocksAll (below (tapeIn tape file) depth) (tapeIn tape file) depth (nodesIn (tapeIn tape file) span step)) ≡ emitAll (deskIn (tapeIn tape file .source) s₀ out₀) (blocksAll (below (tapeIn tape file) depth) (tapeIn tape file) depth (nodesIn (tapeIn tape file) span step₀))) × (length out ≡ length out₀)
+blocks-Inv-loop file tape sifted depth out₀ span s₀ step₀ out s step = (emitAll (deskIn (tapeIn tape file .source) s out) (blocksAll (below (tapeIn tape file) depth) (tapeIn tape file) depth (nodesIn (tapeIn tape file) (uncut sifted) step)) ≡ emitAll (deskIn (tapeIn tape file .source) s₀ out₀) (blocksAll (below (tapeIn tape file) depth) (tapeIn tape file) depth (nodesIn (tapeIn tape file) (uncut sifted) step₀))) × (length out ≡ length out₀)
 
 abbrev blocks-μ-loop : blocks-lts.MeasureT-loop
-blocks-μ-loop file tape depth span out₀ s₀ step₀ out s step = left (tapeIn tape file) step
+blocks-μ-loop file tape sifted depth out₀ span s₀ step₀ out s step = left (tapeIn tape file) step
 
 blocks-loop-holds : (t : ℕ) → blocks-lts.Need-loop-holds (blocks-calls t) (blocks-at t) blocks.Post blocks-Inv-loop blocks-μ-loop
 blocks-loop-holds t c = (refl, refl)
