@@ -204,8 +204,13 @@ fn anchor_turn(
     ensures { λ r. ⌜ KeptAt (tapeIn tape (now (file .entry))) (r .next) (r .kept) ⌝ }
     ensures { λ r. ⌜ left (tapeIn tape (now (file .entry))) (r .next) < left (tapeIn tape (now (file .entry))) (At c) ⌝ }
 {
-    let behind = c.next_sibling(file, tape);
-    let f = fold_in(file, tape, span, Kind::new(Kind::VERSE), behind);
+    let f = fold_in(
+        file,
+        tape,
+        span,
+        Kind::new(Kind::VERSE),
+        c.next_sibling(file, tape),
+    );
     let alt = f.alt;
     let published = f.published;
     let next = f.rest;
