@@ -34,7 +34,7 @@ fn rooms(length: usize) -> Vec<usize> {
 }
 
 /// The number and the length that a call with a buffer of this length gives, and what it writes.
-fn call(answer: &Answer, room: usize) -> (u8, usize, &str) {
+pub fn call(answer: &Answer, room: usize) -> (u8, usize, &str) {
     match answer {
         Answer::Written(text) if text.len() <= room => (0, text.len(), text),
         Answer::Written(text) => (8, text.len(), ""),

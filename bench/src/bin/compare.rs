@@ -8,6 +8,7 @@
 mod api;
 
 use oracle::answer::{answer_or_panic, read_tape, Answer};
+use oracle::replay::call;
 use std::io::{self, BufReader};
 use std::process::ExitCode;
 
@@ -38,15 +39,9 @@ fn rooms(length: usize, tape: usize) -> Vec<usize> {
 /// The number, the length given and the buffer that document 01 asks for.
 fn expected(answer: &Answer, room: usize) -> (u8, usize, Vec<u8>) {
     let mut buffer: Vec<u8> = (0..room).map(before).collect();
-    let text = answer.text().as_bytes();
-    match answer.number() {
-        0 if text.len() <= room => {
-            buffer[..text.len()].copy_from_slice(text);
-            (0, text.len(), buffer)
-        }
-        0 => (8, text.len(), buffer),
-        number => (number, 0, buffer),
-    }
+    let (number, length, written) = call(answer, room);
+    buffer[..written.len()].copy_from_slice(written.as_bytes());
+    (number, length, buffer)
 }
 
 impl Count {
