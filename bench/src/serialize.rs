@@ -3,10 +3,10 @@
 use crate::api;
 use crate::measure::best;
 use oracle::loader;
-use oracle::tapes::{attribute, container, single, tape, text, Item, BLOCK_END, CHAPTER, CLOSE, ERROR, UNKNOWN, VERSE};
+use oracle::tapes::{attribute, container, single, tape, text, Item, BLOCK_END, CHAPTER, CLOSE, ERROR, TEXT, UNKNOWN, VERSE};
 
-const ENTRIES: [(&str, u8, u8); 9] =
-    [("id", 0, 0), ("c", 1, 0), ("v", 2, 0), ("p", 3, 0), ("w", 4, 0), ("nd", 4, 0), ("f", 5, 0), ("fr", 4, 0), ("ft", 4, 0)];
+const ENTRIES: [(&str, u8, u8); 11] =
+    [("id", 0, 0), ("c", 1, 0), ("v", 2, 0), ("p", 3, 0), ("w", 4, 0), ("nd", 4, 0), ("f", 5, 0), ("fr", 4, 0), ("ft", 4, 0), ("tr", 3, 3), ("tc1", 4, 0)];
 
 fn entry(name: &str) -> u16 {
     ENTRIES.iter().position(|e| e.0 == name).expect("an entry") as u16
@@ -66,16 +66,33 @@ fn blanks(count: usize, size: usize) -> Vec<u8> {
     tape(&[block("p", inside)], &ENTRIES, false).file()
 }
 
-/// The same, all blank texts being one span of the source.
-fn shared(count: usize, size: usize) -> Vec<u8> {
-    let mut inside = vec![text("word"), text(&" ".repeat(size))];
-    inside.extend((1..count).map(|_| text("")));
-    let mut parts = tape(&[block("p", inside)], &ENTRIES, false);
-    let blank = parts.nodes[3];
-    for node in parts.nodes.iter_mut().skip(3).take(count) {
+/// A tape whose empty texts all are the span of its first text, so many spaces.
+fn shared(items: &[Item], size: usize) -> Vec<u8> {
+    let first = block("p", vec![text(&" ".repeat(size))]);
+    let mut parts = tape(&[&[first], items].concat(), &ENTRIES, false);
+    let blank = parts.nodes[2];
+    for node in parts.nodes.iter_mut().filter(|n| n.kind == TEXT && n.length == 0) {
         (node.start, node.length) = (blank.start, blank.length);
     }
     parts.file()
+}
+
+/// A word and so many blank texts of one span.
+fn shared_run(count: usize, size: usize) -> Vec<u8> {
+    let blanks = (0..count).map(|_| text(""));
+    shared(&[block("p", [text("word")].into_iter().chain(blanks).collect())], size)
+}
+
+/// Paragraphs, chars, verses and cells, so many of each, with a blank of one span in each or behind it.
+fn shared_apart(count: usize, size: usize) -> Vec<u8> {
+    let paras = (0..count).map(|_| block("p", vec![text("")]));
+    let chars = (0..count).flat_map(|_| [span("nd", vec![text("")]), text("")]);
+    let verses = (0..count).flat_map(|n| [single(VERSE, entry("v"), 0, &format!("\\v {n}")), text("")]);
+    let cells = (0..count).map(|_| span("tc1", vec![text("")]));
+    let row = block("tr", cells.collect());
+    let mut items: Vec<Item> = paras.collect();
+    items.extend([block("p", chars.collect()), block("p", verses.collect()), row]);
+    shared(&items, size)
 }
 
 /// So many Errors in a marker, and as many behind it.
@@ -155,13 +172,16 @@ pub fn print(tapes: &[String]) {
         let file = std::fs::read(name).unwrap_or_else(|e| panic!("{name}: {e}"));
         row(name.rsplit('/').next().unwrap_or(name), &file, 15);
     }
-    slow("a word, 200 blanks of one 8 KB span", &shared(200, 8_000));
+    slow("a word, 200 blanks of one 8 KB span", &shared_run(200, 8_000));
     for count in [1_000, 2_000, 4_000] {
         slow(&format!("a word, {count} blank texts"), &blanks(count, 1));
         slow(&format!("{count} Errors, as many behind"), &errors(count));
     }
-    for (count, size) in [(200, 8_000), (2_000, 32_000), (4_000, 32_000), (2_000, 64_000)] {
-        alone(&format!("a word, {count} blanks, a span of {size}"), &shared(count, size));
+    for (count, size) in [(2_000, 32_000), (4_000, 32_000), (2_000, 64_000), (200_000, 4_000_000)] {
+        alone(&format!("a word, {count} blanks, a span of {size}"), &shared_run(count, size));
+    }
+    for (count, size) in [(500, 32_000), (1_000, 32_000), (500, 64_000), (20_000, 3_000_000)] {
+        alone(&format!("5 * {count} blanks apart, a span of {size}"), &shared_apart(count, size));
     }
     for count in [1_000, 2_000, 4_000, 64_000, 128_000] {
         alone(&format!("a word, {count} blank texts"), &blanks(count, 1));

@@ -14,7 +14,7 @@ use Rattle.parts.specs.Bytes.{Bytes, part}
 use Rattle.chars.specs.Utf8.{characters, isBoundary}
 use Rattle.words.specs.Words.{words}
 use Rattle.words.specs.declared.Set.the-variants.{Unicode}
-use Rattle.tape.specs.File.{sourceAt, tapeIn, nodeAt, textAt, infoAt, baseLen}
+use Rattle.tape.specs.File.{tapeIn, nodeAt, textAt, infoAt, baseLen}
 use Rattle.tape.specs.Name.{bare, nameLen, nameIn, markerName}
 use Rattle.tape.specs.declared.Node.{Node}
 use Rattle.tape.specs.declared.Sections.{Sections}
@@ -23,7 +23,7 @@ use Rattle.tape.proofs.NameRule.{name-of}
 use Rattle.places.specs.Seek.{Right, solidAt, toWord}
 use Rattle.places.specs.declared.Test.the-variants.{Ender, Gap}
 use Rattle.places.proofs.Runs.{name-le}
-use Rattle.places.proofs.Spans.{span-name, span-words, bare-span, bare-le, solid-bare}
+use Rattle.places.proofs.Spans.{source-short, span-name, span-words, bare-span, bare-le, solid-bare}
 use Rattle.nest.proofs.Tape.{no-is, yes-is, clash}
 use Rattle.admit.specs.Rules.{LabelCut}
 use Rattle.admit.specs.Pieces.{SoundNode, SoundNodes, GoodLabel, GoodVerse, GoodVerses, Tables}
@@ -225,14 +225,10 @@ module _ (c : Sections) (file : Bytes) where
   pub labels-clear : {b : Bool} → (b ≡ true → GoodVerses (tapeIn c file)) → b ≡ true → SoundNodes (tapeIn c file) → (true ≡ true) ↔ GoodVerses (tapeIn c file)
   labels-clear f e g = yes-is (f e)
 
-  source-short : c .source < 2 ^ 32 → length (tapeIn c file .source) < 2 ^ 32
-  unfolding tapeIn
-  source-short h = omega (arith, length-take (c .source) (drop (sourceAt c) file))
-
   pub labels-judged : {s : Bytes} {enders gaps : List ℕ} {r : Bool} → c .source < 2 ^ 32 → s ≡ tapeIn c file .source → (length s < 2 ^ 32 → Right Ender s enders)
       → (length s < 2 ^ 32 → Right Gap s gaps)
       → (Tables (tapeIn c file .source) enders gaps → SoundNodes (tapeIn c file) → (r ≡ true) ↔ GoodVerses (tapeIn c file))
       → SoundNodes (tapeIn c file) → (r ≡ true) ↔ GoodVerses (tapeIn c file)
   labels-judged l es fe fg f g =
-      let h = source-short l in
+      let h = source-short c file l in
       f (record { names = rw es at (fe (rw es h)); words = rw es at (fg (rw es h)) }) g

@@ -7,6 +7,7 @@ ghost use Rattle.parts.specs.Bytes.{Bytes, b};
 ghost use Rattle.window.specs.Page.{pageOf, paint};
 ghost use Rattle.tape.specs.File.{tapeIn};
 ghost use Rattle.tape.specs.Tree.{left, nextSibling, firstChild};
+ghost use Rattle.lean.specs.Lean.{Solids};
 ghost use Rattle.tags.specs.Names.{nameOf};
 ghost use Rattle.tape.specs.declared.Step.the-variants.{At};
 ghost use Rattle.render.specs.First.{any};
@@ -79,18 +80,21 @@ fn holder_of(file: &[u8], tape: Sections, c: Cursor) -> Holder
 fn chapter(
     file: &[u8],
     tape: Sections,
+    solids: &[u32],
     span: Span,
     c: Cursor,
     depth: usize,
     sink: Sink,
     out: &mut [u8],
 ) -> Going
+    requires { ⌜ Solids (tapeIn tape (now file)) (now solids) ⌝ }
     ensures { λ r. ⌜ ((B : List ℕ → List Event) → emitAll (deskIn (tapeIn tape (now (file .entry)) .source) (r .sink) (now (out .exit))) (blocksAll B (tapeIn tape (now (file .entry))) depth (nodesIn (tapeIn tape (now (file .entry))) span (r .next))) ≡ emitAll (deskIn (tapeIn tape (now (file .entry)) .source) sink (now (out .entry))) (blocksOn B (tapeIn tape (now (file .entry))) depth (c .at) (nodesIn (tapeIn tape (now (file .entry))) span (nextSibling (tapeIn tape (now (file .entry))) (c .at))) aChapter)) ⌝ }
     ensures { λ r. ⌜ left (tapeIn tape (now (file .entry))) (r .next) < left (tapeIn tape (now (file .entry))) (At c) ⌝ }
 {
     let f = fold_in(
         file,
         tape,
+        solids,
         span,
         Kind::new(Kind::CHAPTER),
         c.next_sibling(file, tape),
@@ -115,17 +119,19 @@ fn open_run(level: usize, sink: Sink, out: &mut [u8]) -> Sink
 fn verse_para(
     file: &[u8],
     tape: Sections,
+    solids: &[u32],
     sifted: bool,
     c: Cursor,
     depth: usize,
     sink: Sink,
     out: &mut [u8],
 ) -> Sink
+    requires { ⌜ Solids (tapeIn tape (now file)) (now solids) ⌝ }
     ensures { λ r. ⌜ (memberOf (tapeIn tape (now (file .entry))) (uncut sifted) (c .at) ≡ Listed → isTopLevelBlock (tapeIn tape (now (file .entry))) (c .at) ≡ false → deskIn (tapeIn tape (now (file .entry)) .source) r (now (out .exit)) ≡ emitAll (deskIn (tapeIn tape (now (file .entry)) .source) sink (now (out .entry))) (runIn (tapeIn tape (now (file .entry))) depth (c .at) (nodesIn (tapeIn tape (now (file .entry))) (uncut sifted) (nextSibling (tapeIn tape (now (file .entry))) (c .at))))) ⌝ }
 {
     let run = Span { cut: true, sifted };
     let a = open_run(level_of(depth), sink, out);
-    let e = inline::inline(file, tape, run, Step::At(c), depth, false, a, out);
+    let e = inline::inline(file, tape, solids, run, Step::At(c), depth, false, a, out);
     literal(e, out, b"</para>")
 }
 
@@ -133,17 +139,19 @@ fn verse_para(
 fn verse_run(
     file: &[u8],
     tape: Sections,
+    solids: &[u32],
     sifted: bool,
     c: Cursor,
     depth: usize,
     sink: Sink,
     out: &mut [u8],
 ) -> Going
+    requires { ⌜ Solids (tapeIn tape (now file)) (now solids) ⌝ }
     ensures { λ r. ⌜ (memberOf (tapeIn tape (now (file .entry))) (uncut sifted) (c .at) ≡ Listed → isTopLevelBlock (tapeIn tape (now (file .entry))) (c .at) ≡ false → (B : List ℕ → List Event) → emitAll (deskIn (tapeIn tape (now (file .entry)) .source) (r .sink) (now (out .exit))) (blocksAll B (tapeIn tape (now (file .entry))) depth (nodesIn (tapeIn tape (now (file .entry))) (uncut sifted) (r .next))) ≡ emitAll (deskIn (tapeIn tape (now (file .entry)) .source) sink (now (out .entry))) (blocksOn B (tapeIn tape (now (file .entry))) depth (c .at) (nodesIn (tapeIn tape (now (file .entry))) (uncut sifted) (nextSibling (tapeIn tape (now (file .entry))) (c .at))) aVerse)) ⌝ }
     ensures { λ r. ⌜ left (tapeIn tape (now (file .entry))) (r .next) < left (tapeIn tape (now (file .entry))) (At c) ⌝ }
 {
     let span = Span { cut: false, sifted };
-    let s = verse_para(file, tape, sifted, c, depth, sink, out);
+    let s = verse_para(file, tape, solids, sifted, c, depth, sink, out);
     let next = past_run(file, tape, span, Stop::Block, c.next_sibling(file, tape));
     Going { sink: s, next }
 }
@@ -152,18 +160,20 @@ fn verse_run(
 fn block(
     file: &[u8],
     tape: Sections,
+    solids: &[u32],
     span: Span,
     c: Cursor,
     depth: usize,
     sink: Sink,
     out: &mut [u8],
 ) -> Going
+    requires { ⌜ Solids (tapeIn tape (now file)) (now solids) ⌝ }
     ensures { λ r. ⌜ ((B : List ℕ → List Event) → emitAll (deskIn (tapeIn tape (now (file .entry)) .source) (r .sink) (now (out .exit))) (blocksAll B (tapeIn tape (now (file .entry))) depth (nodesIn (tapeIn tape (now (file .entry))) span (r .next))) ≡ emitAll (deskIn (tapeIn tape (now (file .entry)) .source) sink (now (out .entry))) (blocksOn B (tapeIn tape (now (file .entry))) depth (c .at) (nodesIn (tapeIn tape (now (file .entry))) span (nextSibling (tapeIn tape (now (file .entry))) (c .at))) aBlock)) ⌝ }
     ensures { λ r. ⌜ left (tapeIn tape (now (file .entry))) (r .next) < left (tapeIn tape (now (file .entry))) (At c) ⌝ }
 {
     let a = line(sink, out, level_of(depth));
     Going {
-        sink: inline::node(file, tape, c, depth, false, a, out),
+        sink: inline::node(file, tape, solids, c, depth, false, a, out),
         next: c.next_sibling(file, tape),
     }
 }
@@ -172,31 +182,33 @@ fn block(
 fn block_turn(
     file: &[u8],
     tape: Sections,
+    solids: &[u32],
     sifted: bool,
     c: Cursor,
     depth: usize,
     sink: Sink,
     out: &mut [u8],
 ) -> Going
+    requires { ⌜ Solids (tapeIn tape (now file)) (now solids) ⌝ }
     ensures { λ r. ⌜ (memberOf (tapeIn tape (now (file .entry))) (uncut sifted) (c .at) ≡ Listed → holderOf (tapeIn tape (now (file .entry))) (c .at) ≡ Holder.Neither → (B : List ℕ → List Event) → emitAll (deskIn (tapeIn tape (now (file .entry)) .source) (r .sink) (now (out .exit))) (blocksAll B (tapeIn tape (now (file .entry))) depth (nodesIn (tapeIn tape (now (file .entry))) (uncut sifted) (r .next))) ≡ emitAll (deskIn (tapeIn tape (now (file .entry)) .source) sink (now (out .entry))) (blocksAll B (tapeIn tape (now (file .entry))) depth (nodesIn (tapeIn tape (now (file .entry))) (uncut sifted) (At c)))) ⌝ }
     ensures { λ r. ⌜ left (tapeIn tape (now (file .entry))) (r .next) < left (tapeIn tape (now (file .entry))) (At c) ⌝ }
 {
     let span = Span { cut: false, sifted };
     if render::is_row(file, tape, c) {
         return Going {
-            sink: tables::table(file, tape, span, Step::At(c), depth, sink, out),
+            sink: tables::table(file, tape, solids, span, Step::At(c), depth, sink, out),
             next: past_run(file, tape, span, Stop::NoRow, c.next_sibling(file, tape)),
         };
     }
     let kind = c.kind(file, tape);
     if kind.code == Kind::CHAPTER {
-        return chapter(file, tape, span, c, depth, sink, out);
+        return chapter(file, tape, solids, span, c, depth, sink, out);
     }
     if render::is_top_level_block(file, tape, c) {
-        return block(file, tape, span, c, depth, sink, out);
+        return block(file, tape, solids, span, c, depth, sink, out);
     }
     if kind.code == Kind::VERSE {
-        return verse_run(file, tape, sifted, c, depth, sink, out);
+        return verse_run(file, tape, solids, sifted, c, depth, sink, out);
     }
     Going {
         sink,
@@ -335,18 +347,21 @@ fn close_holder(level: usize, sidebar: bool, sink: Sink, out: &mut [u8]) -> Sink
 fn full_holder(
     file: &[u8],
     tape: Sections,
+    solids: &[u32],
     c: Cursor,
     sidebar: bool,
     depth: usize,
     sink: Sink,
     out: &mut [u8],
 ) -> Sink
+    requires { ⌜ Solids (tapeIn tape (now file)) (now solids) ⌝ }
     ensures { λ r. ⌜ deskIn (tapeIn tape (now (file .entry)) .source) r (now (out .exit)) ≡ emitAll (deskIn (tapeIn tape (now (file .entry)) .source) sink (now (out .entry))) (item (start (elementNo sidebar) (attrsOf (tapeIn tape (now (file .entry))) (c .at) sidebar)) ∷ (below (tapeIn tape (now (file .entry))) depth (nodesIn (tapeIn tape (now (file .entry))) (uncut sidebar) (firstChild (tapeIn tape (now (file .entry))) (c .at))) ++ (item (lineItem (levelOf depth)) ∷ item (close (elementNo sidebar)) ∷ []))) ⌝ }
 {
     let d = open_holder(file, tape, c, sidebar, sink, out);
     let e = inner(
         file,
         tape,
+        solids,
         sidebar,
         c.first_child(file, tape),
         depth,
@@ -360,12 +375,14 @@ fn full_holder(
 fn held(
     file: &[u8],
     tape: Sections,
+    solids: &[u32],
     c: Cursor,
     sidebar: bool,
     depth: usize,
     sink: Sink,
     out: &mut [u8],
 ) -> Sink
+    requires { ⌜ Solids (tapeIn tape (now file)) (now solids) ⌝ }
     ensures { λ r. ⌜ deskIn (tapeIn tape (now (file .entry)) .source) r (now (out .exit)) ≡ emitAll (deskIn (tapeIn tape (now (file .entry)) .source) sink (now (out .entry))) (item (lineItem (levelOf depth)) ∷ holderIn (tapeIn tape (now (file .entry))) depth (levelOf depth) sidebar (c .at)) ⌝ }
 {
     let span = Span {
@@ -374,7 +391,7 @@ fn held(
     };
     let a = line(sink, out, level_of(depth));
     if has_block(file, tape, span, c.first_child(file, tape)) {
-        full_holder(file, tape, c, sidebar, depth, a, out)
+        full_holder(file, tape, solids, c, sidebar, depth, a, out)
     } else {
         empty_holder(file, tape, c, sidebar, a, out)
     }
@@ -384,30 +401,34 @@ fn held(
 fn inner(
     file: &[u8],
     tape: Sections,
+    solids: &[u32],
     sifted: bool,
     first: Step,
     depth: usize,
     sink: Sink,
     out: &mut [u8],
 ) -> Sink
+    requires { ⌜ Solids (tapeIn tape (now file)) (now solids) ⌝ }
     ensures { λ r. ⌜ deskIn (tapeIn tape (now (file .entry)) .source) r (now (out .exit)) ≡ emitAll (deskIn (tapeIn tape (now (file .entry)) .source) sink (now (out .entry))) (below (tapeIn tape (now (file .entry))) depth (nodesIn (tapeIn tape (now (file .entry))) (uncut sifted) first)) ⌝ }
 {
     if depth == 0 {
         return sink;
     }
-    blocks(file, tape, sifted, first, depth - 1, sink, out)
+    blocks(file, tape, solids, sifted, first, depth - 1, sink, out)
 }
 
 // A list of blocks.
 pub fn blocks(
     file: &[u8],
     tape: Sections,
+    solids: &[u32],
     sifted: bool,
     first: Step,
     depth: usize,
     sink: Sink,
     out: &mut [u8],
 ) -> Sink
+    requires { ⌜ Solids (tapeIn tape (now file)) (now solids) ⌝ }
     ensures { λ r. ⌜ deskIn (tapeIn tape (now (file .entry)) .source) r (now (out .exit)) ≡ emitAll (deskIn (tapeIn tape (now (file .entry)) .source) sink (now (out .entry))) (blocksE (tapeIn tape (now (file .entry))) depth (nodesIn (tapeIn tape (now (file .entry))) (uncut sifted) first)) ⌝ }
 {
     let span = Span { cut: false, sifted };
@@ -423,15 +444,15 @@ pub fn blocks(
                 }
                 Member::Listed => match holder_of(file, tape, c) {
                     Holder::Sidebar => {
-                        s = held(file, tape, c, true, depth, s, out);
+                        s = held(file, tape, solids, c, true, depth, s, out);
                         step = c.next_sibling(file, tape);
                     }
                     Holder::Periph => {
-                        s = held(file, tape, c, false, depth, s, out);
+                        s = held(file, tape, solids, c, false, depth, s, out);
                         step = c.next_sibling(file, tape);
                     }
                     Holder::Neither => {
-                        let g = block_turn(file, tape, sifted, c, depth, s, out);
+                        let g = block_turn(file, tape, solids, sifted, c, depth, s, out);
                         s = g.sink;
                         step = g.next;
                     }

@@ -2,7 +2,7 @@
 use mathlib.Core.Path.{_≡_, refl, sym, ap, _∙_}
 use mathlib.Core.Bool.{Bool, true, false, _&&_, _||_, or-true, or-false}
 use mathlib.Core.List.{List, [], _∷_, _++_, flatten, append-nil}
-use Prim.Native.Nat.{ℕ, suc, _+_, _-_, _≤_, _<_, min, max}
+use Prim.Native.Nat.{ℕ, suc, _+_, _-_, _≤_, _<_, max}
 use native.Mathlib.Omega.{arith}
 use lib.ListN.{length, take, drop, length-append, length-drop, length-take}
 use lib.Seq.{take-take}
@@ -12,10 +12,12 @@ use Rattle.parts.specs.Bytes.{Bytes, part}
 use Rattle.parts.proofs.Laws.{part-past}
 use Rattle.chars.specs.Utf8.{cutAt}
 use Rattle.chars.specs.Space.{isAsciiWhite}
-use Rattle.words.specs.Words.{stepOf, charsOf, white, solid, takeWhile, onto, pieces, nonempty, words, joined, whiteLen, wordLen, trimStart, bytesOf}
+use Rattle.words.specs.Words.{charsOf, white, solid, takeWhile, onto, pieces, nonempty, words, joined, whiteLen, wordLen, trimStart, bytesOf}
 use Rattle.words.specs.declared.Set.the-variants.{Ascii}
 use Rattle.words.specs.declared.Part.{Part}
 use Rattle.words.proofs.Texts.{white-le, word-le, trim-start-drop, word-none}
+use Rattle.texts.proofs.Breaks.{ascii-chars}
+use Rattle.texts.proofs.Edges.{white-more, white-ends}
 use Rattle.tape.specs.File.{Tape, nodeAt, kindAt, textAt}
 use Rattle.tape.specs.Tree.{firstChild, nextSibling, walkFrom}
 use Rattle.tape.specs.declared.Node.{Node}
@@ -30,12 +32,6 @@ use Rattle.fold.specs.declared.Run.the-variants.{Word, White}
 use Rattle.fold.specs.declared.Number.{Number}
 use Rattle.fold.specs.declared.Piece.{Piece}
 use Rattle.fold.specs.declared.Piece.the-variants.{Some, Done as PieceDone}
-
--- ---- bytes as characters
-
-chars-cons : (x : ℕ) (s : Bytes) → charsOf Ascii (x ∷ s) ≡ (x ∷ []) ∷ charsOf Ascii s
-unfolding charsOf cutAt stepOf
-chars-cons x s = let one : min 1 (suc (length s)) ≡ 1 = omega arith in rw one
 
 -- ---- collapsing byte by byte is joining the words
 
@@ -74,11 +70,11 @@ cutUp s = pieces (white Ascii) (charsOf Ascii s)
 module _ (x : ℕ) (s : Bytes) where
   cut-white : isAsciiWhite x ≡ true → cutUp (x ∷ s) ≡ [] ∷ cutUp s
   unfolding pieces white
-  cut-white e = rw (chars-cons x s, e)
+  cut-white e = rw (ascii-chars x s, e)
 
   cut-solid : isAsciiWhite x ≡ false → cutUp (x ∷ s) ≡ onto (x ∷ []) (cutUp s)
   unfolding pieces white
-  cut-solid e = rw (chars-cons x s, e)
+  cut-solid e = rw (ascii-chars x s, e)
 
   module _ (begun gap : Bool) where
     past-white : isAsciiWhite x ≡ true → collapse begun gap (x ∷ s) ≡ collapse begun true s
@@ -142,21 +138,13 @@ collapse-words s = collapsed s .before false
 -- ---- runs at the front of a text, with more behind it
 
 module _ (x : ℕ) (s : Bytes) where
-  white-more : isAsciiWhite x ≡ true → whiteLen Ascii (x ∷ s) ≡ suc (whiteLen Ascii s)
-  unfolding whiteLen takeWhile white flatten
-  white-more e = rw (chars-cons x s, e)
-
-  white-ends : isAsciiWhite x ≡ false → whiteLen Ascii (x ∷ s) ≡ 0
-  unfolding whiteLen takeWhile white flatten
-  white-ends e = rw (chars-cons x s, e)
-
   word-more : isAsciiWhite x ≡ false → wordLen Ascii (x ∷ s) ≡ suc (wordLen Ascii s)
   unfolding wordLen takeWhile solid white flatten
-  word-more e = rw (chars-cons x s, e)
+  word-more e = rw (ascii-chars x s, e)
 
   word-ends : isAsciiWhite x ≡ true → wordLen Ascii (x ∷ s) ≡ 0
   unfolding wordLen takeWhile solid white flatten
-  word-ends e = rw (chars-cons x s, e)
+  word-ends e = rw (ascii-chars x s, e)
 
 shut : (z : Bytes) → spaceIf (true && false) ++ z ≡ z
 unfolding spaceIf

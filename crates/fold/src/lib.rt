@@ -12,6 +12,7 @@ ghost use mathlib.Core.List.{_++_};
 ghost use Rattle.parts.specs.Bytes.{Bytes};
 ghost use Rattle.words.specs.Words.{bytesOf};
 ghost use Rattle.tape.specs.File.{tapeIn};
+ghost use Rattle.lean.specs.Lean.{Solids};
 ghost use Rattle.fold.specs.Fold.{slotBy, slotOf, free as freeOf, claimOf, textOf, numberIn};
 ghost use Rattle.fold.specs.Number.{collapse, runList, toCome, pieceList, wordSome, pieceSome};
 
@@ -64,14 +65,16 @@ fn free(claim: Claim, alt: bool, published: bool) -> Claim
 pub fn claims(
     file: &[u8],
     tape: Sections,
+    solids: &[u32],
     c: Cursor,
     anchor: Kind,
     alt: bool,
     published: bool,
 ) -> Claim
+    requires { ⌜ Solids (tapeIn tape (now file)) (now solids) ⌝ }
     ensures { λ r. ⌜ r ≡ claimOf (tapeIn tape (now (file .entry))) (anchor .code) alt published (c .at) ⌝ }
 {
-    if render::is_blank(file, tape, c) {
+    if render::is_blank(file, tape, solids, c) {
         return Claim::Blank;
     }
     if c.kind(file, tape).code != Kind::MARKER_OPEN {

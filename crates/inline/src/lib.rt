@@ -4,6 +4,7 @@ ghost use mathlib.Core.Bool.{true};
 ghost use Prim.Native.Nat.{_+_};
 ghost use Rattle.tape.specs.File.{tapeIn};
 ghost use Rattle.tape.specs.Tree.{walkFrom};
+ghost use Rattle.lean.specs.Lean.{Solids};
 ghost use Rattle.events.specs.Walk.{roleOf, markerAs, nodeIn, inside as insideOf, inlineAll, noteAll};
 ghost use Rattle.events.specs.Emit.{emitAll};
 ghost use Rattle.sink.specs.Desk.{deskIn};
@@ -25,19 +26,31 @@ use turns::sort_in;
 fn marker(
     file: &[u8],
     tape: Sections,
+    solids: &[u32],
     c: Cursor,
     depth: usize,
     outer: bool,
     sink: Sink,
     out: &mut [u8],
 ) -> Sink
+    requires { ⌜ Solids (tapeIn tape (now file)) (now solids) ⌝ }
     ensures { λ r. ⌜ deskIn (tapeIn tape (now (file .entry)) .source) r (now (out .exit)) ≡ emitAll (deskIn (tapeIn tape (now (file .entry)) .source) sink (now (out .entry))) (markerAs (insideOf (tapeIn tape (now (file .entry))) depth) (tapeIn tape (now (file .entry))) (c .at) outer (roleOf (tapeIn tape (now (file .entry))) (c .at))) ⌝ }
 {
     let role = roles::role_of(file, tape, c);
     if roles::is_whole(file, tape, c, role) {
-        let a = tagging::open_marker(file, tape, c, role, sink, out);
-        let z = inside(file, tape, c, depth, outer, roles::is_note(role), a, out);
-        tagging::close_marker(file, tape, c, role, z, out)
+        let a = tagging::open_marker(file, tape, solids, c, role, sink, out);
+        let z = inside(
+            file,
+            tape,
+            solids,
+            c,
+            depth,
+            outer,
+            roles::is_note(role),
+            a,
+            out,
+        );
+        tagging::close_marker(file, tape, solids, c, role, z, out)
     } else {
         tagging::write_leaf(file, tape, c, role, sink, out)
     }
@@ -47,12 +60,14 @@ fn marker(
 pub fn node(
     file: &[u8],
     tape: Sections,
+    solids: &[u32],
     c: Cursor,
     depth: usize,
     outer: bool,
     sink: Sink,
     out: &mut [u8],
 ) -> Sink
+    requires { ⌜ Solids (tapeIn tape (now file)) (now solids) ⌝ }
     ensures { λ r. ⌜ deskIn (tapeIn tape (now (file .entry)) .source) r (now (out .exit)) ≡ emitAll (deskIn (tapeIn tape (now (file .entry)) .source) sink (now (out .entry))) (nodeIn (insideOf (tapeIn tape (now (file .entry))) depth) (tapeIn tape (now (file .entry))) (c .at) outer) ⌝ }
 {
     let kind = c.kind(file, tape);
@@ -71,7 +86,7 @@ pub fn node(
         return milestone::verse(file, tape, c, Step::Done, Step::Done, sink, out);
     }
     if kind.code == Kind::MARKER_OPEN {
-        return marker(file, tape, c, depth, outer, sink, out);
+        return marker(file, tape, solids, c, depth, outer, sink, out);
     }
     sink
 }
@@ -80,6 +95,7 @@ pub fn node(
 pub fn inside(
     file: &[u8],
     tape: Sections,
+    solids: &[u32],
     c: Cursor,
     depth: usize,
     outer: bool,
@@ -87,21 +103,32 @@ pub fn inside(
     sink: Sink,
     out: &mut [u8],
 ) -> Sink
+    requires { ⌜ Solids (tapeIn tape (now file)) (now solids) ⌝ }
     ensures { λ r. ⌜ deskIn (tapeIn tape (now (file .entry)) .source) r (now (out .exit)) ≡ emitAll (deskIn (tapeIn tape (now (file .entry)) .source) sink (now (out .entry))) (insideOf (tapeIn tape (now (file .entry))) depth (mannerBy note) (c .at) outer) ⌝ }
 {
     if depth == 0 {
         return sink;
     }
-    let behind = render::followed(file, tape, c, outer);
+    let behind = render::followed(file, tape, solids, c, outer);
     let first = c.first_child(file, tape);
     if note {
-        note_inline(file, tape, c, first, depth - 1, behind, sink, out)
+        note_inline(file, tape, solids, c, first, depth - 1, behind, sink, out)
     } else {
         let span = Span {
             cut: false,
             sifted: false,
         };
-        inline(file, tape, span, first, depth - 1, behind, sink, out)
+        inline(
+            file,
+            tape,
+            solids,
+            span,
+            first,
+            depth - 1,
+            behind,
+            sink,
+            out,
+        )
     }
 }
 
@@ -109,6 +136,7 @@ pub fn inside(
 pub fn inline(
     file: &[u8],
     tape: Sections,
+    solids: &[u32],
     span: Span,
     first: Step,
     depth: usize,
@@ -116,6 +144,7 @@ pub fn inline(
     sink: Sink,
     out: &mut [u8],
 ) -> Sink
+    requires { ⌜ Solids (tapeIn tape (now file)) (now solids) ⌝ }
     ensures { λ r. ⌜ deskIn (tapeIn tape (now (file .entry)) .source) r (now (out .exit)) ≡ emitAll (deskIn (tapeIn tape (now (file .entry)) .source) sink (now (out .entry))) (inlineAll (nodeIn (insideOf (tapeIn tape (now (file .entry))) depth) (tapeIn tape (now (file .entry)))) (tapeIn tape (now (file .entry))) behind true (nodesIn (tapeIn tape (now (file .entry))) span first)) ⌝ }
 {
     let mut s = sink;
@@ -128,13 +157,25 @@ pub fn inline(
             Step::At(c) => match sort_in(file, tape, span, c) {
                 Sort::End => return s,
                 Sort::Enter => {
-                    s = node(file, tape, c, depth, behind, s, out);
+                    s = node(file, tape, solids, c, depth, behind, s, out);
                     trim = render::trims_after(file, tape, c);
                     step = c.next_sibling(file, tape);
                     kept = step;
                 }
                 Sort::Plain(child) => {
-                    let g = plain_turn(file, tape, span, c, child, trim, behind, kept, s, out);
+                    let g = plain_turn(
+                        file,
+                        tape,
+                        solids,
+                        span,
+                        c,
+                        child,
+                        trim,
+                        behind,
+                        kept,
+                        s,
+                        out,
+                    );
                     s = g.sink;
                     trim = g.trim;
                     kept = g.kept;
@@ -149,6 +190,7 @@ pub fn inline(
 fn note_inline(
     file: &[u8],
     tape: Sections,
+    solids: &[u32],
     parent: Cursor,
     first: Step,
     depth: usize,
@@ -156,6 +198,7 @@ fn note_inline(
     sink: Sink,
     out: &mut [u8],
 ) -> Sink
+    requires { ⌜ Solids (tapeIn tape (now file)) (now solids) ⌝ }
     ensures { λ r. ⌜ deskIn (tapeIn tape (now (file .entry)) .source) r (now (out .exit)) ≡ emitAll (deskIn (tapeIn tape (now (file .entry)) .source) sink (now (out .entry))) (noteAll (nodeIn (insideOf (tapeIn tape (now (file .entry))) depth) (tapeIn tape (now (file .entry)))) (tapeIn tape (now (file .entry))) (parent .at + 1) behind true (walkFrom (tapeIn tape (now (file .entry))) first)) ⌝ }
 {
     let mut s = sink;
@@ -168,13 +211,25 @@ fn note_inline(
             Step::At(c) => match note_sort(file, tape, c) {
                 Sort::End => return s,
                 Sort::Enter => {
-                    s = node(file, tape, c, depth, behind, s, out);
+                    s = node(file, tape, solids, c, depth, behind, s, out);
                     trim = render::trims_after(file, tape, c);
                     step = c.next_sibling(file, tape);
                     kept = step;
                 }
                 Sort::Plain(child) => {
-                    let g = note_turn(file, tape, parent, c, child, trim, behind, kept, s, out);
+                    let g = note_turn(
+                        file,
+                        tape,
+                        solids,
+                        parent,
+                        c,
+                        child,
+                        trim,
+                        behind,
+                        kept,
+                        s,
+                        out,
+                    );
                     s = g.sink;
                     trim = g.trim;
                     kept = g.kept;

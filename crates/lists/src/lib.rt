@@ -5,6 +5,7 @@ ghost use Prim.Native.Nat.{_≤_};
 ghost use Rattle.render.specs.Shape.{isCategoryMarker, isTopLevelBlock};
 ghost use Rattle.tape.specs.File.{tapeIn};
 ghost use Rattle.tape.specs.Tree.{left, fromFirst};
+ghost use Rattle.lean.specs.Lean.{Solids};
 ghost use Rattle.fold.specs.Fold.{foldAt};
 ghost use Rattle.lists.specs.Span.{nodesIn, memberOf, foldedIn, stopsAt};
 use fold::Claim;
@@ -108,7 +109,15 @@ pub fn past_run(file: &[u8], tape: Sections, span: Span, stop: Stop, first: Step
 }
 
 // Both numbers of an anchor, from the list behind it, and where that list goes on.
-pub fn fold_in(file: &[u8], tape: Sections, span: Span, kind: Kind, first: Step) -> Folds
+pub fn fold_in(
+    file: &[u8],
+    tape: Sections,
+    solids: &[u32],
+    span: Span,
+    kind: Kind,
+    first: Step,
+) -> Folds
+    requires { ⌜ Solids (tapeIn tape (now file)) (now solids) ⌝ }
     ensures { λ r. ⌜ foldedIn (tapeIn tape (now (file .entry))) span r ≡ foldAt (tapeIn tape (now (file .entry))) (kind .code) (nodesIn (tapeIn tape (now (file .entry))) span first) ⌝ }
     ensures { λ r. ⌜ left (tapeIn tape (now (file .entry))) (r .rest) ≤ left (tapeIn tape (now (file .entry))) first ⌝ }
 {
@@ -134,6 +143,7 @@ pub fn fold_in(file: &[u8], tape: Sections, span: Span, kind: Kind, first: Step)
                 Member::Listed => match fold::claims(
                     file,
                     tape,
+                    solids,
                     c,
                     kind,
                     is_at(alt),

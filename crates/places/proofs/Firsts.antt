@@ -12,14 +12,14 @@ use Rattle.parts.specs.Bytes.{Bytes, firstAt}
 use Rattle.parts.proofs.Laws.{first-le}
 use Rattle.chars.specs.Range.{within, inAny}
 use Rattle.chars.specs.Utf8.{fits, rowLen, table37, seqLen, step, isSequence, point, codeOf, firstChar}
-use Rattle.chars.specs.Space.{isWhite, whiteSpace}
+use Rattle.chars.specs.Space.{isWhite, isAsciiWhite, whiteSpace}
 use Rattle.chars.specs.declared.Char.{Char}
 use Rattle.chars.proofs.Characters.{step-le}
 use Rattle.words.specs.Words.{white}
 use Rattle.tape.specs.Name.{endsName}
-use Rattle.places.specs.Seek.{endsAt, whiteAt, solidAt, gapAt, passesAt, nextFrom, Sought, Dull}
+use Rattle.places.specs.Seek.{endsAt, whiteAt, solidAt, gapAt, solidByte, passesAt, nextFrom, Sought, Dull}
 use Rattle.places.specs.declared.Test.{Test}
-use Rattle.places.specs.declared.Test.the-variants.{Ender, Gap}
+use Rattle.places.specs.declared.Test.the-variants.{Ender, Gap, Solid}
 use Rattle.places.proofs.Dulls.{dull-first, ends-white-not}
 
 -- ---- tests
@@ -42,25 +42,32 @@ ends-none : false ≡ endsAt []
 unfolding endsAt endsName step codeOf isSequence seqLen rowLen table37 fits point isWhite whiteSpace inAny within
 ends-none = refl
 
-pub dull-passes : (test : Test) (u : Bytes) → 0 < length u → Dull (getD u 0 0) → passesAt test u ≡ false
-unfolding passesAt endsAt gapAt
-dull-passes Ender u h d = dull-first u (λ e. omega arith) d
-dull-passes Gap u h d = let w : whiteAt u ≡ false = sym (code-white u) ∙ ends-white-not (codeOf (take (step u) u)) (dull-first u (λ e. omega arith) d) in rw w
+-- a test of characters: no dull byte passes it
+abbrev pub OfChars : Test → Type 0
+OfChars test = (u : Bytes) → 0 < length u → Dull (getD u 0 0) → passesAt test u ≡ false
+
+pub ender-chars : OfChars Ender
+unfolding passesAt endsAt
+ender-chars u h d = dull-first u (λ e. omega arith) d
+
+pub gap-chars : OfChars Gap
+unfolding passesAt gapAt
+gap-chars u h d = let w : whiteAt u ≡ false = sym (code-white u) ∙ ends-white-not (codeOf (take (step u) u)) (dull-first u (λ e. omega arith) d) in rw w
 
 module _ (s : Bytes) (i : ℕ) where
-  dull-test : (test : Test) {b : Bool} → i < length s → (b ≡ false → Dull (getD s i 0)) → b ≡ false → passesAt test (drop i s) ≡ false
-  dull-test test h f e = dull-passes test (drop i s) (omega (arith, length-drop i s)) (dull-drop s i (f e))
+  dull-test : (test : Test) → OfChars test → {b : Bool} → i < length s → (b ≡ false → Dull (getD s i 0)) → b ≡ false → passesAt test (drop i s) ≡ false
+  dull-test test dull h f e = dull (drop i s) (omega (arith, length-drop i s)) (dull-drop s i (f e))
 
   past-white : length s ≤ i → whiteAt (drop i s) ≡ false
   past-white h = rw (drop-of-length-le s h) white-none
 
   pub ends-dull : {b : Bool} → i < length s → (b ≡ false → Dull (getD s i 0)) → b ≡ false → false ≡ endsAt (drop i s)
   unfolding passesAt
-  ends-dull h f e = sym (dull-test Ender h f e)
+  ends-dull h f e = sym (dull-test Ender ender-chars h f e)
 
   pub gap-dull : {b : Bool} → i < length s → (b ≡ false → Dull (getD s i 0)) → b ≡ false → false ≡ gapAt (drop i s)
   unfolding passesAt
-  gap-dull h f e = sym (dull-test Gap h f e)
+  gap-dull h f e = sym (dull-test Gap gap-chars h f e)
 
   module _ {u : Bytes} {c : Char} (eu : u ≡ drop i s) (ec : c ≡ firstChar u) where
     char-is : c .code ≡ codeOf (take (step (drop i s)) (drop i s))
@@ -108,6 +115,16 @@ module _ (s : Bytes) (i : ℕ) where
   unfolding gapAt
   gap-past h = rw (past-white h)
 
+  pub byte-read : {w : Bool} → i < length s → w ≡ isAsciiWhite (getD s i 0) → not w ≡ solidByte (drop i s)
+  unfolding solidByte
+  byte-read h ew =
+      let at : getD (drop i s) 0 0 ≡ getD s i 0 = getD-drop i s 0 0 ∙ ap (λ (k : ℕ). getD s k 0) (omega arith) in
+      rw (lt-ltb 0 (length (drop i s)) (omega (arith, length-drop i s)), at, ← ew)
+
+  pub byte-past : length s ≤ i → false ≡ solidByte (drop i s)
+  unfolding solidByte
+  byte-past h = rw (drop-of-length-le s h)
+
 module _ (s : Bytes) (i : ℕ) {test : Test} {r : Bool} where
   pub passes-ender : test ≡ Ender → r ≡ endsAt (drop i s) → r ≡ passesAt test (drop i s)
   unfolding passesAt
@@ -116,6 +133,10 @@ module _ (s : Bytes) (i : ℕ) {test : Test} {r : Bool} where
   pub passes-gap : test ≡ Gap → r ≡ gapAt (drop i s) → r ≡ passesAt test (drop i s)
   unfolding passesAt
   passes-gap e er = rw e er
+
+  pub passes-solid : test ≡ Solid → r ≡ solidByte (drop i s) → r ≡ passesAt test (drop i s)
+  unfolding passesAt
+  passes-solid e er = rw e er
 
 -- ---- the first that passes
 

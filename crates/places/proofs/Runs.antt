@@ -19,7 +19,7 @@ use Rattle.tape.specs.Name.{endsName, inName, nameLen}
 use Rattle.places.specs.Seek.{endsAt, whiteAt, solidAt, gapAt, passesAt, nextFrom, Right, toWord, Dull}
 use Rattle.places.specs.declared.Test.{Test}
 use Rattle.places.specs.declared.Test.the-variants.{Ender, Gap}
-use Rattle.places.proofs.Firsts.{dull-passes, first-hit, first-skip}
+use Rattle.places.proofs.Firsts.{OfChars, ender-chars, gap-chars, first-hit, first-skip}
 use Rattle.places.proofs.Dulls.{ends-white-not}
 
 -- ---- places inside a character
@@ -39,7 +39,7 @@ dull-tail x e =
       three = λ q. absurd (omega arith);
     }
 
-module _ (test : Test) (u : Bytes) (h : 0 < length u) where
+module _ (test : Test) (dull : OfChars test) (u : Bytes) (h : 0 < length u) where
   -- none of them passes
   inner-not : (j : ℕ) → 0 < j → j < step u → passesAt test (drop j u) ≡ false
   inner-not j l k = go (seqLen u) refl
@@ -49,7 +49,7 @@ module _ (test : Test) (u : Bytes) (h : 0 < length u) where
       go (suc n) e =
           let q : step u ≡ seqLen u = step-seq u (omega arith) in
           let at : getD (drop j u) 0 0 ≡ getD u j 0 = getD-drop j u 0 0 ∙ ap (λ (i : ℕ). getD u i 0) (omega arith) in
-          dull-passes test (drop j u) (omega (arith, length-drop j u, step-le u))
+          dull (drop j u) (omega (arith, length-drop j u, step-le u))
           (rw at (dull-tail (getD u j 0) (seq-inner u j l (omega arith))))
 
   -- where a character does not pass, the first that does stands behind it
@@ -100,7 +100,7 @@ name-first u = cut-induct step-some (λ v. firstAt (passesAt Ender) v ≡ nameLe
         go : (t : Bool) → endsAt v ≡ t → firstAt (passesAt Ender) v ≡ nameLen v
         go true e = first-hit (passesAt Ender) v (ender-is v ∙ e) ∙ sym (name-none v h e)
         go false e =
-            char-skip Ender v h (ender-is v ∙ e) ∙ ap (λ (n : ℕ). step v + n) q ∙ sym (name-step v h e)
+            char-skip Ender ender-chars v h (ender-is v ∙ e) ∙ ap (λ (n : ℕ). step v + n) q ∙ sym (name-step v h e)
 
 pub name-le : (u : Bytes) → nameLen u ≤ length u
 name-le u = omega (arith, name-first u, first-le (passesAt Ender) u)
@@ -198,7 +198,7 @@ word-first u = cut-induct step-some Goal none more u
             let z : firstAt (passesAt Gap) v ≡ 0 = first-hit (passesAt Gap) v (gap-test v ∙ e) in
             omega (arith, z, ap (λ (n : ℕ). step (drop n v)) z, gap-word v h e)
         go false e =
-            let z = char-skip Gap v h (gap-test v ∙ e) in
+            let z = char-skip Gap gap-chars v h (gap-test v ∙ e) in
             let w = firstAt (passesAt Gap) (drop (step v) v) in
             omega (
               arith,

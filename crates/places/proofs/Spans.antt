@@ -3,10 +3,10 @@ use mathlib.Core.Path.{_≡_, refl, sym, ap, _∙_}
 use mathlib.Core.Bool.{Bool, true, false, cond, not, _&&_}
 use mathlib.Core.Logic.{_↔_, _⊎_, inl, inr, ⊎-elim}
 use mathlib.Core.List.{List, [], _∷_, _++_, flatten}
-use Prim.Native.Nat.{ℕ, suc, _+_, _-_, _≤_, _<_}
+use Prim.Native.Nat.{ℕ, suc, _+_, _-_, _≤_, _<_, _^_}
 use native.Mathlib.Nat.{lt-of-not-le}
 use native.Mathlib.Omega.{arith}
-use lib.ListN.{length, getD, take, drop, length-drop, length-append, take-append-drop, List·getD-eq-default}
+use lib.ListN.{length, getD, take, drop, length-take, length-drop, length-append, take-append-drop, List·getD-eq-default}
 use lib.Seq.{drop-drop, length-take-le, getD-drop, getD-append-add}
 use lib.Dec.{eqb, ltb}
 use borrow.Author.Tests.{lt-ltb, le-ltb, ltb-true, ltb-false, eqb-true, not-true}
@@ -20,9 +20,16 @@ use Rattle.words.specs.Words.{stepOf, charsOf, white, takeWhile, onto, pieces, 
 use Rattle.words.specs.declared.Set.the-variants.{Unicode}
 use Rattle.words.proofs.Rows.{Row, none, more, row-cut, row-whole, row-join, flatten-append}
 use Rattle.words.proofs.Steps.{size-steady}
+use Rattle.tape.specs.File.{sourceAt, tapeIn}
+use Rattle.tape.specs.declared.Sections.{Sections}
 use Rattle.tape.specs.Name.{strip, bare, inName, nameLen}
 use Rattle.places.specs.Seek.{whiteAt, solidAt, toWord}
 use Rattle.places.proofs.Runs.{characters-first, name-le, name-solid}
+
+-- the source is no longer than its count says
+pub source-short : (c : Sections) (file : Bytes) → c .source < 2 ^ 32 → length (tapeIn c file .source) < 2 ^ 32
+unfolding tapeIn
+source-short c file h = omega (arith, length-take (c .source) (drop (sourceAt c) file))
 
 -- ---- a text that no character before it reaches into
 

@@ -7,11 +7,12 @@ use lib.ListN.{length, getD, take, drop}
 use lib.Dec.{ltb}
 use Rattle.parts.specs.Bytes.{Bytes, firstAt}
 use Rattle.chars.specs.Utf8.{step, codeOf}
+use Rattle.chars.specs.Space.{isAsciiWhite}
 use Rattle.words.specs.Words.{white}
 use Rattle.words.specs.declared.Set.the-variants.{Unicode}
 use Rattle.tape.specs.Name.{endsName}
 use Rattle.places.specs.declared.Test.{Test}
-use Rattle.places.specs.declared.Test.the-variants.{Ender, Gap}
+use Rattle.places.specs.declared.Test.the-variants.{Ender, Gap, Solid}
 
 -- ---- tests of the front of a text
 
@@ -31,9 +32,14 @@ solidAt u = ltb 0 (length u) && not (whiteAt u)
 unfoldable pub gapAt : Bytes → Bool
 gapAt u = whiteAt u && solidAt (drop (step u) u)
 
+-- whether it begins with a byte that is no ASCII white space
+unfoldable pub solidByte : Bytes → Bool
+solidByte u = ltb 0 (length u) && not (isAsciiWhite (getD u 0 0))
+
 unfoldable pub passesAt : Test → Bytes → Bool
 passesAt Ender u = endsAt u
 passesAt Gap u = gapAt u
+passesAt Solid u = solidByte u
 
 -- ---- places
 

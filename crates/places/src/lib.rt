@@ -6,13 +6,14 @@ ghost use lib.ListN.{length, drop};
 ghost use lib.Dec.{ltb};
 ghost use Rattle.chars.specs.Utf8.{step, characters};
 ghost use Rattle.tape.specs.Name.{nameLen};
-ghost use Rattle.places.specs.Seek.{endsAt, solidAt, gapAt, passesAt, nextFrom, edgeOf, Right, Sought, toWord, Dull};
+ghost use Rattle.places.specs.Seek.{endsAt, solidAt, gapAt, solidByte, passesAt, nextFrom, edgeOf, Right, Sought, toWord, Dull};
 use tape::long;
 
-// What is looked for: a character that ends a name, or white space that a word follows at once.
+// What is looked for: a character that ends a name, white space that a word follows at once, or a byte that is no ASCII white space.
 pub enum Test {
     Ender,
     Gap,
+    Solid,
 }
 
 // Whether white space or a character that ends a name can begin with a byte.
@@ -83,12 +84,22 @@ fn gap_at(s: &[u8], i: usize) -> bool
     false
 }
 
+fn solid_byte(s: &[u8], i: usize) -> bool
+    ensures { λ r. ⌜ r ≡ solidByte (drop i (now (s .entry))) ⌝ }
+{
+    if i < s.len() {
+        return !chars::is_ascii_white(s[i]);
+    }
+    false
+}
+
 fn passes(s: &[u8], i: usize, test: Test) -> bool
     ensures { λ r. ⌜ r ≡ passesAt test (drop i (now (s .entry))) ⌝ }
 {
     match test {
         Test::Ender => ends_at(s, i),
         Test::Gap => gap_at(s, i),
+        Test::Solid => solid_byte(s, i),
     }
 }
 

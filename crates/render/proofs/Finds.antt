@@ -12,11 +12,13 @@ use Rattle.tape.specs.declared.Step.{Step}
 use Rattle.tape.specs.declared.Step.the-variants.{At, Done}
 use Rattle.tape.proofs.Walk.{walk-turn, walk-end, children-walk}
 use Rattle.render.specs.declared.children.Test.{Test}
-use Rattle.render.specs.declared.children.Test.the-variants.{Text, Attribute, Open, Category, Content, Solid}
+use Rattle.render.specs.declared.children.Test.the-variants.{Text, Attribute, Open, Category}
+use Rattle.render.specs.declared.children.Seen.{Seen}
+use Rattle.render.specs.declared.children.Seen.the-variants.{Content, Solid}
 use Rattle.render.specs.Shape.{isText, isOpen, isCategoryMarker, isContent}
 use Rattle.render.specs.Follow.{isSolid}
 use Rattle.render.specs.First.{firstWith, any}
-use Rattle.render.specs.Children.{passes, hasContent, isPlainText, firstText}
+use Rattle.render.specs.Children.{passes, sees, hasContent, isPlainText, firstText}
 
 module _ (p : ℕ → Bool) (k : ℕ) (ks : List ℕ) where
   pub first-hit : p k ≡ true → firstWith p (k ∷ ks) ≡ At (record { at = k })
@@ -42,16 +44,16 @@ module _ (t : Tape) (p : ℕ → Bool) {s : Step} where
 
 -- ---- the loop
 
-module _ (t : Tape) (test : Test) {s r : Step} where
-  pub find-hit : (c : Cursor) {x : Bool} → firstWith (passes t test) (walkFrom t s) ≡ r → s ≡ At c → x ≡ passes t test (c .at) → x ≡ true → At c ≡ r
-  find-hit c inv es ex x = sym (first-here t (passes t test) c es (sym ex ∙ x)) ∙ inv
+module _ (t : Tape) (p : ℕ → Bool) {s r : Step} where
+  pub find-hit : (c : Cursor) {x : Bool} → firstWith p (walkFrom t s) ≡ r → s ≡ At c → x ≡ p (c .at) → x ≡ true → At c ≡ r
+  find-hit c inv es ex x = sym (first-here t p c es (sym ex ∙ x)) ∙ inv
 
-  pub find-turn : (c : Cursor) {x : Bool} {n : Step} → firstWith (passes t test) (walkFrom t s) ≡ r → s ≡ At c → x ≡ passes t test (c .at) → x ≡ false
-      → n ≡ nextSibling t (c .at) → firstWith (passes t test) (walkFrom t n) ≡ r
-  find-turn c inv es ex x en = sym (first-past t (passes t test) c es en (sym ex ∙ x)) ∙ inv
+  pub find-turn : (c : Cursor) {x : Bool} {n : Step} → firstWith p (walkFrom t s) ≡ r → s ≡ At c → x ≡ p (c .at) → x ≡ false
+      → n ≡ nextSibling t (c .at) → firstWith p (walkFrom t n) ≡ r
+  find-turn c inv es ex x en = sym (first-past t p c es en (sym ex ∙ x)) ∙ inv
 
-  pub find-end : firstWith (passes t test) (walkFrom t s) ≡ r → s ≡ Done → Done ≡ r
-  find-end inv es = sym (first-end t (passes t test) es) ∙ inv
+  pub find-end : firstWith p (walkFrom t s) ≡ r → s ≡ Done → Done ≡ r
+  find-end inv es = sym (first-end t p es) ∙ inv
 
 -- ---- the tests
 
@@ -72,13 +74,14 @@ module _ (t : Tape) (k : ℕ) {test : Test} {r : Bool} where
   unfolding passes
   passes-category e er = rw e er
 
-  pub passes-content : test ≡ Content → r ≡ isContent t k → r ≡ passes t test k
-  unfolding passes
-  passes-content e er = rw e er
+module _ (t : Tape) (k : ℕ) {seen : Seen} {r : Bool} where
+  pub sees-content : seen ≡ Content → r ≡ isContent t k → r ≡ sees t seen k
+  unfolding sees
+  sees-content e er = rw e er
 
-  pub passes-solid : test ≡ Solid → r ≡ isSolid t k → r ≡ passes t test k
-  unfolding passes
-  passes-solid e er = rw e er
+  pub sees-solid : seen ≡ Solid → r ≡ isSolid t k → r ≡ sees t seen k
+  unfolding sees
+  sees-solid e er = rw e er
 
 pub kind-eqb : (t : Tape) (k code : ℕ) {z : Kind} → z .code ≡ kindAt t k → eqb (z .code) code ≡ eqb (kindAt t k) code
 kind-eqb t k code e = rw e
@@ -86,8 +89,8 @@ kind-eqb t k code e = rw e
 -- ---- answers
 
 module _ (t : Tape) (k : ℕ) {s r : Step} (es : s ≡ firstChild t k) where
-  pub content-found : {x : Bool} → r ≡ firstWith (passes t Content) (walkFrom t s) → x ≡ found r → x ≡ hasContent t k
-  unfolding passes hasContent any
+  pub content-found : {x : Bool} → r ≡ firstWith (sees t Content) (walkFrom t s) → x ≡ found r → x ≡ hasContent t k
+  unfolding sees hasContent any
   content-found er ex = ex ∙ rw er (ap (λ (ks : List ℕ). found (firstWith (isContent t) ks)) (children-walk t k es))
 
   pub plain-found : {x : Bool} → r ≡ firstWith (passes t Open) (walkFrom t s) → x ≡ found r → not x ≡ isPlainText t k

@@ -15,11 +15,13 @@ use Rattle.tape.specs.declared.Cursor.{Cursor}
 use Rattle.tape.specs.declared.Step.{Step}
 use Rattle.tape.specs.declared.Step.the-variants.{At, Done}
 use Rattle.tape.proofs.Walk.{siblings-walk}
-use Rattle.render.specs.declared.children.Test.the-variants.{Solid}
+use Rattle.lean.specs.Lean.{lean}
+use Rattle.lean.proofs.Leans.{blank-lean}
+use Rattle.render.specs.declared.children.Seen.the-variants.{Solid}
 use Rattle.render.specs.Shape.{isInline}
 use Rattle.render.specs.First.{firstWith}
 use Rattle.render.specs.Follow.{isSolid, nextSolid, inlineAt, inlineFollows, followed, Kept}
-use Rattle.render.specs.Children.{passes}
+use Rattle.render.specs.Children.{sees}
 use Rattle.render.proofs.Shapes.{kind-is, kind-not}
 use Rattle.render.proofs.Finds.{first-end, first-here, first-past}
 
@@ -38,14 +40,14 @@ module _ (t : Tape) (k : ℕ) {z : Kind} (ek : z .code ≡ kindAt t k) where
   unfolding isSolid
   solid-other g h l = rw (kind-not t k ek 2 g, kind-not t k ek 8 h, kind-not t k ek 1 l)
 
-  pub solid-text : {s : Bytes} {r : Bool} → (z .code ≡ 2 → ⊥) → (z .code ≡ 8 → ⊥) → z .code ≡ 1 → s ≡ textAt t k → r ≡ blank Ascii s → not r ≡ isSolid t k
+  pub solid-text : {s : Bytes} {r : Bool} → (z .code ≡ 2 → ⊥) → (z .code ≡ 8 → ⊥) → z .code ≡ 1 → s ≡ lean (textAt t k) → r ≡ blank Ascii s → not r ≡ isSolid t k
   unfolding isSolid
-  solid-text g h l es er = rw (kind-not t k ek 2 g, kind-not t k ek 8 h, kind-is t k ek 1 l, ← es, ← er)
+  solid-text g h l es er = rw (kind-not t k ek 2 g, kind-not t k ek 8 h, kind-is t k ek 1 l, ← blank-lean Ascii (textAt t k), ← es, ← er)
 
 -- ---- the next solid sibling
 
-pub solid-found : (t : Tape) (k : ℕ) {s r : Step} → s ≡ nextSibling t k → r ≡ firstWith (passes t Solid) (walkFrom t s) → r ≡ nextSolid t k
-unfolding passes nextSolid
+pub solid-found : (t : Tape) (k : ℕ) {s r : Step} → s ≡ nextSibling t k → r ≡ firstWith (sees t Solid) (walkFrom t s) → r ≡ nextSolid t k
+unfolding sees nextSolid
 solid-found t k es er = er ∙ ap (firstWith (isSolid t)) (siblings-walk t k es)
 
 module _ (t : Tape) (k : ℕ) where

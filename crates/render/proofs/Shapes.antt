@@ -6,6 +6,8 @@ use lib.Dec.{eqb}
 use borrow.Author.Tests.{eq-eqb, ne-eqb}
 use Rattle.parts.specs.Bytes.{Bytes, b, same}
 use Rattle.words.specs.Words.{isBlank as blank}
+use Rattle.lean.specs.Lean.{lean}
+use Rattle.lean.proofs.Leans.{blank-lean}
 use Rattle.words.specs.declared.Set.the-variants.{Unicode}
 use Rattle.tape.specs.File.{Tape, nodeAt, kindAt, textAt, infoAt, entryName}
 use Rattle.tape.specs.Tree.{isClose}
@@ -197,9 +199,9 @@ module _ (t : Tape) (k : ℕ) {z : Kind} (ek : z .code ≡ kindAt t k) where
   unfolding isBlank
   blank-none h = rw (kind-not 1 h)
 
-  pub blank-some : {s : Bytes} {r : Bool} → z .code ≡ 1 → s ≡ textAt t k → r ≡ blank Unicode s → r ≡ isBlank t k
+  pub blank-some : {s : Bytes} {r : Bool} → z .code ≡ 1 → s ≡ lean (textAt t k) → r ≡ blank Unicode s → r ≡ isBlank t k
   unfolding isBlank
-  blank-some h es er = rw (kind-is 1 h) (er ∙ ap (blank Unicode) es)
+  blank-some h es er = rw (kind-is 1 h) (er ∙ ap (blank Unicode) es ∙ blank-lean Unicode (textAt t k))
 
   pub content-attribute : z .code ≡ 2 → false ≡ isContent t k
   unfolding isContent

@@ -5,7 +5,9 @@ use Rattle.tape.specs.File.{Tape}
 use Rattle.tape.specs.Tree.{children}
 use Rattle.tape.specs.declared.Step.{Step}
 use Rattle.render.specs.declared.children.Test.{Test}
-use Rattle.render.specs.declared.children.Test.the-variants.{Text, Attribute, Open, Category, Content, Solid}
+use Rattle.render.specs.declared.children.Test.the-variants.{Text, Attribute, Open, Category}
+use Rattle.render.specs.declared.children.Seen.{Seen}
+use Rattle.render.specs.declared.children.Seen.the-variants.{Content, Solid}
 use Rattle.render.specs.Shape.{isText, isAttribute, isOpen, isCategoryMarker, isContent}
 use Rattle.render.specs.First.{firstWith, any}
 use Rattle.render.specs.Follow.{isSolid}
@@ -16,8 +18,11 @@ passes t Text k = isText t k
 passes t Attribute k = isAttribute t k
 passes t Open k = isOpen t k
 passes t Category k = isCategoryMarker t k
-passes t Content k = isContent t k
-passes t Solid k = isSolid t k
+
+-- the same, where blank texts do not pass
+unfoldable pub sees : Tape → Seen → ℕ → Bool
+sees t Content k = isContent t k
+sees t Solid k = isSolid t k
 
 -- `has_content`: a child besides attributes, closes and blank texts
 unfoldable pub hasContent : Tape → ℕ → Bool

@@ -4,7 +4,8 @@ ghost use lib.Dec.{eqb};
 ghost use Rattle.tape.specs.File.{tapeIn, kindAt};
 ghost use Rattle.tape.specs.Tree.{walkFrom};
 ghost use Rattle.render.specs.First.{firstWith};
-ghost use Rattle.render.specs.Children.{passes as isPassing, hasContent, isPlainText, firstText};
+ghost use Rattle.lean.specs.Lean.{Solids};
+ghost use Rattle.render.specs.Children.{passes as isPassing, sees as isSeen, hasContent, isPlainText, firstText};
 use crate::follow::is_solid;
 use crate::shape::is_category_marker;
 use crate::shape::is_content;
@@ -20,6 +21,10 @@ pub enum Test {
     Attribute,
     Open,
     Category,
+}
+
+// A test of a node that blank texts do not pass.
+pub enum Seen {
     Content,
     Solid,
 }
@@ -38,8 +43,6 @@ fn passes(file: &[u8], tape: Sections, test: Test, c: Cursor) -> bool
         Test::Attribute => is_kind(file, tape, c, Kind::ATTRIBUTE),
         Test::Open => is_kind(file, tape, c, Kind::MARKER_OPEN),
         Test::Category => is_category_marker(file, tape, c),
-        Test::Content => is_content(file, tape, c),
-        Test::Solid => is_solid(file, tape, c),
     }
 }
 
@@ -61,11 +64,41 @@ pub fn find(file: &[u8], tape: Sections, test: Test, from: Step) -> Step
     }
 }
 
+fn sees(file: &[u8], tape: Sections, solids: &[u32], seen: Seen, c: Cursor) -> bool
+    requires { ⌜ Solids (tapeIn tape (now file)) (now solids) ⌝ }
+    ensures { λ r. ⌜ r ≡ isSeen (tapeIn tape (now (file .entry))) seen (c .at) ⌝ }
+{
+    match seen {
+        Seen::Content => is_content(file, tape, solids, c),
+        Seen::Solid => is_solid(file, tape, solids, c),
+    }
+}
+
+// The first node that passes such a test, on a walk along siblings.
+pub fn find_seen(file: &[u8], tape: Sections, solids: &[u32], seen: Seen, from: Step) -> Step
+    requires { ⌜ Solids (tapeIn tape (now file)) (now solids) ⌝ }
+    ensures { λ r. ⌜ r ≡ firstWith (isSeen (tapeIn tape (now (file .entry))) seen) (walkFrom (tapeIn tape (now (file .entry))) from) ⌝ }
+{
+    let mut s = from;
+    loop {
+        match s {
+            Step::At(c) => {
+                if sees(file, tape, solids, seen, c) {
+                    return Step::At(c);
+                }
+                s = c.next_sibling(file, tape);
+            }
+            Step::Done => return Step::Done,
+        }
+    }
+}
+
 // Whether a node has content besides its attributes and close.
-pub fn has_content(file: &[u8], tape: Sections, c: Cursor) -> bool
+pub fn has_content(file: &[u8], tape: Sections, solids: &[u32], c: Cursor) -> bool
+    requires { ⌜ Solids (tapeIn tape (now file)) (now solids) ⌝ }
     ensures { λ r. ⌜ r ≡ hasContent (tapeIn tape (now (file .entry))) (c .at) ⌝ }
 {
-    is_at(find(file, tape, Test::Content, c.first_child(file, tape)))
+    is_at(find_seen(file, tape, solids, Seen::Content, c.first_child(file, tape)))
 }
 
 // Whether a node holds no marker.

@@ -1,10 +1,12 @@
 // What follows a node.
 ghost use mathlib.Core.Path.{_≡_};
 ghost use Rattle.tape.specs.File.{tapeIn};
+ghost use Rattle.lean.specs.Lean.{Solids};
 ghost use Rattle.render.specs.Follow.{isSolid, nextSolid, inlineAt, inlineFollows, followed as isFollowed, Kept};
-use crate::children::Test;
-use crate::children::find;
+use crate::children::Seen;
+use crate::children::find_seen;
 use crate::shape::is_inline;
+use lean::lean_text;
 use tape::Cursor;
 use tape::Kind;
 use tape::Sections;
@@ -12,7 +14,8 @@ use tape::Step;
 use words::Set;
 
 // Whether a sibling is not passed over.
-pub fn is_solid(file: &[u8], tape: Sections, c: Cursor) -> bool
+pub fn is_solid(file: &[u8], tape: Sections, solids: &[u32], c: Cursor) -> bool
+    requires { ⌜ Solids (tapeIn tape (now file)) (now solids) ⌝ }
     ensures { λ r. ⌜ r ≡ isSolid (tapeIn tape (now (file .entry))) (c .at) ⌝ }
 {
     let kind = c.kind(file, tape);
@@ -25,24 +28,26 @@ pub fn is_solid(file: &[u8], tape: Sections, c: Cursor) -> bool
     if kind.code != Kind::TEXT {
         return true;
     }
-    !words::is_blank(c.text(file, tape), Set::Ascii)
+    !words::is_blank(lean_text(file, tape, solids, c), Set::Ascii)
 }
 
 // The first later sibling that is not passed over.
-pub fn next_solid(file: &[u8], tape: Sections, c: Cursor) -> Step
+pub fn next_solid(file: &[u8], tape: Sections, solids: &[u32], c: Cursor) -> Step
+    requires { ⌜ Solids (tapeIn tape (now file)) (now solids) ⌝ }
     ensures { λ r. ⌜ r ≡ nextSolid (tapeIn tape (now (file .entry))) (c .at) ⌝ }
 {
-    find(file, tape, Test::Solid, c.next_sibling(file, tape))
+    find_seen(file, tape, solids, Seen::Solid, c.next_sibling(file, tape))
 }
 
 // The next solid sibling of a child, from the one that was kept at the child before it: a run of blanks is passed once.
-pub fn solid_behind(file: &[u8], tape: Sections, c: Cursor, kept: Step) -> Step
+pub fn solid_behind(file: &[u8], tape: Sections, solids: &[u32], c: Cursor, kept: Step) -> Step
+    requires { ⌜ Solids (tapeIn tape (now file)) (now solids) ⌝ }
     ensures { λ r. ⌜ (Kept (tapeIn tape (now (file .entry))) c kept → r ≡ nextSolid (tapeIn tape (now (file .entry))) (c .at)) ⌝ }
 {
     match kept {
         Step::At(d) => {
             if d.at == c.at {
-                return next_solid(file, tape, c);
+                return next_solid(file, tape, solids, c);
             }
             Step::At(d)
         }
@@ -61,14 +66,16 @@ pub fn inline_at(file: &[u8], tape: Sections, s: Step) -> bool
 }
 
 // Whether the first later sibling that is not passed over is inline.
-pub fn inline_follows(file: &[u8], tape: Sections, c: Cursor) -> bool
+pub fn inline_follows(file: &[u8], tape: Sections, solids: &[u32], c: Cursor) -> bool
+    requires { ⌜ Solids (tapeIn tape (now file)) (now solids) ⌝ }
     ensures { λ r. ⌜ r ≡ inlineFollows (tapeIn tape (now (file .entry))) (c .at) ⌝ }
 {
-    inline_at(file, tape, next_solid(file, tape, c))
+    inline_at(file, tape, next_solid(file, tape, solids, c))
 }
 
 // Whether inline content follows a parent, or, where it is inline, its own parent.
-pub fn followed(file: &[u8], tape: Sections, c: Cursor, outer: bool) -> bool
+pub fn followed(file: &[u8], tape: Sections, solids: &[u32], c: Cursor, outer: bool) -> bool
+    requires { ⌜ Solids (tapeIn tape (now file)) (now solids) ⌝ }
     ensures { λ r. ⌜ r ≡ isFollowed (tapeIn tape (now (file .entry))) (c .at) outer ⌝ }
 {
     if !is_inline(file, tape, c) {
@@ -77,5 +84,5 @@ pub fn followed(file: &[u8], tape: Sections, c: Cursor, outer: bool) -> bool
     if outer {
         return true;
     }
-    inline_follows(file, tape, c)
+    inline_follows(file, tape, solids, c)
 }

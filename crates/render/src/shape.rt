@@ -1,7 +1,9 @@
 // What a node is.
 ghost use mathlib.Core.Path.{_≡_};
 ghost use Rattle.tape.specs.File.{tapeIn};
+ghost use Rattle.lean.specs.Lean.{Solids};
 ghost use Rattle.render.specs.Shape.{closedBy, unknownShape, isInlineShape, isBlockShape, inlineCategory, isInline, isTopLevelBlock, trimsAfter, isElement, isRow, isCategoryMarker, isBlank, isContent};
+use lean::lean_text;
 use tape::Category;
 use tape::Cursor;
 use tape::Element;
@@ -169,18 +171,20 @@ pub fn is_category_marker(file: &[u8], tape: Sections, c: Cursor) -> bool
 }
 
 // Whether a node is a Text of white space alone.
-pub fn is_blank(file: &[u8], tape: Sections, c: Cursor) -> bool
+pub fn is_blank(file: &[u8], tape: Sections, solids: &[u32], c: Cursor) -> bool
+    requires { ⌜ Solids (tapeIn tape (now file)) (now solids) ⌝ }
     ensures { λ r. ⌜ r ≡ isBlank (tapeIn tape (now (file .entry))) (c .at) ⌝ }
 {
     let kind = c.kind(file, tape);
     if kind.code != Kind::TEXT {
         return false;
     }
-    words::is_blank(c.text(file, tape), Set::Unicode)
+    words::is_blank(lean_text(file, tape, solids, c), Set::Unicode)
 }
 
 // Whether a child counts as content.
-pub fn is_content(file: &[u8], tape: Sections, c: Cursor) -> bool
+pub fn is_content(file: &[u8], tape: Sections, solids: &[u32], c: Cursor) -> bool
+    requires { ⌜ Solids (tapeIn tape (now file)) (now solids) ⌝ }
     ensures { λ r. ⌜ r ≡ isContent (tapeIn tape (now (file .entry))) (c .at) ⌝ }
 {
     let kind = c.kind(file, tape);
@@ -190,5 +194,5 @@ pub fn is_content(file: &[u8], tape: Sections, c: Cursor) -> bool
     if kind.is_close() {
         return false;
     }
-    !is_blank(file, tape, c)
+    !is_blank(file, tape, solids, c)
 }

@@ -1,4 +1,6 @@
 // What a Chapter or Verse says: its label and its folded numbers.
+ghost use Rattle.tape.specs.File.{tapeIn};
+ghost use Rattle.lean.specs.Lean.{Solids};
 use crate::say;
 use fold::Number;
 use fold::Piece;
@@ -47,12 +49,21 @@ fn number(file: &[u8], t: Sections, step: Step) {
     }
 }
 
-pub fn fold(file: &[u8], t: Sections, c: Cursor) {
+pub fn fold(file: &[u8], t: Sections, solids: &[u32], c: Cursor)
+    requires { ⌜ Solids (tapeIn t (now file)) (now solids) ⌝ }
+{
     let all = Span {
         cut: false,
         sifted: false,
     };
-    let f = lists::fold_in(file, t, all, c.kind(file, t), c.next_sibling(file, t));
+    let f = lists::fold_in(
+        file,
+        t,
+        solids,
+        all,
+        c.kind(file, t),
+        c.next_sibling(file, t),
+    );
     let alt = f.alt;
     let published = f.published;
     let rest = f.rest;
@@ -62,7 +73,9 @@ pub fn fold(file: &[u8], t: Sections, c: Cursor) {
     say::place(rest);
 }
 
-pub fn lines(file: &[u8], t: Sections, c: Cursor) {
+pub fn lines(file: &[u8], t: Sections, solids: &[u32], c: Cursor)
+    requires { ⌜ Solids (tapeIn t (now file)) (now solids) ⌝ }
+{
     label(file, t, c);
-    fold(file, t, c);
+    fold(file, t, solids, c);
 }

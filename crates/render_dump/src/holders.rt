@@ -1,4 +1,6 @@
 // What a node that holds others says.
+ghost use Rattle.tape.specs.File.{tapeIn};
+ghost use Rattle.lean.specs.Lean.{Solids};
 use crate::pairs;
 use crate::say;
 use attrs::Sought;
@@ -9,14 +11,16 @@ use tape::Step;
 use words::Set;
 
 // Of each child whether inline content follows it; the solid sibling is kept along the way.
-fn each_follows(file: &[u8], t: Sections, c: Cursor) {
+fn each_follows(file: &[u8], t: Sections, solids: &[u32], c: Cursor)
+    requires { ⌜ Solids (tapeIn t (now file)) (now solids) ⌝ }
+{
     let mut step = c.first_child(file, t);
     let mut kept = step;
     loop {
         let Step::At(child) = step else {
             return;
         };
-        kept = render::solid_behind(file, t, child, kept);
+        kept = render::solid_behind(file, t, solids, child, kept);
         say::digit(render::inline_at(file, t, kept));
         step = child.next_sibling(file, t);
     }
@@ -141,9 +145,11 @@ fn alt(text: &[u8]) {
     }
 }
 
-fn own_lines(file: &[u8], t: Sections, c: Cursor) {
+fn own_lines(file: &[u8], t: Sections, solids: &[u32], c: Cursor)
+    requires { ⌜ Solids (tapeIn t (now file)) (now solids) ⌝ }
+{
     say::head(c.at, b" follows ");
-    each_follows(file, t, c);
+    each_follows(file, t, solids, c);
     say::run(b"\n");
     note(file, t, c);
     cell(c.marker_name(file, t));
@@ -157,8 +163,10 @@ fn lists(file: &[u8], t: Sections, c: Cursor) {
     say::run(b"\n");
 }
 
-pub fn lines(file: &[u8], t: Sections, c: Cursor) {
-    own_lines(file, t, c);
+pub fn lines(file: &[u8], t: Sections, solids: &[u32], c: Cursor)
+    requires { ⌜ Solids (tapeIn t (now file)) (now solids) ⌝ }
+{
+    own_lines(file, t, solids, c);
     lists(file, t, c);
     book(file, t, c);
     reference(file, t, c);

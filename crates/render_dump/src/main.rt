@@ -2,6 +2,9 @@
 //
 // Standard input is a stream (crate `stream`) of admitted tapes of at most 65,536 bytes.
 // The forms of the lines stand in oracle/README.md, under `oracle render`.
+ghost use Rattle.tape.specs.File.{tapeIn};
+ghost use Rattle.lean.specs.Lean.{Solids};
+
 mod anchors;
 mod holders;
 mod pairs;
@@ -15,26 +18,41 @@ use tape::Kind;
 use tape::Sections;
 
 // The lines that a node has by its kind.
-fn by_kind(file: &[u8], t: Sections, c: Cursor) {
+fn by_kind(file: &[u8], t: Sections, solids: &[u32], c: Cursor)
+    requires { ⌜ Solids (tapeIn t (now file)) (now solids) ⌝ }
+{
     let code = c.kind(file, t).code;
     match code {
-        Kind::ROOT | Kind::MARKER_OPEN => holders::lines(file, t, c),
-        Kind::TEXT => texts_of::lines(file, t, c),
-        Kind::CHAPTER => anchors::fold(file, t, c),
-        Kind::VERSE => anchors::lines(file, t, c),
+        Kind::ROOT | Kind::MARKER_OPEN => holders::lines(file, t, solids, c),
+        Kind::TEXT => texts_of::lines(file, t, solids, c),
+        Kind::CHAPTER => anchors::fold(file, t, solids, c),
+        Kind::VERSE => anchors::lines(file, t, solids, c),
         _ => {}
     }
 }
 
-fn dump(file: &[u8]) {
-    let t = Sections::of(file);
+fn nodes(file: &[u8], t: Sections, solids: &[u32])
+    requires { ⌜ Solids (tapeIn t (now file)) (now solids) ⌝ }
+{
     let mut at: u32 = 0;
     while at < t.nodes {
-        shapes::line(file, t, Cursor { at });
-        by_kind(file, t, Cursor { at });
+        shapes::line(file, t, solids, Cursor { at });
+        by_kind(file, t, solids, Cursor { at });
         at += 1;
     }
+}
+
+fn tabled(file: &[u8], table: &mut [u32]) {
+    let t = Sections::of(file);
+    lean::fill(table, file, t);
+    nodes(file, t, table);
     say::run(b"\n");
+}
+
+// With a table of places for a source of 65,536 bytes.
+fn dump(file: &[u8]) {
+    let mut table = [0u32; 1024];
+    tabled(file, &mut table);
 }
 
 // One tape of the stream; false at its end.

@@ -1,4 +1,6 @@
 // What a Text says: its edges and body, what is written of it alone, what follows its first word.
+ghost use Rattle.tape.specs.File.{tapeIn};
+ghost use Rattle.lean.specs.Lean.{Solids};
 use crate::say;
 use crate::say::digit;
 use tape::Cursor;
@@ -104,9 +106,11 @@ fn normalized(at: u32, text: &[u8], behind: bool) {
     with_body(at, text, parts::part(&body, 0, n), behind);
 }
 
-pub fn lines(file: &[u8], t: Sections, c: Cursor) {
+pub fn lines(file: &[u8], t: Sections, solids: &[u32], c: Cursor)
+    requires { ⌜ Solids (tapeIn t (now file)) (now solids) ⌝ }
+{
     let text = c.text(file, t);
-    normalized(c.at, text, render::inline_follows(file, t, c));
+    normalized(c.at, text, render::inline_follows(file, t, solids, c));
     say::head(c.at, b" rest ");
     say::quoted(render::remainder(text));
     say::run(b"\n");

@@ -3,6 +3,7 @@ ghost use mathlib.Core.Path.{_≡_};
 ghost use Rattle.tape.specs.File.{tapeIn};
 ghost use Rattle.tape.specs.Tree.{children};
 ghost use Rattle.tape.specs.declared.Info.the-variants.{Known};
+ghost use Rattle.lean.specs.Lean.{Solids};
 ghost use Rattle.render.specs.First.{any};
 ghost use Rattle.attrs.specs.Walk.{soughtOf};
 ghost use Rattle.events.specs.Walk.{roleOf, roleBy, roleOfShape, roleOfCategory, isRef, linkOf};
@@ -166,7 +167,8 @@ fn has_ref(file: &[u8], tape: Sections, c: Cursor) -> bool
 }
 
 // Whether what stands in a marker could be linked: `xt`, nested, with content and no `ref` inside.
-fn can_link(file: &[u8], tape: Sections, c: Cursor) -> bool
+fn can_link(file: &[u8], tape: Sections, solids: &[u32], c: Cursor) -> bool
+    requires { ⌜ Solids (tapeIn tape (now file)) (now solids) ⌝ }
     ensures { λ r. ⌜ r ≡ canLink (tapeIn tape (now (file .entry))) (c .at) ⌝ }
 {
     if !c.is_named(file, tape, b"xt") {
@@ -175,17 +177,18 @@ fn can_link(file: &[u8], tape: Sections, c: Cursor) -> bool
     if !c.is_nested(file, tape) {
         return false;
     }
-    if !render::has_content(file, tape, c) {
+    if !render::has_content(file, tape, solids, c) {
         return false;
     }
     !has_ref(file, tape, c)
 }
 
 // The first `href` of what is linked.
-pub fn link_of(file: &[u8], tape: Sections, c: Cursor) -> Sought
+pub fn link_of(file: &[u8], tape: Sections, solids: &[u32], c: Cursor) -> Sought
+    requires { ⌜ Solids (tapeIn tape (now file)) (now solids) ⌝ }
     ensures { λ r. ⌜ soughtOf (tapeIn tape (now (file .entry)) .source) r ≡ linkOf (tapeIn tape (now (file .entry))) (c .at) ⌝ }
 {
-    if can_link(file, tape, c) {
+    if can_link(file, tape, solids, c) {
         attrs::first_with(file, tape, c, c.marker_name(file, tape), b"href")
     } else {
         Sought::Nowhere

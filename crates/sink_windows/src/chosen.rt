@@ -23,7 +23,7 @@ fn numbers(file: &[u8], t: Sections, c: Cursor) -> Folds {
         cut: false,
         sifted: false,
     };
-    fold_in(file, t, all, c.kind(file, t), c.next_sibling(file, t))
+    fold_in(file, t, &[], all, c.kind(file, t), c.next_sibling(file, t))
 }
 
 // A chapter and the numbers that fold behind it.

@@ -6,6 +6,7 @@ ghost use Rattle.parts.specs.Bytes.{b};
 ghost use Rattle.tape.specs.File.{tapeIn};
 ghost use Rattle.tape.specs.Name.{markerName};
 ghost use Rattle.tape.specs.Tree.{upTo, walkFrom};
+ghost use Rattle.lean.specs.Lean.{Solids};
 ghost use Rattle.render.specs.Note.{cellAlign, alignWord};
 ghost use Rattle.events.specs.Event.{escaped, element};
 ghost use Rattle.events.specs.Walk.{asInline, inside as insideOf, style, cellIn, cellsAlong, cells as cellsOf, rowE, rowsE, tableE};
@@ -34,15 +35,17 @@ use tape::Step;
 fn full_cell(
     file: &[u8],
     tape: Sections,
+    solids: &[u32],
     c: Cursor,
     depth: usize,
     sink: Sink,
     out: &mut [u8],
 ) -> Sink
+    requires { ⌜ Solids (tapeIn tape (now file)) (now solids) ⌝ }
     ensures { λ r. ⌜ deskIn (tapeIn tape (now (file .entry)) .source) r (now (out .exit)) ≡ emitAll (deskIn (tapeIn tape (now (file .entry)) .source) sink (now (out .entry))) (element 12 (style (tapeIn tape (now (file .entry))) (c .at) ∷ escaped (b "align") (alignWord (cellAlign (markerName (tapeIn tape (now (file .entry))) (c .at)))) ∷ []) (insideOf (tapeIn tape (now (file .entry))) depth asInline (c .at) false)) ⌝ }
 {
     let a = open_cell(file, tape, c, sink, out);
-    let z = inline::inside(file, tape, c, depth, false, false, a, out);
+    let z = inline::inside(file, tape, solids, c, depth, false, false, a, out);
     literal(z, out, b"</cell>")
 }
 
@@ -50,17 +53,19 @@ fn full_cell(
 fn cell(
     file: &[u8],
     tape: Sections,
+    solids: &[u32],
     c: Cursor,
     level: usize,
     depth: usize,
     sink: Sink,
     out: &mut [u8],
 ) -> Sink
+    requires { ⌜ Solids (tapeIn tape (now file)) (now solids) ⌝ }
     ensures { λ r. ⌜ deskIn (tapeIn tape (now (file .entry)) .source) r (now (out .exit)) ≡ emitAll (deskIn (tapeIn tape (now (file .entry)) .source) sink (now (out .entry))) (cellIn (insideOf (tapeIn tape (now (file .entry))) depth) (tapeIn tape (now (file .entry))) level (c .at)) ⌝ }
 {
     let s = line(sink, out, level);
-    if render::has_content(file, tape, c) {
-        full_cell(file, tape, c, depth, s, out)
+    if render::has_content(file, tape, solids, c) {
+        full_cell(file, tape, solids, c, depth, s, out)
     } else {
         empty_cell(file, tape, c, s, out)
     }
@@ -70,12 +75,14 @@ fn cell(
 fn cells_along(
     file: &[u8],
     tape: Sections,
+    solids: &[u32],
     first: Step,
     level: usize,
     depth: usize,
     sink: Sink,
     out: &mut [u8],
 ) -> Sink
+    requires { ⌜ Solids (tapeIn tape (now file)) (now solids) ⌝ }
     ensures { λ r. ⌜ deskIn (tapeIn tape (now (file .entry)) .source) r (now (out .exit)) ≡ emitAll (deskIn (tapeIn tape (now (file .entry)) .source) sink (now (out .entry))) (cellsAlong (insideOf (tapeIn tape (now (file .entry))) depth) (tapeIn tape (now (file .entry))) level (walkFrom (tapeIn tape (now (file .entry))) first)) ⌝ }
 {
     let mut s = sink;
@@ -86,7 +93,7 @@ fn cells_along(
             Step::At(c) => {
                 step = c.next_sibling(file, tape);
                 if is_cell(file, tape, c) {
-                    s = cell(file, tape, c, level, depth, s, out);
+                    s = cell(file, tape, solids, c, level, depth, s, out);
                 }
             }
         }
@@ -96,12 +103,14 @@ fn cells_along(
 fn cells(
     file: &[u8],
     tape: Sections,
+    solids: &[u32],
     row: Cursor,
     level: usize,
     depth: usize,
     sink: Sink,
     out: &mut [u8],
 ) -> Sink
+    requires { ⌜ Solids (tapeIn tape (now file)) (now solids) ⌝ }
     ensures { λ r. ⌜ deskIn (tapeIn tape (now (file .entry)) .source) r (now (out .exit)) ≡ emitAll (deskIn (tapeIn tape (now (file .entry)) .source) sink (now (out .entry))) (cellsOf (tapeIn tape (now (file .entry))) depth level (row .at)) ⌝ }
 {
     if depth == 0 {
@@ -110,6 +119,7 @@ fn cells(
     cells_along(
         file,
         tape,
+        solids,
         row.first_child(file, tape),
         level,
         depth - 1,
@@ -118,12 +128,21 @@ fn cells(
     )
 }
 
-fn row(file: &[u8], tape: Sections, c: Cursor, depth: usize, sink: Sink, out: &mut [u8]) -> Sink
+fn row(
+    file: &[u8],
+    tape: Sections,
+    solids: &[u32],
+    c: Cursor,
+    depth: usize,
+    sink: Sink,
+    out: &mut [u8],
+) -> Sink
+    requires { ⌜ Solids (tapeIn tape (now file)) (now solids) ⌝ }
     ensures { λ r. ⌜ deskIn (tapeIn tape (now (file .entry)) .source) r (now (out .exit)) ≡ emitAll (deskIn (tapeIn tape (now (file .entry)) .source) sink (now (out .entry))) (rowE (tapeIn tape (now (file .entry))) depth (c .at)) ⌝ }
 {
     let level = level_of(depth);
     let a = open_row(level + 1, sink, out);
-    let z = cells(file, tape, c, level + 2, depth, a, out);
+    let z = cells(file, tape, solids, c, level + 2, depth, a, out);
     close_row(level + 1, z, out)
 }
 
@@ -131,12 +150,14 @@ fn row(file: &[u8], tape: Sections, c: Cursor, depth: usize, sink: Sink, out: &m
 fn rows(
     file: &[u8],
     tape: Sections,
+    solids: &[u32],
     span: Span,
     first: Step,
     depth: usize,
     sink: Sink,
     out: &mut [u8],
 ) -> Sink
+    requires { ⌜ Solids (tapeIn tape (now file)) (now solids) ⌝ }
     ensures { λ r. ⌜ deskIn (tapeIn tape (now (file .entry)) .source) r (now (out .exit)) ≡ emitAll (deskIn (tapeIn tape (now (file .entry)) .source) sink (now (out .entry))) (rowsE (tapeIn tape (now (file .entry))) depth (upTo (isNoRow (tapeIn tape (now (file .entry)))) (nodesIn (tapeIn tape (now (file .entry))) span first))) ⌝ }
 {
     let mut s = sink;
@@ -151,7 +172,7 @@ fn rows(
                 }
                 Member::Listed => {
                     if render::is_row(file, tape, c) {
-                        s = row(file, tape, c, depth, s, out);
+                        s = row(file, tape, solids, c, depth, s, out);
                         step = c.next_sibling(file, tape);
                     } else {
                         return s;
@@ -166,16 +187,18 @@ fn rows(
 pub fn table(
     file: &[u8],
     tape: Sections,
+    solids: &[u32],
     span: Span,
     first: Step,
     depth: usize,
     sink: Sink,
     out: &mut [u8],
 ) -> Sink
+    requires { ⌜ Solids (tapeIn tape (now file)) (now solids) ⌝ }
     ensures { λ r. ⌜ deskIn (tapeIn tape (now (file .entry)) .source) r (now (out .exit)) ≡ emitAll (deskIn (tapeIn tape (now (file .entry)) .source) sink (now (out .entry))) (tableE (tapeIn tape (now (file .entry))) depth (upTo (isNoRow (tapeIn tape (now (file .entry)))) (nodesIn (tapeIn tape (now (file .entry))) span first))) ⌝ }
 {
     let level = level_of(depth);
     let a = open_table(level, sink, out);
-    let z = rows(file, tape, span, first, depth, a, out);
+    let z = rows(file, tape, solids, span, first, depth, a, out);
     close_table(level, z, out)
 }

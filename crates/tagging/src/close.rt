@@ -1,6 +1,7 @@
 // The tags that close a marker.
 ghost use mathlib.Core.Path.{_≡_};
 ghost use Rattle.tape.specs.File.{tapeIn};
+ghost use Rattle.lean.specs.Lean.{Solids};
 ghost use Rattle.events.specs.Walk.{char};
 ghost use Rattle.events.specs.Emit.{emitAll};
 ghost use Rattle.sink.specs.Desk.{deskIn};
@@ -15,10 +16,18 @@ use tape::Cursor;
 use tape::Sections;
 
 // The end of a char, and of the `ref` around what it links.
-fn close_char(file: &[u8], tape: Sections, c: Cursor, sink: Sink, out: &mut [u8]) -> Sink
+fn close_char(
+    file: &[u8],
+    tape: Sections,
+    solids: &[u32],
+    c: Cursor,
+    sink: Sink,
+    out: &mut [u8],
+) -> Sink
+    requires { ⌜ Solids (tapeIn tape (now file)) (now solids) ⌝ }
     ensures { λ r. ⌜ deskIn (tapeIn tape (now (file .entry)) .source) r (now (out .exit)) ≡ emitAll (deskIn (tapeIn tape (now (file .entry)) .source) sink (now (out .entry))) (closing (tapeIn tape (now (file .entry))) (c .at) char) ⌝ }
 {
-    match link_of(file, tape, c) {
+    match link_of(file, tape, solids, c) {
         Sought::Nowhere => literal(sink, out, b"</char>"),
         Sought::At(_) => literal(sink, out, b"</ref></char>"),
     }
@@ -28,11 +37,13 @@ fn close_char(file: &[u8], tape: Sections, c: Cursor, sink: Sink, out: &mut [u8]
 pub fn close_marker(
     file: &[u8],
     tape: Sections,
+    solids: &[u32],
     c: Cursor,
     role: Role,
     sink: Sink,
     out: &mut [u8],
 ) -> Sink
+    requires { ⌜ Solids (tapeIn tape (now file)) (now solids) ⌝ }
     ensures { λ r. ⌜ deskIn (tapeIn tape (now (file .entry)) .source) r (now (out .exit)) ≡ emitAll (deskIn (tapeIn tape (now (file .entry)) .source) sink (now (out .entry))) (closing (tapeIn tape (now (file .entry))) (c .at) (roleIn role)) ⌝ }
 {
     match role {
@@ -44,7 +55,7 @@ pub fn close_marker(
         Role::Id => sink,
         Role::Note => literal(sink, out, b"</note>"),
         Role::Ms => sink,
-        Role::Char => close_char(file, tape, c, sink, out),
+        Role::Char => close_char(file, tape, solids, c, sink, out),
         Role::Para => literal(sink, out, b"</para>"),
     }
 }

@@ -7,6 +7,7 @@ ghost use Rattle.chars.specs.Escape.{escape};
 ghost use Rattle.window.specs.Page.{pageOf, paint};
 ghost use Rattle.tape.specs.File.{tapeIn, nodeAt, isSynthetic};
 ghost use Rattle.tape.specs.Name.{markerName};
+ghost use Rattle.lean.specs.Lean.{Solids};
 ghost use Rattle.render.specs.Note.{noteCaller, categoryOf};
 ghost use Rattle.attrs.specs.Attr.{attributesOf};
 ghost use Rattle.attrs.specs.Walk.{firstOf, soughtOf, valueOf};
@@ -131,11 +132,19 @@ fn open_link(file: &[u8], tape: Sections, link: Sought, sink: Sink, out: &mut [u
 }
 
 // A char, and the `ref` around what it links.
-fn open_char_linked(file: &[u8], tape: Sections, c: Cursor, sink: Sink, out: &mut [u8]) -> Sink
+fn open_char_linked(
+    file: &[u8],
+    tape: Sections,
+    solids: &[u32],
+    c: Cursor,
+    sink: Sink,
+    out: &mut [u8],
+) -> Sink
+    requires { ⌜ Solids (tapeIn tape (now file)) (now solids) ⌝ }
     ensures { λ r. ⌜ deskIn (tapeIn tape (now (file .entry)) .source) r (now (out .exit)) ≡ emitAll (deskIn (tapeIn tape (now (file .entry)) .source) sink (now (out .entry))) (opening (tapeIn tape (now (file .entry))) (c .at) char) ⌝ }
 {
     let s = open_char(file, tape, c, sink, out);
-    open_link(file, tape, link_of(file, tape, c), s, out)
+    open_link(file, tape, link_of(file, tape, solids, c), s, out)
 }
 
 // A figure's tag with its attributes.
@@ -186,11 +195,13 @@ fn put_note(
 pub fn open_marker(
     file: &[u8],
     tape: Sections,
+    solids: &[u32],
     c: Cursor,
     role: Role,
     sink: Sink,
     out: &mut [u8],
 ) -> Sink
+    requires { ⌜ Solids (tapeIn tape (now file)) (now solids) ⌝ }
     ensures { λ r. ⌜ deskIn (tapeIn tape (now (file .entry)) .source) r (now (out .exit)) ≡ emitAll (deskIn (tapeIn tape (now (file .entry)) .source) sink (now (out .entry))) (opening (tapeIn tape (now (file .entry))) (c .at) (roleIn role)) ⌝ }
 {
     match role {
@@ -205,7 +216,7 @@ pub fn open_marker(
             sink.over(w)
         }
         Role::Ms => sink,
-        Role::Char => open_char_linked(file, tape, c, sink, out),
+        Role::Char => open_char_linked(file, tape, solids, c, sink, out),
         Role::Para => named(file, tape, c, b"<para style=\"", b"\">", sink, out),
     }
 }

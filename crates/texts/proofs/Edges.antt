@@ -1,7 +1,7 @@
--- A text that does not end with white space is the same whatever stands behind it: what follows need not be looked for.
+-- Texts by their first byte, and a text that does not end with white space: it is the same whatever stands behind it.
 use mathlib.Core.Path.{_≡_, refl, sym, _∙_}
 use mathlib.Core.Bool.{Bool, true, false, _&&_}
-use mathlib.Core.List.{[], _∷_}
+use mathlib.Core.List.{[], _∷_, flatten}
 use Prim.Native.Nat.{ℕ, suc, _-_}
 use native.Mathlib.Omega.{arith}
 use lib.ListN.{length, getD}
@@ -9,12 +9,20 @@ use Rattle.parts.specs.Bytes.{Bytes}
 use Rattle.parts.proofs.Laws.{and-true as both-hold}
 use Rattle.chars.specs.Space.{isAsciiWhite}
 use Rattle.chars.specs.Utf8.{every, cutAt}
-use Rattle.words.specs.Words.{charsOf, white, isBlank as blank}
+use Rattle.words.specs.Words.{charsOf, white, takeWhile, whiteLen, isBlank as blank}
 use Rattle.words.specs.declared.Set.the-variants.{Ascii}
 use Rattle.texts.specs.Text.{endsWhite, blankLead, normalizeText}
 use Rattle.texts.proofs.Breaks.{ascii-chars}
 
-blank-step : (x : ℕ) (s : Bytes) → blank Ascii (x ∷ s) ≡ isAsciiWhite x && blank Ascii s
+pub white-more : (x : ℕ) (s : Bytes) → isAsciiWhite x ≡ true → whiteLen Ascii (x ∷ s) ≡ suc (whiteLen Ascii s)
+unfolding whiteLen takeWhile white flatten
+white-more x s e = rw (ascii-chars x s, e)
+
+pub white-ends : (x : ℕ) (s : Bytes) → isAsciiWhite x ≡ false → whiteLen Ascii (x ∷ s) ≡ 0
+unfolding whiteLen takeWhile white flatten
+white-ends x s e = rw (ascii-chars x s, e)
+
+pub blank-step : (x : ℕ) (s : Bytes) → blank Ascii (x ∷ s) ≡ isAsciiWhite x && blank Ascii s
 unfolding blank every white
 blank-step x s = rw (ascii-chars x s)
 

@@ -4,9 +4,10 @@ use mathlib.Core.Bool.{Bool, true, false, not, _&&_, _||_, or-true, or-false}
 use mathlib.Core.List.{List, _++_}
 use Prim.Native.Nat.{ℕ, _+_, _-_, _≤_, _<_}
 use native.Mathlib.Omega.{arith}
-use borrow.Author.Tests.{eq-eqb, ne-eqb}
+use lib.Dec.{eqb}
+use borrow.Author.Tests.{eq-eqb, ne-eqb, eqb-true, eqb-false}
 use Rattle.parts.specs.Bytes.{Bytes}
-use Rattle.texts.specs.Text.{endsWhite, normalizeText}
+use Rattle.texts.specs.Text.{endsWhite, normalizeText, written, segments}
 use Rattle.texts.specs.declared.Normalized.{Normalized}
 use Rattle.texts.proofs.Edges.{trail-unasked}
 use Rattle.tape.specs.File.{Tape, tapeIn, textAt}
@@ -17,6 +18,8 @@ use Rattle.tape.specs.declared.Cursor.{Cursor}
 use Rattle.tape.specs.declared.Step.{Step}
 use Rattle.tape.specs.declared.Step.the-variants.{At, Done}
 use Rattle.tape.proofs.Walk.{left-turn}
+use Rattle.lean.specs.Lean.{lean}
+use Rattle.lean.proofs.Leans.{normalize-lean, body-lean}
 use Rattle.render.specs.Follow.{nextSolid, inlineAt, inlineFollows, Kept}
 use Rattle.render.specs.Label.{labelOf}
 use Rattle.render.specs.Note.{remainder}
@@ -85,8 +88,20 @@ module _ (t : Tape) (c : Cursor) (s : Bytes) (trim behind : Bool) (kept : Step) 
 
 -- ---- a text
 
+normalized-lean : (t : Tape) (k : ℕ) (s : Bytes) (trim behind : Bool) → normalized t k (lean s) trim behind ≡ normalized t k s trim behind
+unfolding normalized
+normalized-lean t k s trim behind = normalize-lean s (not trim) (inlineFollows t k || behind)
+
+unbroken-lean : (s : Bytes) (n : Normalized) → unbroken (lean s) n ≡ unbroken s n
+unfolding unbroken written
+unbroken-lean s n = rw (body-lean s)
+
+broken-lean : (s : Bytes) (n : Normalized) → broken (lean s) n ≡ broken s n
+unfolding broken segments
+broken-lean s n = rw (body-lean s, unbroken-lean s n)
+
 module _ (c : Sections) (file : Bytes) (k : Cursor) (trim behind : Bool) (kept : Step) (sink : Sink) (out : Bytes) where
-  pub words-written : {s : Bytes} → s ≡ textAt (tapeIn c file) (k .at) → {n : Normalized} → (Kept (tapeIn c file) k kept → n ≡ normalized (tapeIn c file) (k .at) s trim behind)
+  pub words-written : {s : Bytes} → s ≡ lean (textAt (tapeIn c file) (k .at)) → {n : Normalized} → (Kept (tapeIn c file) k kept → n ≡ normalized (tapeIn c file) (k .at) s trim behind)
       → (r : Sink) (last : Bytes) → ((source : Bytes) → deskIn source r last ≡ emitAll (deskIn source sink out) (broken s n))
       → {x : Bool} → x ≡ trim && not (n .shows)
       → Kept (tapeIn c file) k kept → (node : ℕ → Bool → List Event) (ks : List ℕ)
@@ -96,14 +111,14 @@ module _ (c : Sections) (file : Bytes) (k : Cursor) (trim behind : Bool) (kept :
   words-written {s} es {n} en r last er {x} ex h node ks =
       let t : Tape = tapeIn c file in
       let w : Desk = deskIn (t .source) sink out in
-      let is : n ≡ normalized t (k .at) (textAt t (k .at)) trim behind = en h ∙ ap (λ (z : Bytes). normalized t (k .at) z trim behind) es in
+      let is : n ≡ normalized t (k .at) (textAt t (k .at)) trim behind = en h ∙ ap (λ (z : Bytes). normalized t (k .at) z trim behind) es ∙ normalized-lean t (k .at) (textAt t (k .at)) trim behind in
       ap (λ (z : Desk). emitAll z (inlineAll node t behind x ks)) (er (t .source))
       ∙ sym (emit-append w (broken s n) (inlineAll node t behind x ks))
       ∙ ap (λ (z : Bool). emitAll w (broken s n ++ inlineAll node t behind z ks)) ex
-      ∙ ap (λ (z : Bytes). emitAll w (broken z n ++ inlineAll node t behind (trim && not (n .shows)) ks)) es
+      ∙ ap (λ (es : List Event). emitAll w (es ++ inlineAll node t behind (trim && not (n .shows)) ks)) (ap (λ (z : Bytes). broken z n) es ∙ broken-lean (textAt t (k .at)) n)
       ∙ ap (λ (z : Normalized). emitAll w (broken (textAt t (k .at)) z ++ inlineAll node t behind (trim && not (z .shows)) ks)) is
 
-  pub note-written : (parent : Cursor) {s : Bytes} → s ≡ noteText (tapeIn c file) (parent .at + 1) (k .at) → {n : Normalized}
+  pub note-written : (parent : Cursor) {s : Bytes} → s ≡ lean (noteText (tapeIn c file) (parent .at + 1) (k .at)) → {n : Normalized}
       → (Kept (tapeIn c file) k kept → n ≡ normalized (tapeIn c file) (k .at) s trim behind)
       → (r : Sink) (last : Bytes) → ((source : Bytes) → deskIn source r last ≡ emitAll (deskIn source sink out) (unbroken s n))
       → {x : Bool} → x ≡ trim && not (n .shows)
@@ -115,11 +130,11 @@ module _ (c : Sections) (file : Bytes) (k : Cursor) (trim behind : Bool) (kept :
       let t : Tape = tapeIn c file in
       let first : ℕ = parent .at + 1 in
       let w : Desk = deskIn (t .source) sink out in
-      let is : n ≡ normalized t (k .at) (noteText t first (k .at)) trim behind = en h ∙ ap (λ (z : Bytes). normalized t (k .at) z trim behind) es in
+      let is : n ≡ normalized t (k .at) (noteText t first (k .at)) trim behind = en h ∙ ap (λ (z : Bytes). normalized t (k .at) z trim behind) es ∙ normalized-lean t (k .at) (noteText t first (k .at)) trim behind in
       ap (λ (z : Desk). emitAll z (noteAll node t first behind x ks)) (er (t .source))
       ∙ sym (emit-append w (unbroken s n) (noteAll node t first behind x ks))
       ∙ ap (λ (z : Bool). emitAll w (unbroken s n ++ noteAll node t first behind z ks)) ex
-      ∙ ap (λ (z : Bytes). emitAll w (unbroken z n ++ noteAll node t first behind (trim && not (n .shows)) ks)) es
+      ∙ ap (λ (es : List Event). emitAll w (es ++ noteAll node t first behind (trim && not (n .shows)) ks)) (ap (λ (z : Bytes). unbroken z n) es ∙ unbroken-lean (noteText t first (k .at)) n)
       ∙ ap (λ (z : Normalized). emitAll w (unbroken (noteText t first (k .at)) z ++ noteAll node t first behind (trim && not (z .shows)) ks)) is
 
 -- what the look gives, kept for the next sibling
@@ -136,20 +151,25 @@ pub passed-kept : (t : Tape) (c : Cursor) (kept : Step) {next : Step} (solid : S
 passed-kept t c kept solid en e h = e t h en
 
 -- the text of a note's child
-module _ (t : Tape) (parent c : Cursor) {s : Bytes} (es : s ≡ textAt t (c .at)) where
-  pub first-text : (c .at - 1 ≡ parent .at) → 0 < c .at → {r : Bytes} → r ≡ remainder s → r ≡ noteText t (parent .at + 1) (c .at)
+module _ (parent c : Cursor) where
+  pub first-beside : 0 < c .at → eqb (c .at - 1) (parent .at) ≡ eqb (c .at) (parent .at + 1)
+  first-beside h = go (eqb (c .at - 1) (parent .at)) refl
+    where
+      go : (x : Bool) → eqb (c .at - 1) (parent .at) ≡ x → x ≡ eqb (c .at) (parent .at + 1)
+      go true e = let b = eqb-true (c .at - 1) (parent .at) e in sym (eq-eqb (c .at) (parent .at + 1) (omega arith))
+      go false e = let n = eqb-false (c .at - 1) (parent .at) e in sym (ne-eqb (c .at) (parent .at + 1) (λ z. n (omega arith)))
+
+  pub first-root : c .at ≤ 0 → false ≡ eqb (c .at) (parent .at + 1)
+  first-root h = sym (ne-eqb (c .at) (parent .at + 1) (λ z. omega arith))
+
+module _ (t : Tape) (parent c : Cursor) {x : Bool} (ex : x ≡ eqb (c .at) (parent .at + 1)) {s : Bytes} where
+  pub first-text : x ≡ true → s ≡ textAt t (c .at) → {r l : Bytes} → r ≡ remainder s → l ≡ lean r → l ≡ lean (noteText t (parent .at + 1) (c .at))
   unfolding noteText
-  first-text h p er = rw (eq-eqb (c .at) (parent .at + 1) (omega arith)) (er ∙ ap remainder es)
+  first-text h es er el = rw (sym ex ∙ h) (el ∙ ap lean (er ∙ ap remainder es))
 
-  other : (c .at ≡ parent .at + 1 → ⊥) → s ≡ noteText t (parent .at + 1) (c .at)
+  pub later-text : x ≡ false → s ≡ lean (textAt t (c .at)) → s ≡ lean (noteText t (parent .at + 1) (c .at))
   unfolding noteText
-  other n = rw (ne-eqb (c .at) (parent .at + 1) n) es
-
-  pub later-text : (c .at - 1 ≡ parent .at → ⊥) → s ≡ noteText t (parent .at + 1) (c .at)
-  later-text n = other (λ e. n (omega arith))
-
-  pub root-text : c .at ≤ 0 → s ≡ noteText t (parent .at + 1) (c .at)
-  root-text h = other (λ e. omega arith)
+  later-text h es = rw (sym ex ∙ h) es
 
 -- ---- a verse
 

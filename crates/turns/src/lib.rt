@@ -3,9 +3,11 @@ ghost use mathlib.Core.Path.{_≡_};
 ghost use mathlib.Core.Bool.{Bool, not, _&&_};
 ghost use mathlib.Core.List.{List};
 ghost use Prim.Native.Nat.{ℕ, _+_, _<_};
+ghost use lib.Dec.{eqb};
 ghost use Rattle.tape.specs.File.{Tape, tapeIn};
 ghost use Rattle.tape.specs.Tree.{nextSibling, walkFrom, left};
 ghost use Rattle.tape.specs.declared.Step.the-variants.{At};
+ghost use Rattle.lean.specs.Lean.{lean, Solids};
 ghost use Rattle.render.specs.Follow.{Kept};
 ghost use Rattle.events.specs.Event.{Event};
 ghost use Rattle.events.specs.Walk.{normalized, inlineAll, noteText, noteAll};
@@ -14,6 +16,8 @@ ghost use Rattle.sink.specs.Desk.{deskIn};
 ghost use Rattle.lists.specs.Span.{nodesIn};
 ghost use Rattle.turns.specs.Turn.{sortOf, sortIn, noteSort, plainFrom, notePlain, KeptAt};
 ghost use Rattle.turns.specs.declared.Child.the-variants.{Anchor, Words};
+use lean::lean_of;
+use lean::lean_text;
 use lists::Member;
 use lists::Span;
 use lists::fold_in;
@@ -123,6 +127,7 @@ fn past(kept: Step, c: Cursor, next: Step) -> Step
 fn look(
     file: &[u8],
     tape: Sections,
+    solids: &[u32],
     c: Cursor,
     s: &[u8],
     trim: bool,
@@ -130,6 +135,7 @@ fn look(
     kept: Step,
     next: Step,
 ) -> Looked
+    requires { ⌜ Solids (tapeIn tape (now file)) (now solids) ⌝ }
     ensures { λ r. ⌜ (Kept (tapeIn tape (now (file .entry))) c kept → r .text ≡ normalized (tapeIn tape (now (file .entry))) (c .at) (now (s .entry)) trim behind) ⌝ }
     ensures { λ r. ⌜ (Kept (tapeIn tape (now (file .entry))) c kept → next ≡ nextSibling (tapeIn tape (now (file .entry))) (c .at) → KeptAt (tapeIn tape (now (file .entry))) next (r .kept)) ⌝ }
 {
@@ -140,7 +146,7 @@ fn look(
         };
     }
     if texts::ends_white(s) {
-        let solid = render::solid_behind(file, tape, c, kept);
+        let solid = render::solid_behind(file, tape, solids, c, kept);
         return Looked {
             text: texts::normalize_text(s, !trim, render::inline_at(file, tape, solid)),
             kept: solid,
@@ -166,6 +172,7 @@ fn still(trim: bool, n: Normalized) -> bool
 fn words_turn(
     file: &[u8],
     tape: Sections,
+    solids: &[u32],
     c: Cursor,
     trim: bool,
     behind: bool,
@@ -173,13 +180,14 @@ fn words_turn(
     sink: Sink,
     out: &mut [u8],
 ) -> Going
+    requires { ⌜ Solids (tapeIn tape (now file)) (now solids) ⌝ }
     ensures { λ r. ⌜ (Kept (tapeIn tape (now (file .entry))) c kept → (node : ℕ → Bool → List Event) (ks : List ℕ) → emitAll (deskIn (tapeIn tape (now (file .entry)) .source) (r .sink) (now (out .exit))) (inlineAll node (tapeIn tape (now (file .entry))) behind (r .trim) ks) ≡ emitAll (deskIn (tapeIn tape (now (file .entry)) .source) sink (now (out .entry))) (plainFrom node (tapeIn tape (now (file .entry))) behind trim (c .at) ks Words)) ⌝ }
     ensures { λ r. ⌜ (Kept (tapeIn tape (now (file .entry))) c kept → KeptAt (tapeIn tape (now (file .entry))) (r .next) (r .kept)) ⌝ }
     ensures { λ r. ⌜ r .next ≡ nextSibling (tapeIn tape (now (file .entry))) (c .at) ⌝ }
 {
     let next = c.next_sibling(file, tape);
-    let s = c.text(file, tape);
-    let l = look(file, tape, c, s, trim, behind, kept, next);
+    let s = lean_text(file, tape, solids, c);
+    let l = look(file, tape, solids, c, s, trim, behind, kept, next);
     let n = l.text;
     let solid = l.kept;
     let r = breaks::put_broken(s, n, sink, out);
@@ -195,11 +203,13 @@ fn words_turn(
 fn anchor_turn(
     file: &[u8],
     tape: Sections,
+    solids: &[u32],
     span: Span,
     c: Cursor,
     sink: Sink,
     out: &mut [u8],
 ) -> Going
+    requires { ⌜ Solids (tapeIn tape (now file)) (now solids) ⌝ }
     ensures { λ r. ⌜ ((node : ℕ → Bool → List Event) (behind trim : Bool) → emitAll (deskIn (tapeIn tape (now (file .entry)) .source) (r .sink) (now (out .exit))) (inlineAll node (tapeIn tape (now (file .entry))) behind (r .trim) (nodesIn (tapeIn tape (now (file .entry))) span (r .next))) ≡ emitAll (deskIn (tapeIn tape (now (file .entry)) .source) sink (now (out .entry))) (plainFrom node (tapeIn tape (now (file .entry))) behind trim (c .at) (nodesIn (tapeIn tape (now (file .entry))) span (nextSibling (tapeIn tape (now (file .entry))) (c .at))) Anchor)) ⌝ }
     ensures { λ r. ⌜ KeptAt (tapeIn tape (now (file .entry))) (r .next) (r .kept) ⌝ }
     ensures { λ r. ⌜ left (tapeIn tape (now (file .entry))) (r .next) < left (tapeIn tape (now (file .entry))) (At c) ⌝ }
@@ -207,6 +217,7 @@ fn anchor_turn(
     let f = fold_in(
         file,
         tape,
+        solids,
         span,
         Kind::new(Kind::VERSE),
         c.next_sibling(file, tape),
@@ -243,6 +254,7 @@ fn passed_turn(file: &[u8], tape: Sections, c: Cursor, trim: bool, kept: Step, s
 pub fn plain_turn(
     file: &[u8],
     tape: Sections,
+    solids: &[u32],
     span: Span,
     c: Cursor,
     child: Child,
@@ -252,13 +264,14 @@ pub fn plain_turn(
     sink: Sink,
     out: &mut [u8],
 ) -> Going
+    requires { ⌜ Solids (tapeIn tape (now file)) (now solids) ⌝ }
     ensures { λ r. ⌜ (Kept (tapeIn tape (now (file .entry))) c kept → (node : ℕ → Bool → List Event) → emitAll (deskIn (tapeIn tape (now (file .entry)) .source) (r .sink) (now (out .exit))) (inlineAll node (tapeIn tape (now (file .entry))) behind (r .trim) (nodesIn (tapeIn tape (now (file .entry))) span (r .next))) ≡ emitAll (deskIn (tapeIn tape (now (file .entry)) .source) sink (now (out .entry))) (plainFrom node (tapeIn tape (now (file .entry))) behind trim (c .at) (nodesIn (tapeIn tape (now (file .entry))) span (nextSibling (tapeIn tape (now (file .entry))) (c .at))) child)) ⌝ }
     ensures { λ r. ⌜ (Kept (tapeIn tape (now (file .entry))) c kept → KeptAt (tapeIn tape (now (file .entry))) (r .next) (r .kept)) ⌝ }
     ensures { λ r. ⌜ left (tapeIn tape (now (file .entry))) (r .next) < left (tapeIn tape (now (file .entry))) (At c) ⌝ }
 {
     match child {
-        Child::Anchor => anchor_turn(file, tape, span, c, sink, out),
-        Child::Words => words_turn(file, tape, c, trim, behind, kept, sink, out),
+        Child::Anchor => anchor_turn(file, tape, solids, span, c, sink, out),
+        Child::Words => words_turn(file, tape, solids, c, trim, behind, kept, sink, out),
         Child::Passed => passed_turn(file, tape, c, trim, kept, sink),
         Child::Skipped => passed_turn(file, tape, c, trim, kept, sink),
     }
@@ -266,23 +279,38 @@ pub fn plain_turn(
 
 // ---- notes
 
-// The text of a note's child: the caller's word goes from the first child.
-fn note_text(file: &[u8], tape: Sections, parent: Cursor, c: Cursor) -> &[u8]
-    ensures { λ r. ⌜ now r ≡ noteText (tapeIn tape (now (file .entry))) (parent .at + 1) (c .at) ⌝ }
+// Whether a node is the first child of another: it stands right behind it.
+fn is_first(parent: Cursor, c: Cursor) -> bool
+    ensures { λ r. ⌜ r ≡ eqb (c .at) (parent .at + 1) ⌝ }
 {
-    let s = c.text(file, tape);
     if 0 < c.at {
-        if c.at - 1 == parent.at {
-            return render::remainder(s);
-        }
+        return c.at - 1 == parent.at;
     }
-    s
+    false
+}
+
+// The text of a note's child, made lean: the caller's word goes from the first child.
+fn note_text<'a>(
+    file: &'a [u8],
+    tape: Sections,
+    solids: &[u32],
+    parent: Cursor,
+    c: Cursor,
+) -> &'a [u8]
+    requires { ⌜ Solids (tapeIn tape (now file)) (now solids) ⌝ }
+    ensures { λ r. ⌜ now r ≡ lean (noteText (tapeIn tape (now (file .entry))) (parent .at + 1) (c .at)) ⌝ }
+{
+    if is_first(parent, c) {
+        return lean_of(render::remainder(c.text(file, tape)));
+    }
+    lean_text(file, tape, solids, c)
 }
 
 // A text of a note.
 fn note_words(
     file: &[u8],
     tape: Sections,
+    solids: &[u32],
     parent: Cursor,
     c: Cursor,
     trim: bool,
@@ -291,13 +319,14 @@ fn note_words(
     sink: Sink,
     out: &mut [u8],
 ) -> Going
+    requires { ⌜ Solids (tapeIn tape (now file)) (now solids) ⌝ }
     ensures { λ r. ⌜ (Kept (tapeIn tape (now (file .entry))) c kept → (node : ℕ → Bool → List Event) (ks : List ℕ) → emitAll (deskIn (tapeIn tape (now (file .entry)) .source) (r .sink) (now (out .exit))) (noteAll node (tapeIn tape (now (file .entry))) (parent .at + 1) behind (r .trim) ks) ≡ emitAll (deskIn (tapeIn tape (now (file .entry)) .source) sink (now (out .entry))) (notePlain node (tapeIn tape (now (file .entry))) behind trim (parent .at + 1) (c .at) ks Words)) ⌝ }
     ensures { λ r. ⌜ (Kept (tapeIn tape (now (file .entry))) c kept → KeptAt (tapeIn tape (now (file .entry))) (r .next) (r .kept)) ⌝ }
     ensures { λ r. ⌜ r .next ≡ nextSibling (tapeIn tape (now (file .entry))) (c .at) ⌝ }
 {
     let next = c.next_sibling(file, tape);
-    let s = note_text(file, tape, parent, c);
-    let l = look(file, tape, c, s, trim, behind, kept, next);
+    let s = note_text(file, tape, solids, parent, c);
+    let l = look(file, tape, solids, c, s, trim, behind, kept, next);
     let n = l.text;
     let solid = l.kept;
     let r = breaks::put_unbroken(s, n, sink, out);
@@ -313,6 +342,7 @@ fn note_words(
 pub fn note_turn(
     file: &[u8],
     tape: Sections,
+    solids: &[u32],
     parent: Cursor,
     c: Cursor,
     child: Child,
@@ -322,12 +352,13 @@ pub fn note_turn(
     sink: Sink,
     out: &mut [u8],
 ) -> Going
+    requires { ⌜ Solids (tapeIn tape (now file)) (now solids) ⌝ }
     ensures { λ r. ⌜ (Kept (tapeIn tape (now (file .entry))) c kept → (node : ℕ → Bool → List Event) → emitAll (deskIn (tapeIn tape (now (file .entry)) .source) (r .sink) (now (out .exit))) (noteAll node (tapeIn tape (now (file .entry))) (parent .at + 1) behind (r .trim) (walkFrom (tapeIn tape (now (file .entry))) (r .next))) ≡ emitAll (deskIn (tapeIn tape (now (file .entry)) .source) sink (now (out .entry))) (notePlain node (tapeIn tape (now (file .entry))) behind trim (parent .at + 1) (c .at) (walkFrom (tapeIn tape (now (file .entry))) (nextSibling (tapeIn tape (now (file .entry))) (c .at))) child)) ⌝ }
     ensures { λ r. ⌜ (Kept (tapeIn tape (now (file .entry))) c kept → KeptAt (tapeIn tape (now (file .entry))) (r .next) (r .kept)) ⌝ }
     ensures { λ r. ⌜ left (tapeIn tape (now (file .entry))) (r .next) < left (tapeIn tape (now (file .entry))) (At c) ⌝ }
 {
     match child {
-        Child::Words => note_words(file, tape, parent, c, trim, behind, kept, sink, out),
+        Child::Words => note_words(file, tape, solids, parent, c, trim, behind, kept, sink, out),
         Child::Passed => passed_turn(file, tape, c, trim, kept, sink),
         Child::Anchor => passed_turn(file, tape, c, trim, kept, sink),
         Child::Skipped => passed_turn(file, tape, c, trim, kept, sink),

@@ -1,5 +1,5 @@
 -- The contract of `serialize` leaves one answer and one buffer.
-use mathlib.Core.Path.{_≡_, refl, sym, ap, _∙_}
+use mathlib.Core.Path.{_≡_, sym, ap, _∙_}
 use Prim.Native.Nat.{ℕ, zero, suc, _<_}
 use native.Mathlib.Omega.{arith}
 use Rattle.parts.specs.Bytes.{Bytes}
@@ -7,7 +7,7 @@ use Rattle.tape.specs.File.{tapeOf}
 use Rattle.admit.specs.Decide.{refusal}
 use Rattle.admit.specs.Refusal.{Refusal, none, first, second, third, fourth, fifth, sixth, seventh}
 use Rattle.admit.proofs.Decide.{refusal-right}
-use Rattle.events.specs.Text.{textOf, Outcome, fitting, outcomeBy, outcome}
+use Rattle.events.specs.Text.{textOf, Outcome, outcomeBy, outcome}
 use Rattle.bounds.proofs.Whole.{fitting-given}
 use Rattle.usx.proofs.Whole.{text-some}
 use Rattle.usx.specs.Answer.{numberOf, givenOf, outcomeOf}

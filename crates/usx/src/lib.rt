@@ -1,8 +1,9 @@
 // The USX text of a tape file: admission, a measuring walk, a writing walk.
 ghost use mathlib.Core.Path.{_≡_};
-ghost use Prim.Native.Nat.{_<_, _^_};
+ghost use Prim.Native.Nat.{_≤_, _<_, _^_};
 ghost use lib.ListN.{length};
 ghost use Rattle.tape.specs.File.{tapeIn};
+ghost use Rattle.lean.specs.Lean.{Solids};
 ghost use Rattle.events.specs.Text.{firstState, textOf, fitting, outcome};
 ghost use Rattle.usx.specs.Answer.{outcomeOf, wholeIn};
 use admit::Admitted;
@@ -13,6 +14,7 @@ use sink::literal;
 use tape::Cursor;
 use tape::Kind;
 use tape::Sections;
+use tape::long;
 
 // Written with its length; refused by document 01's number; no room for a text of this length.
 pub enum Answer {
@@ -37,7 +39,8 @@ fn first_number(file: &[u8], tape: Sections) -> u32
 }
 
 // The whole text from its first byte on; its length.
-fn write_text(file: &[u8], tape: Sections, number: u32, out: &mut [u8]) -> usize
+fn write_text(file: &[u8], tape: Sections, solids: &[u32], number: u32, out: &mut [u8]) -> usize
+    requires { ⌜ Solids (tapeIn tape (now file)) (now solids) ⌝ }
     ensures { λ r. ⌜ (number ≡ firstState (tapeIn tape (now (file .entry))) .number → r ≡ wholeIn (tapeIn tape (now (file .entry))) (now (out .entry)) .at) ⌝ }
     ensures { λ _. ⌜ (number ≡ firstState (tapeIn tape (now (file .entry))) .number → now (out .exit) ≡ wholeIn (tapeIn tape (now (file .entry))) (now (out .entry)) .buf) ⌝ }
 {
@@ -48,23 +51,75 @@ fn write_text(file: &[u8], tape: Sections, number: u32, out: &mut [u8]) -> usize
     };
     let first = Cursor::new(0).first_child(file, tape);
     let a = literal(sink, out, b"<usx version=\"3.0\">");
-    let d = blocks(file, tape, false, first, 64, a, out);
+    let d = blocks(file, tape, solids, false, first, 64, a, out);
     let e = milestone::last_ends(file, tape, d, out);
     let z = literal(e, out, b"\n</usx>");
     z.at
 }
 
 // The text of an admitted tape, where there is room for it.
-fn write_in(file: &[u8], tape: Sections, out: &mut [u8]) -> Answer
+fn write_by(file: &[u8], tape: Sections, solids: &[u32], out: &mut [u8]) -> Answer
+    requires { ⌜ Solids (tapeIn tape (now file)) (now solids) ⌝ }
     ensures { λ r. ⌜ (length (textOf (tapeIn tape (now (file .entry)))) < 2 ^ 60 → outcomeOf r (now (out .exit)) ≡ fitting (textOf (tapeIn tape (now (file .entry)))) (now (out .entry))) ⌝ }
 {
     let number = first_number(file, tape);
-    let n = write_text(file, tape, number, &mut out[..0]);
+    let n = write_text(file, tape, solids, number, &mut out[..0]);
     if n <= out.len() {
-        let _ = write_text(file, tape, number, out);
+        let _ = write_text(file, tape, solids, number, out);
         Answer::Written(n)
     } else {
         Answer::NoRoom(n)
+    }
+}
+
+// The same with a table that is not filled yet.
+fn write_tabled(file: &[u8], tape: Sections, solids: &mut [u32], out: &mut [u8]) -> Answer
+    ensures { λ r. ⌜ (length (textOf (tapeIn tape (now (file .entry)))) < 2 ^ 60 → outcomeOf r (now (out .exit)) ≡ fitting (textOf (tapeIn tape (now (file .entry)))) (now (out .entry))) ⌝ }
+{
+    lean::fill(solids, file, tape);
+    write_by(file, tape, solids, out)
+}
+
+// How many blocks of 64 bytes a source has, up to so many.
+fn blocks_of(tape: Sections, most: usize) -> usize
+    ensures { λ r. ⌜ r ≤ most ⌝ }
+{
+    let n = long(tape.source) / 64 + 1;
+    if n < most { n } else { most }
+}
+
+// The same with as many blocks of a table as the source has.
+fn write_blocks(file: &[u8], tape: Sections, table: &mut [u32], out: &mut [u8]) -> Answer
+    ensures { λ r. ⌜ (length (textOf (tapeIn tape (now (file .entry)))) < 2 ^ 60 → outcomeOf r (now (out .exit)) ≡ fitting (textOf (tapeIn tape (now (file .entry)))) (now (out .entry))) ⌝ }
+{
+    let n = blocks_of(tape, table.len());
+    write_tabled(file, tape, &mut table[..n], out)
+}
+
+// The same with a table for a source of 4,096 bytes.
+fn write_short(file: &[u8], tape: Sections, out: &mut [u8]) -> Answer
+    ensures { λ r. ⌜ (length (textOf (tapeIn tape (now (file .entry)))) < 2 ^ 60 → outcomeOf r (now (out .exit)) ≡ fitting (textOf (tapeIn tape (now (file .entry)))) (now (out .entry))) ⌝ }
+{
+    let mut table = [0u32; 64];
+    write_blocks(file, tape, &mut table, out)
+}
+
+// The same with a table for the longest source.
+fn write_long(file: &[u8], tape: Sections, out: &mut [u8]) -> Answer
+    ensures { λ r. ⌜ (length (textOf (tapeIn tape (now (file .entry)))) < 2 ^ 60 → outcomeOf r (now (out .exit)) ≡ fitting (textOf (tapeIn tape (now (file .entry)))) (now (out .entry))) ⌝ }
+{
+    let mut table = [0u32; 65536];
+    write_blocks(file, tape, &mut table, out)
+}
+
+// The same, whatever the source's length.
+fn write_in(file: &[u8], tape: Sections, out: &mut [u8]) -> Answer
+    ensures { λ r. ⌜ (length (textOf (tapeIn tape (now (file .entry)))) < 2 ^ 60 → outcomeOf r (now (out .exit)) ≡ fitting (textOf (tapeIn tape (now (file .entry)))) (now (out .entry))) ⌝ }
+{
+    if tape.source <= 4096 {
+        write_short(file, tape, out)
+    } else {
+        write_long(file, tape, out)
     }
 }
 

@@ -39,41 +39,41 @@ use Rattle.tape.proofs.Cursor.next_sibling.Reads as next-sibling-reads
 use Rattle.blocks.proofs.+blocks+full_holder+held+inner.{statement}
 use Rattle.blocks.proofs.+blocks+full_holder+held+inner.Tie.{close}
 
-abbrev μ-blocks : Measures 2 blocks-kinds.ps ℕ
-μ-blocks κs a = 4 * a .1 .1 .1 .1 .0 + 3
+abbrev μ-blocks : Measures 3 blocks-kinds.ps ℕ
+μ-blocks κs a = 4 * a .1 .1 .1 .1 .1 .0 + 3
 
-abbrev μ-full-holder : Measures 2 full-holder-kinds.ps ℕ
-μ-full-holder κs a = 4 * a .1 .1 .1 .1 .0 + 1
+abbrev μ-full-holder : Measures 3 full-holder-kinds.ps ℕ
+μ-full-holder κs a = 4 * a .1 .1 .1 .1 .1 .0 + 1
 
-abbrev μ-held : Measures 2 held-kinds.ps ℕ
-μ-held κs a = 4 * a .1 .1 .1 .1 .0 + 2
+abbrev μ-held : Measures 3 held-kinds.ps ℕ
+μ-held κs a = 4 * a .1 .1 .1 .1 .1 .0 + 2
 
-abbrev μ-inner : Measures 2 inner-kinds.ps ℕ
-μ-inner κs a = 4 * a .1 .1 .1 .1 .0 + 0
+abbrev μ-inner : Measures 3 inner-kinds.ps ℕ
+μ-inner κs a = 4 * a .1 .1 .1 .1 .1 .0 + 0
 
-abbrev blocks-at : ℕ → In 2 blocks-kinds.ps
-blocks-at t = and 2 blocks-kinds.ps (is 2 blocks-kinds.ps μ-blocks t) blocks.Pre
+abbrev blocks-at : ℕ → In 3 blocks-kinds.ps
+blocks-at t = and 3 blocks-kinds.ps (is 3 blocks-kinds.ps μ-blocks t) blocks.Pre
 
-abbrev blocks-below : ℕ → In 2 blocks-kinds.ps
-blocks-below t = and 2 blocks-kinds.ps (falls 2 blocks-kinds.ps _<_ μ-blocks t) blocks.Pre
+abbrev blocks-below : ℕ → In 3 blocks-kinds.ps
+blocks-below t = and 3 blocks-kinds.ps (falls 3 blocks-kinds.ps _<_ μ-blocks t) blocks.Pre
 
-abbrev full-holder-at : ℕ → In 2 full-holder-kinds.ps
-full-holder-at t = and 2 full-holder-kinds.ps (is 2 full-holder-kinds.ps μ-full-holder t) full-holder.Pre
+abbrev full-holder-at : ℕ → In 3 full-holder-kinds.ps
+full-holder-at t = and 3 full-holder-kinds.ps (is 3 full-holder-kinds.ps μ-full-holder t) full-holder.Pre
 
-abbrev full-holder-below : ℕ → In 2 full-holder-kinds.ps
-full-holder-below t = and 2 full-holder-kinds.ps (falls 2 full-holder-kinds.ps _<_ μ-full-holder t) full-holder.Pre
+abbrev full-holder-below : ℕ → In 3 full-holder-kinds.ps
+full-holder-below t = and 3 full-holder-kinds.ps (falls 3 full-holder-kinds.ps _<_ μ-full-holder t) full-holder.Pre
 
-abbrev held-at : ℕ → In 2 held-kinds.ps
-held-at t = and 2 held-kinds.ps (is 2 held-kinds.ps μ-held t) held.Pre
+abbrev held-at : ℕ → In 3 held-kinds.ps
+held-at t = and 3 held-kinds.ps (is 3 held-kinds.ps μ-held t) held.Pre
 
-abbrev held-below : ℕ → In 2 held-kinds.ps
-held-below t = and 2 held-kinds.ps (falls 2 held-kinds.ps _<_ μ-held t) held.Pre
+abbrev held-below : ℕ → In 3 held-kinds.ps
+held-below t = and 3 held-kinds.ps (falls 3 held-kinds.ps _<_ μ-held t) held.Pre
 
-abbrev inner-at : ℕ → In 2 inner-kinds.ps
-inner-at t = and 2 inner-kinds.ps (is 2 inner-kinds.ps μ-inner t) inner.Pre
+abbrev inner-at : ℕ → In 3 inner-kinds.ps
+inner-at t = and 3 inner-kinds.ps (is 3 inner-kinds.ps μ-inner t) inner.Pre
 
-abbrev inner-below : ℕ → In 2 inner-kinds.ps
-inner-below t = and 2 inner-kinds.ps (falls 2 inner-kinds.ps _<_ μ-inner t) inner.Pre
+abbrev inner-below : ℕ → In 3 inner-kinds.ps
+inner-below t = and 3 inner-kinds.ps (falls 3 inner-kinds.ps _<_ μ-inner t) inner.Pre
 
 abbrev blocks-calls : ℕ → blocks-lts.Claims
 blocks-calls t = (member-of-reads.Asked, member-of-reads.Learnt, next-sibling-reads.Asked, next-sibling-reads.Learnt, holder-of-reads.Asked, holder-of-reads.Learnt, held-below t, held.Post, block-turn-reads.Asked, block-turn-reads.Learnt)
@@ -90,10 +90,10 @@ inner-calls t = (blocks-below t, blocks.Post)
 -- ---- blocks
 
 abbrev blocks-Inv-loop : blocks-lts.InvT-loop
-blocks-Inv-loop file tape sifted depth out₀ span s₀ step₀ out s step = (emitAll (deskIn (tapeIn tape file .source) s out) (blocksAll (below (tapeIn tape file) depth) (tapeIn tape file) depth (nodesIn (tapeIn tape file) (uncut sifted) step)) ≡ emitAll (deskIn (tapeIn tape file .source) s₀ out₀) (blocksAll (below (tapeIn tape file) depth) (tapeIn tape file) depth (nodesIn (tapeIn tape file) (uncut sifted) step₀))) × (length out ≡ length out₀)
+blocks-Inv-loop file tape solids sifted depth out₀ span s₀ step₀ out s step = (emitAll (deskIn (tapeIn tape file .source) s out) (blocksAll (below (tapeIn tape file) depth) (tapeIn tape file) depth (nodesIn (tapeIn tape file) (uncut sifted) step)) ≡ emitAll (deskIn (tapeIn tape file .source) s₀ out₀) (blocksAll (below (tapeIn tape file) depth) (tapeIn tape file) depth (nodesIn (tapeIn tape file) (uncut sifted) step₀))) × (length out ≡ length out₀)
 
 abbrev blocks-μ-loop : blocks-lts.MeasureT-loop
-blocks-μ-loop file tape sifted depth out₀ span s₀ step₀ out s step = left (tapeIn tape file) step
+blocks-μ-loop file tape solids sifted depth out₀ span s₀ step₀ out s step = left (tapeIn tape file) step
 
 blocks-loop-holds : (t : ℕ) → blocks-lts.Need-loop-holds (blocks-calls t) (blocks-at t) blocks.Post blocks-Inv-loop blocks-μ-loop
 blocks-loop-holds t c = (refl, refl)

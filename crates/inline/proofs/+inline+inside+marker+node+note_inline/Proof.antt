@@ -50,50 +50,50 @@ use Rattle.turns.proofs.sort_in.Reads as sort-in-reads
 use Rattle.inline.proofs.+inline+inside+marker+node+note_inline.{statement}
 use Rattle.inline.proofs.+inline+inside+marker+node+note_inline.Tie.{close}
 
-abbrev μ-inline : Measures 2 inline-kinds.ps ℕ
-μ-inline κs a = 4 * a .1 .1 .1 .1 .0 + 3
+abbrev μ-inline : Measures 3 inline-kinds.ps ℕ
+μ-inline κs a = 4 * a .1 .1 .1 .1 .1 .0 + 3
 
-abbrev μ-inside : Measures 2 inside-kinds.ps ℕ
-μ-inside κs a = 4 * a .1 .1 .1 .0 + 0
+abbrev μ-inside : Measures 3 inside-kinds.ps ℕ
+μ-inside κs a = 4 * a .1 .1 .1 .1 .0 + 0
 
-abbrev μ-marker : Measures 2 marker-kinds.ps ℕ
-μ-marker κs a = 4 * a .1 .1 .1 .0 + 1
+abbrev μ-marker : Measures 3 marker-kinds.ps ℕ
+μ-marker κs a = 4 * a .1 .1 .1 .1 .0 + 1
 
-abbrev μ-node : Measures 2 node-kinds.ps ℕ
-μ-node κs a = 4 * a .1 .1 .1 .0 + 2
+abbrev μ-node : Measures 3 node-kinds.ps ℕ
+μ-node κs a = 4 * a .1 .1 .1 .1 .0 + 2
 
-abbrev μ-note-inline : Measures 2 note-inline-kinds.ps ℕ
-μ-note-inline κs a = 4 * a .1 .1 .1 .1 .0 + 3
+abbrev μ-note-inline : Measures 3 note-inline-kinds.ps ℕ
+μ-note-inline κs a = 4 * a .1 .1 .1 .1 .1 .0 + 3
 
-abbrev inline-at : ℕ → In 2 inline-kinds.ps
-inline-at t = and 2 inline-kinds.ps (is 2 inline-kinds.ps μ-inline t) inline.Pre
+abbrev inline-at : ℕ → In 3 inline-kinds.ps
+inline-at t = and 3 inline-kinds.ps (is 3 inline-kinds.ps μ-inline t) inline.Pre
 
-abbrev inline-below : ℕ → In 2 inline-kinds.ps
-inline-below t = and 2 inline-kinds.ps (falls 2 inline-kinds.ps _<_ μ-inline t) inline.Pre
+abbrev inline-below : ℕ → In 3 inline-kinds.ps
+inline-below t = and 3 inline-kinds.ps (falls 3 inline-kinds.ps _<_ μ-inline t) inline.Pre
 
-abbrev inside-at : ℕ → In 2 inside-kinds.ps
-inside-at t = and 2 inside-kinds.ps (is 2 inside-kinds.ps μ-inside t) inside.Pre
+abbrev inside-at : ℕ → In 3 inside-kinds.ps
+inside-at t = and 3 inside-kinds.ps (is 3 inside-kinds.ps μ-inside t) inside.Pre
 
-abbrev inside-below : ℕ → In 2 inside-kinds.ps
-inside-below t = and 2 inside-kinds.ps (falls 2 inside-kinds.ps _<_ μ-inside t) inside.Pre
+abbrev inside-below : ℕ → In 3 inside-kinds.ps
+inside-below t = and 3 inside-kinds.ps (falls 3 inside-kinds.ps _<_ μ-inside t) inside.Pre
 
-abbrev marker-at : ℕ → In 2 marker-kinds.ps
-marker-at t = and 2 marker-kinds.ps (is 2 marker-kinds.ps μ-marker t) marker.Pre
+abbrev marker-at : ℕ → In 3 marker-kinds.ps
+marker-at t = and 3 marker-kinds.ps (is 3 marker-kinds.ps μ-marker t) marker.Pre
 
-abbrev marker-below : ℕ → In 2 marker-kinds.ps
-marker-below t = and 2 marker-kinds.ps (falls 2 marker-kinds.ps _<_ μ-marker t) marker.Pre
+abbrev marker-below : ℕ → In 3 marker-kinds.ps
+marker-below t = and 3 marker-kinds.ps (falls 3 marker-kinds.ps _<_ μ-marker t) marker.Pre
 
-abbrev node-at : ℕ → In 2 node-kinds.ps
-node-at t = and 2 node-kinds.ps (is 2 node-kinds.ps μ-node t) node.Pre
+abbrev node-at : ℕ → In 3 node-kinds.ps
+node-at t = and 3 node-kinds.ps (is 3 node-kinds.ps μ-node t) node.Pre
 
-abbrev node-below : ℕ → In 2 node-kinds.ps
-node-below t = and 2 node-kinds.ps (falls 2 node-kinds.ps _<_ μ-node t) node.Pre
+abbrev node-below : ℕ → In 3 node-kinds.ps
+node-below t = and 3 node-kinds.ps (falls 3 node-kinds.ps _<_ μ-node t) node.Pre
 
-abbrev note-inline-at : ℕ → In 2 note-inline-kinds.ps
-note-inline-at t = and 2 note-inline-kinds.ps (is 2 note-inline-kinds.ps μ-note-inline t) note-inline.Pre
+abbrev note-inline-at : ℕ → In 3 note-inline-kinds.ps
+note-inline-at t = and 3 note-inline-kinds.ps (is 3 note-inline-kinds.ps μ-note-inline t) note-inline.Pre
 
-abbrev note-inline-below : ℕ → In 2 note-inline-kinds.ps
-note-inline-below t = and 2 note-inline-kinds.ps (falls 2 note-inline-kinds.ps _<_ μ-note-inline t) note-inline.Pre
+abbrev note-inline-below : ℕ → In 3 note-inline-kinds.ps
+note-inline-below t = and 3 note-inline-kinds.ps (falls 3 note-inline-kinds.ps _<_ μ-note-inline t) note-inline.Pre
 
 abbrev inline-calls : ℕ → inline-lts.Claims
 inline-calls t = (sort-in-reads.Asked, sort-in-reads.Learnt, node-below t, node.Post, trims-after-reads.Asked, trims-after-reads.Learnt, next-sibling-reads.Asked, next-sibling-reads.Learnt, plain-turn-reads.Asked, plain-turn-reads.Learnt)
@@ -113,10 +113,10 @@ note-inline-calls t = (note-sort-reads.Asked, note-sort-reads.Learnt, node-below
 -- ---- inline
 
 abbrev inline-Inv-loop : inline-lts.InvT-loop
-inline-Inv-loop file tape span depth behind out₀ s₀ step₀ kept₀ trim₀ out s step kept trim = (emitAll (deskIn (tapeIn tape file .source) s out) (inlineAll (nodeIn (insideOf (tapeIn tape file) depth) (tapeIn tape file)) (tapeIn tape file) behind trim (nodesIn (tapeIn tape file) span step)) ≡ emitAll (deskIn (tapeIn tape file .source) s₀ out₀) (inlineAll (nodeIn (insideOf (tapeIn tape file) depth) (tapeIn tape file)) (tapeIn tape file) behind trim₀ (nodesIn (tapeIn tape file) span step₀))) × (KeptAt (tapeIn tape file) step kept × (length out ≡ length out₀))
+inline-Inv-loop file tape solids span depth behind out₀ s₀ step₀ kept₀ trim₀ out s step kept trim = (emitAll (deskIn (tapeIn tape file .source) s out) (inlineAll (nodeIn (insideOf (tapeIn tape file) depth) (tapeIn tape file)) (tapeIn tape file) behind trim (nodesIn (tapeIn tape file) span step)) ≡ emitAll (deskIn (tapeIn tape file .source) s₀ out₀) (inlineAll (nodeIn (insideOf (tapeIn tape file) depth) (tapeIn tape file)) (tapeIn tape file) behind trim₀ (nodesIn (tapeIn tape file) span step₀))) × (KeptAt (tapeIn tape file) step kept × (length out ≡ length out₀))
 
 abbrev inline-μ-loop : inline-lts.MeasureT-loop
-inline-μ-loop file tape span depth behind out₀ s₀ step₀ kept₀ trim₀ out s step kept trim = left (tapeIn tape file) step
+inline-μ-loop file tape solids span depth behind out₀ s₀ step₀ kept₀ trim₀ out s step kept trim = left (tapeIn tape file) step
 
 inline-loop-holds : (t : ℕ) → inline-lts.Need-loop-holds (inline-calls t) (inline-at t) inline.Post inline-Inv-loop inline-μ-loop
 inline-loop-holds t c = (refl, (search kept-here, refl))
@@ -228,7 +228,7 @@ marker-inside-requires : (t : ℕ) → marker-lts.Need-inside-requires (marker-c
 marker-inside-requires t c κs = search needs
 
 marker-close-marker-requires : (t : ℕ) → marker-lts.Need-close-marker-requires (marker-calls t) (marker-at t) marker.Post
-marker-close-marker-requires t c κs = search needs
+marker-close-marker-requires t c κs = c .before .before .before .before .before .before .before .before .before .before .before .before .before .before .before .before .pre .1
 
 marker-write-leaf-requires : (t : ℕ) → marker-lts.Need-write-leaf-requires (marker-calls t) (marker-at t) marker.Post
 marker-write-leaf-requires t c κs = search needs
@@ -286,10 +286,10 @@ node-returns-4 t c = search node-other
 -- ---- note-inline
 
 abbrev note-inline-Inv-loop : note-inline-lts.InvT-loop
-note-inline-Inv-loop file tape parent depth behind out₀ s₀ step₀ kept₀ trim₀ out s step kept trim = (emitAll (deskIn (tapeIn tape file .source) s out) (noteAll (nodeIn (insideOf (tapeIn tape file) depth) (tapeIn tape file)) (tapeIn tape file) (parent .at + 1) behind trim (walkFrom (tapeIn tape file) step)) ≡ emitAll (deskIn (tapeIn tape file .source) s₀ out₀) (noteAll (nodeIn (insideOf (tapeIn tape file) depth) (tapeIn tape file)) (tapeIn tape file) (parent .at + 1) behind trim₀ (walkFrom (tapeIn tape file) step₀))) × (KeptAt (tapeIn tape file) step kept × (length out ≡ length out₀))
+note-inline-Inv-loop file tape solids parent depth behind out₀ s₀ step₀ kept₀ trim₀ out s step kept trim = (emitAll (deskIn (tapeIn tape file .source) s out) (noteAll (nodeIn (insideOf (tapeIn tape file) depth) (tapeIn tape file)) (tapeIn tape file) (parent .at + 1) behind trim (walkFrom (tapeIn tape file) step)) ≡ emitAll (deskIn (tapeIn tape file .source) s₀ out₀) (noteAll (nodeIn (insideOf (tapeIn tape file) depth) (tapeIn tape file)) (tapeIn tape file) (parent .at + 1) behind trim₀ (walkFrom (tapeIn tape file) step₀))) × (KeptAt (tapeIn tape file) step kept × (length out ≡ length out₀))
 
 abbrev note-inline-μ-loop : note-inline-lts.MeasureT-loop
-note-inline-μ-loop file tape parent depth behind out₀ s₀ step₀ kept₀ trim₀ out s step kept trim = left (tapeIn tape file) step
+note-inline-μ-loop file tape solids parent depth behind out₀ s₀ step₀ kept₀ trim₀ out s step kept trim = left (tapeIn tape file) step
 
 note-inline-loop-holds : (t : ℕ) → note-inline-lts.Need-loop-holds (note-inline-calls t) (note-inline-at t) note-inline.Post note-inline-Inv-loop note-inline-μ-loop
 note-inline-loop-holds t c = (refl, (search kept-here, refl))

@@ -10,10 +10,10 @@ use Rattle.lists.proofs.fold_in.Statement.{statement}
 use Rattle.lists.proofs.fold_in.Tie as tie
 
 abbrev Inv-loop : tie.InvT-loop
-Inv-loop file tape span kind alt₀ published₀ rest₀ alt published rest = (onward (tapeIn tape file) span (kind .code) alt published rest ≡ onward (tapeIn tape file) span (kind .code) alt₀ published₀ rest₀) × (left (tapeIn tape file) rest ≤ left (tapeIn tape file) rest₀)
+Inv-loop file tape solids span kind alt₀ published₀ rest₀ alt published rest = (onward (tapeIn tape file) span (kind .code) alt published rest ≡ onward (tapeIn tape file) span (kind .code) alt₀ published₀ rest₀) × (left (tapeIn tape file) rest ≤ left (tapeIn tape file) rest₀)
 
 abbrev μ-loop : tie.MeasureT-loop
-μ-loop file tape span kind alt₀ published₀ rest₀ alt published rest = left (tapeIn tape file) rest
+μ-loop file tape solids span kind alt₀ published₀ rest₀ alt published rest = left (tapeIn tape file) rest
 
 loop-holds : tie.Need-loop-holds Inv-loop μ-loop
 loop-holds c = (refl, omega arith)

@@ -6,8 +6,8 @@ use Rattle.turns.proofs.words_turn.Tie as tie
 next-sibling-requires : tie.Need-next-sibling-requires
 next-sibling-requires c κs = search needs
 
-text-requires : tie.Need-text-requires
-text-requires c κs = search needs
+lean-text-requires : tie.Need-lean-text-requires
+lean-text-requires c κs = search needs
 
 look-requires : tie.Need-look-requires
 look-requires c κs = search needs
@@ -29,7 +29,7 @@ words-turn-spec =
     tie.close
     (tie.spec
     next-sibling-requires
-    text-requires
+    lean-text-requires
     look-requires
     put-broken-requires
     still-requires

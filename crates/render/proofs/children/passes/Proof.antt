@@ -1,4 +1,4 @@
-use Rattle.render.proofs.Finds.{passes-attribute, passes-category, passes-content, passes-open, passes-solid, passes-text}
+use Rattle.render.proofs.Finds.{passes-attribute, passes-category, passes-open, passes-text}
 use borrow.Author.Needs.{needs}
 use Rattle.render.proofs.children.passes.Statement.{statement}
 use Rattle.render.proofs.children.passes.Tie as tie
@@ -27,18 +27,6 @@ enum-told-4 c = search needs
 is-category-marker-requires : tie.Need-is-category-marker-requires
 is-category-marker-requires c κs = search needs
 
-enum-told-5 : tie.Need-enum-told-5
-enum-told-5 c = search needs
-
-is-content-requires : tie.Need-is-content-requires
-is-content-requires c κs = search needs
-
-enum-told-6 : tie.Need-enum-told-6
-enum-told-6 c = search needs
-
-is-solid-requires : tie.Need-is-solid-requires
-is-solid-requires c κs = search needs
-
 returns : tie.Need-returns
 returns c = search passes-text
 
@@ -50,12 +38,6 @@ returns-3 c = search passes-open
 
 returns-4 : tie.Need-returns-4
 returns-4 c = search passes-category
-
-returns-5 : tie.Need-returns-5
-returns-5 c = search passes-content
-
-returns-6 : tie.Need-returns-6
-returns-6 c = search passes-solid
 
 pub passes-spec : {M : Type 1} → statement M
 passes-spec =
@@ -69,13 +51,7 @@ passes-spec =
     is-kind-requires-3
     enum-told-4
     is-category-marker-requires
-    enum-told-5
-    is-content-requires
-    enum-told-6
-    is-solid-requires
     returns
     returns-2
     returns-3
-    returns-4
-    returns-5
-    returns-6)
+    returns-4)

@@ -15,8 +15,8 @@ returns-2 c = search solid-error
 returns-3 : tie.Need-returns-3
 returns-3 c = search solid-other
 
-text-requires : tie.Need-text-requires
-text-requires c κs = search needs
+lean-text-requires : tie.Need-lean-text-requires
+lean-text-requires c κs = search needs
 
 is-blank-requires : tie.Need-is-blank-requires
 is-blank-requires c κs = search needs
@@ -27,4 +27,4 @@ returns-4 c = search solid-text
 pub is-solid-spec : {M : Type 1} → statement M
 is-solid-spec =
     tie.close
-    (tie.spec kind-requires returns returns-2 returns-3 text-requires is-blank-requires returns-4)
+    (tie.spec kind-requires returns returns-2 returns-3 lean-text-requires is-blank-requires returns-4)

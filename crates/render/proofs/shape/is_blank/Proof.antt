@@ -9,8 +9,8 @@ kind-requires c κs = search needs
 returns : tie.Need-returns
 returns c = search blank-none
 
-text-requires : tie.Need-text-requires
-text-requires c κs = search needs
+lean-text-requires : tie.Need-lean-text-requires
+lean-text-requires c κs = search needs
 
 is-blank-requires : tie.Need-is-blank-requires
 is-blank-requires c κs = search needs
@@ -20,4 +20,4 @@ returns-2 c = search blank-some
 
 pub is-blank-spec : {M : Type 1} → statement M
 is-blank-spec =
-    tie.close (tie.spec kind-requires returns text-requires is-blank-requires returns-2)
+    tie.close (tie.spec kind-requires returns lean-text-requires is-blank-requires returns-2)

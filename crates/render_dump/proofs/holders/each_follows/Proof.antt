@@ -8,10 +8,10 @@ use Rattle.render_dump.proofs.holders.each_follows.Statement.{statement
 use Rattle.render_dump.proofs.holders.each_follows.Tie as tie
 
 abbrev Inv-loop : tie.InvT-loop
-Inv-loop file t step₀ kept₀ step kept = 0 ≤ 0
+Inv-loop file t solids step₀ kept₀ step kept = 0 ≤ 0
 
 abbrev μ-loop : tie.MeasureT-loop
-μ-loop file t step₀ kept₀ step kept = left (tapeIn t file) step
+μ-loop file t solids step₀ kept₀ step kept = left (tapeIn t file) step
 
 first-child-requires : tie.Need-first-child-requires Inv-loop μ-loop
 first-child-requires c κs = search needs

@@ -10,10 +10,10 @@ use Rattle.tables.proofs.full.rows.Statement.{statement}
 use Rattle.tables.proofs.full.rows.Tie as tie
 
 abbrev Inv-loop : tie.InvT-loop
-Inv-loop file tape span depth out₀ s₀ step₀ out s step = (rowsOn (tapeIn tape file) span depth (deskIn (tapeIn tape file .source) s out) step ≡ rowsOn (tapeIn tape file) span depth (deskIn (tapeIn tape file .source) s₀ out₀) step₀) × (length out ≡ length out₀)
+Inv-loop file tape solids span depth out₀ s₀ step₀ out s step = (rowsOn (tapeIn tape file) span depth (deskIn (tapeIn tape file .source) s out) step ≡ rowsOn (tapeIn tape file) span depth (deskIn (tapeIn tape file .source) s₀ out₀) step₀) × (length out ≡ length out₀)
 
 abbrev μ-loop : tie.MeasureT-loop
-μ-loop file tape span depth out₀ s₀ step₀ out s step = left (tapeIn tape file) step
+μ-loop file tape solids span depth out₀ s₀ step₀ out s step = left (tapeIn tape file) step
 
 loop-holds : tie.Need-loop-holds Inv-loop μ-loop
 loop-holds c = (refl, refl)

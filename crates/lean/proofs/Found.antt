@@ -1,0 +1,148 @@
+-- How the code finds a lean text.
+use mathlib.Core.Path.{_≡_, refl, sym, ap, _∙_}
+use mathlib.Core.Bool.{Bool, true, false, not, _&&_}
+use mathlib.Core.List.{List, [], _∷_}
+use Prim.Native.Nat.{ℕ, zero, suc, _+_, _-_, _≤_, _<_, _^_, min}
+use native.Mathlib.Omega.{arith}
+use lib.ListN.{length, take, drop, length-take, length-drop}
+use borrow.Author.Tests.{lt-ltb, not-true, not-false}
+use Rattle.parts.specs.Bytes.{Bytes, part, firstAt}
+use Rattle.chars.specs.Range.{within, inAny}
+use Rattle.chars.specs.Space.{isAsciiWhite}
+use Rattle.words.specs.Words.{whiteLen}
+use Rattle.words.specs.declared.Set.the-variants.{Ascii}
+use Rattle.words.proofs.Texts.{white-le}
+use Rattle.texts.specs.Text.{startsWhite}
+use Rattle.texts.proofs.Edges.{white-more, white-ends}
+use Rattle.tape.specs.File.{tapeIn, nodeAt, textAt}
+use Rattle.tape.specs.declared.Sections.{Sections}
+use Rattle.tape.specs.declared.Cursor.{Cursor}
+use Rattle.tape.specs.declared.Node.{Node}
+use Rattle.places.specs.Seek.{solidByte, passesAt, nextFrom, Right}
+use Rattle.places.specs.declared.Test.the-variants.{Solid}
+use Rattle.places.proofs.Firsts.{first-hit, first-miss}
+use Rattle.places.proofs.Spans.{source-short}
+use Rattle.lean.specs.Lean.{lean, Solids}
+
+-- ---- white bytes
+
+white-nil : whiteLen Ascii [] ≡ 0
+white-nil = omega (arith, white-le Ascii [])
+
+passing : (x : ℕ) (u : Bytes) {b : Bool} → isAsciiWhite x ≡ b → passesAt Solid (x ∷ u) ≡ not b
+unfolding passesAt solidByte
+passing x u e = rw (lt-ltb 0 (length (x ∷ u)) (omega arith), e)
+
+-- the bytes before the first solid one are those of white space
+solid-first : (u : Bytes) → firstAt (passesAt Solid) u ≡ whiteLen Ascii u
+unfolding firstAt
+solid-first [] = sym white-nil
+solid-first (x ∷ u) = go (isAsciiWhite x) refl (solid-first u)
+  where
+    go : (b : Bool) → isAsciiWhite x ≡ b → firstAt (passesAt Solid) u ≡ whiteLen Ascii u → firstAt (passesAt Solid) (x ∷ u) ≡ whiteLen Ascii (x ∷ u)
+    go true e q = first-miss (passesAt Solid) (x ∷ u) (omega arith) (passing x u e) ∙ ap suc q ∙ sym (white-more x u e)
+    go false e q = first-hit (passesAt Solid) (x ∷ u) (passing x u e) ∙ sym (white-ends x u e)
+
+-- of a front part they are those that it reaches to
+white-take : (n : ℕ) (u : Bytes) → n ≤ length u → whiteLen Ascii (take n u) ≡ min (whiteLen Ascii u) n
+white-take zero u h = omega (arith, white-nil)
+white-take (suc n) [] h = absurd (omega arith)
+white-take (suc n) (x ∷ u) h = go (isAsciiWhite x) refl (white-take n u (omega arith))
+  where
+    go : (b : Bool) → isAsciiWhite x ≡ b → whiteLen Ascii (take n u) ≡ min (whiteLen Ascii u) n → whiteLen Ascii (x ∷ take n u) ≡ min (whiteLen Ascii (x ∷ u)) (suc n)
+    go true e q = omega (arith, white-more x (take n u) e, white-more x u e, q)
+    go false e q = omega (arith, white-ends x (take n u) e, white-ends x u e)
+
+pub ahead-found : {table : List ℕ} (s : Bytes) (start len : ℕ) {p r : ℕ} → (Right Solid s table → start ≤ length s → p ≡ nextFrom Solid s start) → r ≡ min (p - start) len
+    → Right Solid s table → start + len ≤ length s → r ≡ whiteLen Ascii (part s start len)
+unfolding nextFrom
+ahead-found s start len {p} {r} ep er q h =
+    let first : p ≡ start + whiteLen Ascii (drop start s) = ep q (omega arith) ∙ ap (λ (n : ℕ). start + n) (solid-first (drop start s)) in
+    omega (arith, first, er, white-take len (drop start s) (omega (arith, length-drop start s)))
+
+-- ---- lean texts
+
+-- a white byte in front of another is left out
+lean-white : (x y : ℕ) (s : Bytes) → isAsciiWhite x ≡ true → isAsciiWhite y ≡ true → lean (x ∷ y ∷ s) ≡ lean (y ∷ s)
+unfolding lean
+lean-white x y s hx hy = rw (hx, hy)
+
+lean-solid : (x y : ℕ) (s : Bytes) → isAsciiWhite x && isAsciiWhite y ≡ false → lean (x ∷ y ∷ s) ≡ x ∷ y ∷ s
+unfolding lean
+lean-solid x y s h = rw h
+
+-- all but the last of the white bytes are left out
+lean-drop : (s : Bytes) → drop (whiteLen Ascii s - 1) s ≡ lean s
+unfolding lean
+lean-drop [] = rw white-nil
+lean-drop (x ∷ []) = go (isAsciiWhite x) refl
+  where
+    go : (b : Bool) → isAsciiWhite x ≡ b → drop (whiteLen Ascii (x ∷ []) - 1) (x ∷ []) ≡ x ∷ []
+    go true e = rw (white-more x [] e, white-nil)
+    go false e = rw (white-ends x [] e)
+lean-drop (x ∷ y ∷ s) = go (isAsciiWhite x) refl (isAsciiWhite y) refl (lean-drop (y ∷ s))
+  where
+    go : (b : Bool) → isAsciiWhite x ≡ b → (d : Bool) → isAsciiWhite y ≡ d → drop (whiteLen Ascii (y ∷ s) - 1) (y ∷ s) ≡ lean (y ∷ s)
+        → drop (whiteLen Ascii (x ∷ y ∷ s) - 1) (x ∷ y ∷ s) ≡ lean (x ∷ y ∷ s)
+    go true ex true ey q =
+        let n : whiteLen Ascii (x ∷ y ∷ s) - 1 ≡ suc (whiteLen Ascii (y ∷ s) - 1) = omega (arith, white-more x (y ∷ s) ex, white-more y s ey) in
+        rw n (q ∙ sym (lean-white x y s ex ey))
+    go true ex false ey q =
+        let n : whiteLen Ascii (x ∷ y ∷ s) - 1 ≡ 0 = omega (arith, white-more x (y ∷ s) ex, white-ends y s ey) in
+        rw n (sym (lean-solid x y s (rw (ex, ey))))
+    go false ex d ey q =
+        let n : whiteLen Ascii (x ∷ y ∷ s) - 1 ≡ 0 = omega (arith, white-ends x (y ∷ s) ex) in
+        rw n (sym (lean-solid x y s (rw ex)))
+
+module _ (s : Bytes) {white : ℕ} where
+  pub past-none : white ≡ 0 → white ≡ whiteLen Ascii s → s ≡ lean s
+  past-none h e = rw (sym e ∙ h) at (lean-drop s)
+
+  pub past-some : {r : Bytes} → r ≡ drop (white - 1) s → white ≡ whiteLen Ascii s → r ≡ lean s
+  past-some er e = er ∙ ap (λ (n : ℕ). drop (n - 1) s) e ∙ lean-drop s
+
+pub lean-read : (s : Bytes) {white : ℕ} {r : Bytes} → white ≡ whiteLen Ascii s → (white ≡ whiteLen Ascii s → r ≡ lean s) → r ≡ lean s
+lean-read s e f = f e
+
+-- ---- the text of a node
+
+-- a text that does not begin with white space is lean
+lean-plain : (s : Bytes) → startsWhite s ≡ false → s ≡ lean s
+unfolding startsWhite lean
+lean-plain [] h = refl
+lean-plain (x ∷ []) h = refl
+lean-plain (x ∷ y ∷ s) h = rw h
+
+pub text-plain : {s t : Bytes} → s ≡ t → {w : Bool} → w ≡ startsWhite s → not w ≡ true → s ≡ lean t
+text-plain {s} {t} e {w} ew h = lean-plain s (sym ew ∙ not-true w h) ∙ ap lean e
+
+starts-some : (s : Bytes) → startsWhite s ≡ true → 0 < length s
+unfolding startsWhite isAsciiWhite inAny within
+starts-some [] h = absurd (let z : _≡_ {A = Bool} false true = h in let no-way : _≡_ {A = ℕ} 0 1 = cc in omega arith)
+starts-some (x ∷ s) h = omega arith
+
+take-length : (m : ℕ) (u : Bytes) → take (length (take m u)) u ≡ take m u
+take-length zero u = refl
+take-length (suc m) [] = refl
+take-length (suc m) (x ∷ u) = ap (λ (v : Bytes). x ∷ v) (take-length m u)
+
+module _ (c : Sections) (file : Bytes) (k : Cursor) (table : List ℕ) where
+  pub white-found : {n : Node} → n ≡ nodeAt (tapeIn c file) (k .at) → {source : Bytes} → source ≡ tapeIn c file .source → {start : ℕ} → start ≡ n .start → (len : ℕ) {r : ℕ}
+      → (Right Solid source table → start + len ≤ length source → r ≡ whiteLen Ascii (part source start len))
+      → Solids (tapeIn c file) table → 0 < len → len ≡ length (textAt (tapeIn c file) (k .at)) → r ≡ whiteLen Ascii (textAt (tapeIn c file) (k .at))
+  unfolding textAt
+  white-found {n} en {source} eo {start} et len {r} er q some el =
+      er (rw eo q) (omega (arith, some, el, ap length is, length-take (n .len) (drop start source), length-drop start source))
+      ∙ ap (whiteLen Ascii) (ap (λ (m : ℕ). take m (drop start source)) (el ∙ ap length is) ∙ take-length (n .len) (drop start source) ∙ sym is)
+    where
+      is : part (tapeIn c file .source) (nodeAt (tapeIn c file) (k .at) .start) (nodeAt (tapeIn c file) (k .at) .len) ≡ take (n .len) (drop start source)
+      is = rw (et, eo, en)
+
+  pub text-white : {s : Bytes} → s ≡ textAt (tapeIn c file) (k .at) → {w : Bool} → w ≡ startsWhite s → not w ≡ false → {white : ℕ}
+      → (Solids (tapeIn c file) table → 0 < length s → length s ≡ length (textAt (tapeIn c file) (k .at)) → white ≡ whiteLen Ascii (textAt (tapeIn c file) (k .at)))
+      → {r : Bytes} → (white ≡ whiteLen Ascii s → r ≡ lean s) → Solids (tapeIn c file) table → r ≡ lean (textAt (tapeIn c file) (k .at))
+  text-white {s} es {w} ew hw {white} en er q =
+      er (en q (starts-some s (sym ew ∙ not-false w hw)) (ap length es) ∙ ap (whiteLen Ascii) (sym es)) ∙ ap lean es
+
+pub solids-filled : (c : Sections) (file : Bytes) {s : Bytes} {table : List ℕ} → c .source < 2 ^ 32 → s ≡ tapeIn c file .source → (length s < 2 ^ 32 → Right Solid s table) → Solids (tapeIn c file) table
+solids-filled c file h es f = rw es at (f (rw es (source-short c file h)))

@@ -1,0 +1,2 @@
+pub mod Leans
+pub mod Found
