@@ -1,7 +1,7 @@
 //! Every generator makes what it is meant to make.
 
 use oracle::answer::{Answer, answer, answer_or_panic};
-use oracle::generate::{damaged, glued, limits, links, random, small, structured};
+use oracle::generate::{damaged, glued, limits, links, random, shared, small, structured};
 
 const SEED: u64 = 1;
 
@@ -29,10 +29,29 @@ fn random_tapes_are_admitted() {
 }
 
 #[test]
+fn shared_tapes_are_admitted_and_their_texts_overlap() {
+    let mut overlapping = 0;
+    for number in 0..2_000 {
+        let tape = shared(SEED, number);
+        let text = written(&tape);
+        assert!(text.ends_with("\n</usx>"));
+        overlapping += usize::from(spans(&tape) > tape.len());
+    }
+    assert!(overlapping > 200, "{overlapping}");
+}
+
+/// The lengths of the spans of a tape's nodes, in sum.
+fn spans(tape: &[u8]) -> usize {
+    let word = |at: usize| u32::from_le_bytes(tape[at..at + 4].try_into().unwrap()) as usize;
+    (0..word(4)).map(|k| word(36 + 16 * k + 12)).sum()
+}
+
+#[test]
 fn tapes_are_determined_by_seed_and_number() {
     for number in 0..50 {
         assert_eq!(structured(SEED, number), structured(SEED, number));
         assert_eq!(random(SEED, number), random(SEED, number));
+        assert_eq!(shared(SEED, number), shared(SEED, number));
         assert_ne!(structured(SEED, number), structured(SEED + 1, number));
     }
 }

@@ -162,6 +162,11 @@ pub walk-starts : (t : Tape) (k : ℕ) {s : Step} → s ≡ firstChild t k → (
 unfolding remaining attributesOf
 walk-starts t k es m = rw pairs-nil (ap (pairsAlong t m) (children-walk t k es))
 
+-- nothing is left of a body
+pub next-empty : (t : Tape) (m : Bytes) (a : Attrs) → a .rest .len ≡ 0 → (r : Next) → pairsAlong t m (walkFrom t (a .next)) ≡ nextList t m r → remaining t m a ≡ nextList t m r
+unfolding remaining
+next-empty t m a h r er = rw (h, pairs-nil) er
+
 module _ (t : Tape) (m : Bytes) (a : Attrs) {s : Bytes} (g : Got) (es : s ≡ t .source) (eg : map (keyedFor m) (pairsIn (bytesOf s (a .rest))) ≡ gotList s m g) where
   got-here : remaining t m a ≡ gotList (t .source) m g ++ pairsAlong t m (walkFrom t (a .next))
   unfolding remaining

@@ -402,6 +402,9 @@ impl Attrs {
     {
         let next = self.next;
         let part = self.rest;
+        if part.len == 0 {
+            return along(file, tape, marker, next);
+        }
         match pair_in(tape::source(file, tape), marker, part) {
             Got::Nothing => along(file, tape, marker, next),
             Got::Pair { key, value, rest } => Next::Pair {

@@ -1,18 +1,16 @@
 -- How the code finds a lean text.
 use mathlib.Core.Path.{_≡_, refl, sym, ap, _∙_}
-use mathlib.Core.Bool.{Bool, true, false, not, _&&_}
+use mathlib.Core.Bool.{Bool, true, false, not, _&&_, and-false}
 use mathlib.Core.List.{List, [], _∷_}
 use Prim.Native.Nat.{ℕ, zero, suc, _+_, _-_, _≤_, _<_, _^_, min}
 use native.Mathlib.Omega.{arith}
-use lib.ListN.{length, take, drop, length-take, length-drop}
+use lib.ListN.{length, getD, take, drop, length-take, length-drop}
 use borrow.Author.Tests.{lt-ltb, not-true, not-false}
 use Rattle.parts.specs.Bytes.{Bytes, part, firstAt}
-use Rattle.chars.specs.Range.{within, inAny}
 use Rattle.chars.specs.Space.{isAsciiWhite}
 use Rattle.words.specs.Words.{whiteLen}
 use Rattle.words.specs.declared.Set.the-variants.{Ascii}
 use Rattle.words.proofs.Texts.{white-le}
-use Rattle.texts.specs.Text.{startsWhite}
 use Rattle.texts.proofs.Edges.{white-more, white-ends}
 use Rattle.tape.specs.File.{tapeIn, nodeAt, textAt}
 use Rattle.tape.specs.declared.Sections.{Sections}
@@ -71,6 +69,14 @@ lean-solid : (x y : ℕ) (s : Bytes) → isAsciiWhite x && isAsciiWhite y ≡ fa
 unfolding lean
 lean-solid x y s h = rw h
 
+lean-none : lean [] ≡ []
+unfolding lean
+lean-none = refl
+
+lean-one : (x : ℕ) → lean (x ∷ []) ≡ x ∷ []
+unfolding lean
+lean-one x = refl
+
 -- all but the last of the white bytes are left out
 lean-drop : (s : Bytes) → drop (whiteLen Ascii s - 1) s ≡ lean s
 unfolding lean
@@ -106,20 +112,41 @@ lean-read s e f = f e
 
 -- ---- the text of a node
 
--- a text that does not begin with white space is lean
-lean-plain : (s : Bytes) → startsWhite s ≡ false → s ≡ lean s
-unfolding startsWhite lean
-lean-plain [] h = refl
-lean-plain (x ∷ []) h = refl
-lean-plain (x ∷ y ∷ s) h = rw h
+-- two white bytes in front, or a lean text
+module _ (s : Bytes) where
+  pub wide-not : _≡_ {A = Bool} false true → 0 < length s
+  wide-not e = absurd (let no-way : _≡_ {A = ℕ} 0 1 = cc in omega arith)
 
-pub text-plain : {s t : Bytes} → s ≡ t → {w : Bool} → w ≡ startsWhite s → not w ≡ true → s ≡ lean t
-text-plain {s} {t} e {w} ew h = lean-plain s (sym ew ∙ not-true w h) ∙ ap lean e
+  pub wide-some : 2 ≤ length s → {z : Bool} → z ≡ true → 0 < length s
+  wide-some h e = omega arith
 
-starts-some : (s : Bytes) → startsWhite s ≡ true → 0 < length s
-unfolding startsWhite isAsciiWhite inAny within
-starts-some [] h = absurd (let z : _≡_ {A = Bool} false true = h in let no-way : _≡_ {A = ℕ} 0 1 = cc in omega arith)
-starts-some (x ∷ s) h = omega arith
+  pub wide-short : length s < 2 → _≡_ {A = Bool} false false → s ≡ lean s
+  wide-short h e = go s h
+    where
+      go : (u : Bytes) → length u < 2 → u ≡ lean u
+      go [] l = sym lean-none
+      go (x ∷ []) l = sym (lean-one x)
+      go (x ∷ y ∷ u) l = absurd (omega arith)
+
+  module _ {a : Bool} (h : 2 ≤ length s) (ea : a ≡ isAsciiWhite (getD s 0 0)) where
+    pub wide-solid : a ≡ false → _≡_ {A = Bool} false false → s ≡ lean s
+    wide-solid e n = go s h (sym ea ∙ e)
+      where
+        go : (u : Bytes) → 2 ≤ length u → isAsciiWhite (getD u 0 0) ≡ false → u ≡ lean u
+        go [] l w = absurd (omega arith)
+        go (x ∷ []) l w = absurd (omega arith)
+        go (x ∷ y ∷ u) l w = sym (lean-solid x y u (rw w))
+
+    pub wide-second : a ≡ true → {z : Bool} → z ≡ isAsciiWhite (getD s 1 0) → z ≡ false → s ≡ lean s
+    wide-second e ez f = go s h (sym ez ∙ f)
+      where
+        go : (u : Bytes) → 2 ≤ length u → isAsciiWhite (getD u 1 0) ≡ false → u ≡ lean u
+        go [] l w = absurd (omega arith)
+        go (x ∷ []) l w = absurd (omega arith)
+        go (x ∷ y ∷ u) l w = sym (lean-solid x y u (rw (w, and-false (isAsciiWhite x))))
+
+pub text-plain : {s t : Bytes} → s ≡ t → {w : Bool} → (w ≡ false → s ≡ lean s) → not w ≡ true → s ≡ lean t
+text-plain {s} {t} e {w} ew h = ew (not-true w h) ∙ ap lean e
 
 take-length : (m : ℕ) (u : Bytes) → take (length (take m u)) u ≡ take m u
 take-length zero u = refl
@@ -138,11 +165,11 @@ module _ (c : Sections) (file : Bytes) (k : Cursor) (table : List ℕ) where
       is : part (tapeIn c file .source) (nodeAt (tapeIn c file) (k .at) .start) (nodeAt (tapeIn c file) (k .at) .len) ≡ take (n .len) (drop start source)
       is = rw (et, eo, en)
 
-  pub text-white : {s : Bytes} → s ≡ textAt (tapeIn c file) (k .at) → {w : Bool} → w ≡ startsWhite s → not w ≡ false → {white : ℕ}
+  pub text-white : {s : Bytes} → s ≡ textAt (tapeIn c file) (k .at) → {w : Bool} → (w ≡ true → 0 < length s) → not w ≡ false → {white : ℕ}
       → (Solids (tapeIn c file) table → 0 < length s → length s ≡ length (textAt (tapeIn c file) (k .at)) → white ≡ whiteLen Ascii (textAt (tapeIn c file) (k .at)))
       → {r : Bytes} → (white ≡ whiteLen Ascii s → r ≡ lean s) → Solids (tapeIn c file) table → r ≡ lean (textAt (tapeIn c file) (k .at))
   text-white {s} es {w} ew hw {white} en er q =
-      er (en q (starts-some s (sym ew ∙ not-false w hw)) (ap length es) ∙ ap (whiteLen Ascii) (sym es)) ∙ ap lean es
+      er (en q (ew (not-false w hw)) (ap length es) ∙ ap (whiteLen Ascii) (sym es)) ∙ ap lean es
 
 pub solids-filled : (c : Sections) (file : Bytes) {s : Bytes} {table : List ℕ} → c .source < 2 ^ 32 → s ≡ tapeIn c file .source → (length s < 2 ^ 32 → Right Solid s table) → Solids (tapeIn c file) table
 solids-filled c file h es f = rw es at (f (rw es (source-short c file h)))

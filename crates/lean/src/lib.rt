@@ -1,5 +1,6 @@
 // A text without all but the last of the white bytes that it begins with, found through a table: however long that white space is.
 ghost use mathlib.Core.Path.{_≡_};
+ghost use mathlib.Core.Bool.{true, false};
 ghost use Prim.Native.Nat.{_+_, _-_, _≤_, _<_, min};
 ghost use lib.ListN.{length};
 ghost use Rattle.parts.specs.Bytes.{part};
@@ -45,6 +46,20 @@ fn white_of(file: &[u8], tape: Sections, solids: &[u32], c: Cursor, len: usize) 
     white_ahead(solids, tape::source(file, tape), long(n.start), len)
 }
 
+// Whether a text begins with two white bytes.
+fn is_wide(s: &[u8]) -> bool
+    ensures { λ r. ⌜ (r ≡ false → now (s .entry) ≡ lean (now (s .entry))) ⌝ }
+    ensures { λ r. ⌜ (r ≡ true → 0 < length (now (s .entry))) ⌝ }
+{
+    if s.len() < 2 {
+        return false;
+    }
+    if chars::is_ascii_white(s[0]) {
+        return chars::is_ascii_white(s[1]);
+    }
+    false
+}
+
 // A text that begins with so many white bytes, made lean.
 fn past_white(s: &[u8], white: usize) -> &[u8]
     ensures { λ r. ⌜ (white ≡ whiteLen Set.Ascii (now (s .entry)) → now r ≡ lean (now (s .entry))) ⌝ }
@@ -68,7 +83,7 @@ pub fn lean_text<'a>(file: &'a [u8], tape: Sections, solids: &[u32], c: Cursor) 
     ensures { λ r. ⌜ now r ≡ lean (textAt (tapeIn tape (now (file .entry))) (c .at)) ⌝ }
 {
     let s = c.text(file, tape);
-    if !texts::starts_white(s) {
+    if !is_wide(s) {
         return s;
     }
     past_white(s, white_of(file, tape, solids, c, s.len()))

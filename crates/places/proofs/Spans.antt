@@ -4,22 +4,22 @@ use mathlib.Core.Bool.{Bool, true, false, cond, not, _&&_}
 use mathlib.Core.Logic.{_↔_, _⊎_, inl, inr, ⊎-elim}
 use mathlib.Core.List.{List, [], _∷_, _++_, flatten}
 use Prim.Native.Nat.{ℕ, suc, _+_, _-_, _≤_, _<_, _^_}
-use native.Mathlib.Nat.{lt-of-not-le}
 use native.Mathlib.Omega.{arith}
 use lib.ListN.{length, getD, take, drop, length-take, length-drop, length-append, take-append-drop, List·getD-eq-default}
-use lib.Seq.{drop-drop, length-take-le, getD-drop, getD-append-add}
+use lib.Seq.{drop-drop, length-take-le, getD-drop}
 use lib.Dec.{eqb, ltb}
 use borrow.Author.Tests.{lt-ltb, le-ltb, ltb-true, ltb-false, eqb-true, not-true}
 use Rattle.parts.specs.Bytes.{Bytes, part, begins}
 use Rattle.parts.proofs.Laws.{and-true as both-true, begins-fits, begins-split, drop-take}
 use Rattle.chars.specs.Range.{within, inAny}
-use Rattle.chars.specs.Utf8.{tail, fits, rowLen, table37, seqLen, step, isSequence, point, codeOf, cut, characters, isBoundary}
+use Rattle.chars.specs.Utf8.{tail, fits, rowLen, table37, seqLen, step, isSequence, point, codeOf, characters, isBoundary}
 use Rattle.chars.specs.Space.{isWhite, whiteSpace}
-use Rattle.chars.proofs.Characters.{seq-inner, step-some, step-le, cut-whole, characters-flatten}
+use Rattle.chars.proofs.Characters.{step-some, step-le, characters-flatten}
 use Rattle.words.specs.Words.{stepOf, charsOf, white, takeWhile, onto, pieces, nonempty, words}
 use Rattle.words.specs.declared.Set.the-variants.{Unicode}
-use Rattle.words.proofs.Rows.{Row, none, more, row-cut, row-whole, row-join, flatten-append}
-use Rattle.words.proofs.Steps.{size-steady}
+use Rattle.words.proofs.Rows.{Row, none, more, row-cut}
+use Rattle.words.proofs.Steps.{Apart}
+use Rattle.words.proofs.Texts.{chars-apart}
 use Rattle.tape.specs.File.{sourceAt, tapeIn}
 use Rattle.tape.specs.declared.Sections.{Sections}
 use Rattle.tape.specs.Name.{strip, bare, inName, nameLen}
@@ -30,36 +30,6 @@ use Rattle.places.proofs.Runs.{characters-first, name-le, name-solid}
 pub source-short : (c : Sections) (file : Bytes) → c .source < 2 ^ 32 → length (tapeIn c file .source) < 2 ^ 32
 unfolding tapeIn
 source-short c file h = omega (arith, length-take (c .source) (drop (sourceAt c) file))
-
--- ---- a text that no character before it reaches into
-
-abbrev Apart : Bytes → Type 0
-Apart t = within tail (getD t 0 0) ≡ false
-
-seq-apart : (w t : Bytes) → Apart t → 0 < length w → seqLen (w ++ t) ≤ length w
-seq-apart w t a h = omega (arith, lt-of-not-le longer)
-  where
-    longer : length w < seqLen (w ++ t) → ⊥
-    longer l =
-        let at : getD (w ++ t) (length w) 0 ≡ getD t 0 0 = ap (λ (n : ℕ). getD (w ++ t) n 0) (omega arith) ∙ getD-append-add w t 0 0 in
-        let no-way : _≡_ {A = ℕ} 0 1 = cc (seq-inner (w ++ t) (length w) h l, at, a) in
-        omega arith
-
-step-apart : (t w : Bytes) → Apart t → 0 < length w → step (w ++ t) ≡ step w
-unfolding step stepOf
-step-apart t [] a h = absurd (omega arith)
-step-apart t (x ∷ w) a h = sym (size-steady Unicode (x ∷ w) t h (omega (arith, seq-apart (x ∷ w) t a h)))
-
-chars-apart : (w t : Bytes) → Apart t → characters (w ++ t) ≡ characters w ++ characters t
-unfolding characters
-chars-apart w t a =
-    ap (cut step) (sym whole) ∙ row-whole step step-some (row-join step (cut step w) (cut step t) reach (row-cut step step-some step-le w) (row-cut step step-some step-le t))
-  where
-    whole : flatten (cut step w ++ cut step t) ≡ w ++ t
-    whole = flatten-append (cut step w) (cut step t) ∙ rw (cut-whole step-some w, cut-whole step-some t)
-
-    reach : (x : Bytes) → 0 < length x → step (x ++ flatten (cut step t)) ≡ step x
-    reach x h = rw (cut-whole step-some t) (step-apart t x a h)
 
 -- ---- rows of characters
 
@@ -172,6 +142,10 @@ unicode-chars : (s : Bytes) → charsOf Unicode s ≡ characters s
 unfolding charsOf characters stepOf
 unicode-chars s = refl
 
+characters-apart : (w t : Bytes) → Apart t → characters (w ++ t) ≡ characters w ++ characters t
+unfolding charsOf characters stepOf
+characters-apart w t a = chars-apart Unicode w t a
+
 row-single : (c : Bytes) (cs : List Bytes) → Filled (c ∷ cs) → white Unicode c ≡ false
     → (all (pieces (white Unicode) (c ∷ cs)) ≤ 1) ↔ (length (flatten (c ∷ cs)) ≤ toWord false (c ∷ cs))
 unfolding pieces toWord flatten
@@ -245,7 +219,7 @@ module _ (s : Bytes) (at m : ℕ) (fits : at + m ≤ length s) (end : isBoundary
   long = ap length (characters-flatten (part s at m)) ∙ length-take-le m (drop at s) (omega (arith, length-drop at s))
 
   split : characters (drop at s) ≡ characters (part s at m) ++ characters (drop (at + m) s)
-  split = ap characters whole ∙ chars-apart (part s at m) (drop (at + m) s) apart
+  split = ap characters whole ∙ characters-apart (part s at m) (drop (at + m) s) apart
 
   pub span-name : (base : ℕ) → base < m → ltb base (nameLen (drop at s)) ≡ ltb base (nameLen (part s at m))
   unfolding nameLen

@@ -1,6 +1,6 @@
 -- What a MarkerOpen is written as, from what was read.
 use mathlib.Core.Path.{_≡_, sym, ap, _∙_}
-use mathlib.Core.Bool.{Bool, true, false, not}
+use mathlib.Core.Bool.{Bool, true, false, not, and-false}
 use mathlib.Core.Option.{Option}
 use Prim.Native.Nat.{ℕ}
 use borrow.Author.Tests.{eq-eqb, ne-eqb, not-true, not-false}
@@ -137,17 +137,17 @@ pub ref-turn : (t : Tape) {s n r : Step} → firstWith (isRef t) (walkFrom t s) 
     → n ≡ nextSibling t (d .at) → firstWith (isRef t) (walkFrom t n) ≡ r
 ref-turn t inv d es ex x en = sym (first-past t (isRef t) d es en (sym ex ∙ x)) ∙ inv
 
-module _ (t : Tape) (k : ℕ) {x : Bool} (ex : x ≡ same (markerName t k) (b "xt")) where
-  pub link-other : not x ≡ true → false ≡ canLink t k
+module _ (t : Tape) (k : ℕ) {y : Bool} (ey : y ≡ isNested t k) where
+  pub link-outer : not y ≡ true → false ≡ canLink t k
   unfolding canLink
-  link-other hx = rw (← ex, not-true x hx)
+  link-outer hy = rw (← ey, not-true y hy, and-false (same (markerName t k) (b "xt")))
 
-  module _ (hx : not x ≡ false) {y : Bool} (ey : y ≡ isNested t k) where
-    pub link-outer : not y ≡ true → false ≡ canLink t k
+  module _ (hy : not y ≡ false) {x : Bool} (ex : x ≡ same (markerName t k) (b "xt")) where
+    pub link-other : not x ≡ true → false ≡ canLink t k
     unfolding canLink
-    link-outer hy = rw (← ex, not-false x hx, ← ey, not-true y hy)
+    link-other hx = rw (← ex, not-true x hx)
 
-    module _ (hy : not y ≡ false) {z : Bool} (ez : z ≡ hasContent t k) where
+    module _ (hx : not x ≡ false) {z : Bool} (ez : z ≡ hasContent t k) where
       pub link-empty : not z ≡ true → false ≡ canLink t k
       unfolding canLink
       link-empty hz = rw (← ex, not-false x hx, ← ey, not-false y hy, ← ez, not-true z hz)

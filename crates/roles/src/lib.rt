@@ -166,15 +166,15 @@ fn has_ref(file: &[u8], tape: Sections, c: Cursor) -> bool
     }
 }
 
-// Whether what stands in a marker could be linked: `xt`, nested, with content and no `ref` inside.
+// Whether what stands in a marker could be linked: `xt`, nested, with content and no `ref` inside; what is soonest told comes first.
 fn can_link(file: &[u8], tape: Sections, solids: &[u32], c: Cursor) -> bool
     requires { ⌜ Solids (tapeIn tape (now file)) (now solids) ⌝ }
     ensures { λ r. ⌜ r ≡ canLink (tapeIn tape (now (file .entry))) (c .at) ⌝ }
 {
-    if !c.is_named(file, tape, b"xt") {
+    if !c.is_nested(file, tape) {
         return false;
     }
-    if !c.is_nested(file, tape) {
+    if !c.is_named(file, tape, b"xt") {
         return false;
     }
     if !render::has_content(file, tape, solids, c) {

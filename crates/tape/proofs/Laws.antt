@@ -84,6 +84,17 @@ node-made s ex ek ey ef e₂ em e₄ el e₈ ea e₁₂ en =
     let flag : _≡_ {A = Flags} _ (record { bits = getD s 1 0 }) = ap (λ (z : ℕ). record { bits = z }) (ef ∙ ey) in
     rw (kind, flag, em, e₂, el, e₄, ea, e₈, en, e₁₂)
 
+-- the entry of 8 bytes that are all there
+pub entry-read : (s : Bytes) {l m : ℕ} {k : Category} {e : Element}
+    → l ≡ getD s 0 0 + 256 * getD s 1 0 + 65536 * (getD s 2 0 + 256 * getD s 3 0) → m ≡ getD s 4 0 + 256 * getD s 5 0
+    → k .code ≡ getD s 6 0 → e .code ≡ getD s 7 0
+    → _≡_ {A = Entry} (record { start = l; len = m; category = k; element = e }) (entryOf s)
+unfolding entryOf le16
+entry-read s el em ek ee =
+    let cat : _≡_ {A = Category} _ (record { code = getD s 6 0 }) = ap (λ (z : ℕ). record { code = z }) ek in
+    let elt : _≡_ {A = Element} _ (record { code = getD s 7 0 }) = ap (λ (z : ℕ). record { code = z }) ee in
+    rw (el ∙ quad-at s 0, em, behind s 4 0, behind s 4 1, cat, elt)
+
 pub entry-made : (s : Bytes) {l m x y : ℕ} {k : Category} {e : Element} {r : Bytes}
     → l ≡ le32 s → r ≡ drop 4 s → m ≡ le16 r → x ≡ getD s 6 0 → k .code ≡ x → y ≡ getD s 7 0 → e .code ≡ y
     → _≡_ {A = Entry} (record { start = l; len = m; category = k; element = e }) (entryOf s)

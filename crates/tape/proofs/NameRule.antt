@@ -4,14 +4,17 @@ use mathlib.Core.Bool.{Bool, true, false, cond, not}
 use mathlib.Core.List.{List, [], _∷_, _++_, flatten}
 use Prim.Native.Nat.{ℕ, _+_, _-_, _≤_, _<_}
 use native.Mathlib.Omega.{arith}
-use lib.ListN.{length, take, drop, drop-of-length-le, length-drop, length-append}
+use lib.ListN.{length, getD, take, drop, drop-of-length-le, length-drop, length-append}
 use lib.Seq.{length-take-le, take-append-add}
 use lib.Dec.{eqb}
-use borrow.Author.Tests.{eq-eqb, ne-eqb}
+use borrow.Author.Tests.{eq-eqb, ne-eqb, not-true}
 use Rattle.parts.specs.Bytes.{Bytes, part, same, begins}
-use Rattle.chars.specs.Utf8.{step, cutAt, characters, codeOf, firstChar}
+use Rattle.parts.proofs.Laws.{drop-at}
+use Rattle.chars.specs.Utf8.{seqLen, step, cutAt, characters, codeOf, firstChar}
 use Rattle.chars.specs.Space.{isWhite}
 use Rattle.chars.specs.declared.Char.{Char}
+use Rattle.chars.proofs.Laws.{first-one, len-ascii}
+use Rattle.chars.proofs.White.{between-white}
 use Rattle.chars.proofs.Characters.{step-some, step-le, cut-at, cut-whole}
 use Rattle.words.specs.Words.{takeWhile}
 use Rattle.tape.specs.File.{Tape, textAt, infoAt, entryName}
@@ -52,6 +55,17 @@ module _ (c : ℕ) {w : Bool} (ew : w ≡ isWhite c) (h : w ≡ false) where
   pub ends-slash : (c ≡ 42 → ⊥) → (c ≡ 124 → ⊥) → eqb c 92 ≡ endsName c
   unfolding endsName
   ends-slash n m = rw (← ew, h, ne-eqb c 42 n, ne-eqb c 124 m)
+
+-- ---- bytes that end no name
+
+pub name-byte-not : (x : ℕ) → false ≡ true → (x < 128) × (endsName x ≡ false)
+name-byte-not x e = let z : _≡_ {A = ℕ} 0 1 = cc in absurd (omega arith)
+
+pub name-byte : (x : ℕ) → 48 ≤ x → x ≤ 122 → not (eqb x 92) ≡ true → (x < 128) × (endsName x ≡ false)
+unfolding endsName
+name-byte x l h n =
+    let slash : eqb x 92 ≡ false = not-true (eqb x 92) n in
+    (omega arith, rw (← between-white x (omega arith) (omega arith), ne-eqb x 42 (λ e. omega arith), ne-eqb x 124 (λ e. omega arith), slash))
 
 -- ---- the name's length, a character a turn
 
@@ -95,6 +109,15 @@ module _ (s : Bytes) (i : ℕ) (h : i < length s) {r : Bytes} {c : Char} (er : r
   name-stop n et t inv =
       let e : takeWhile inName (characters (drop i s)) ≡ [] = ap (takeWhile inName) name-cut ∙ rw (in-name, ← et, t) in
       omega (arith, ap (λ (cs : List Bytes). length (flatten cs)) e, inv)
+
+-- a byte that is a character of its own
+pub byte-turn : (s : Bytes) (i : ℕ) → i < length s → (n : ℕ) {t : Bool} → (t ≡ true → (getD s i 0 < 128) × (endsName (getD s i 0) ≡ false)) → t ≡ true
+    → i + nameLen (drop i s) ≡ n → i + 1 + nameLen (drop (i + 1) s) ≡ n
+byte-turn s i h n f e inv =
+    let here : getD s i 0 ≡ getD (drop i s) 0 0 = sym (rw (drop-at s i h)) in
+    let one : _≡_ {A = Char} (record { code = getD s i 0; width = 1 }) (firstChar (drop i s)) =
+    first-one (drop i s) (seqLen (drop i s)) refl refl (sym (len-ascii s i h (f e .0))) here in
+    name-turn s i h refl one n (sym (f e .1)) refl inv
 
 pub name-end : (s : Bytes) (i n : ℕ) → length s ≤ i → i + nameLen (drop i s) ≡ n → i ≡ n
 unfolding nameLen characters cutAt takeWhile flatten

@@ -145,6 +145,14 @@ impl Entry {
     pub fn of(s: &[u8]) -> Self
         ensures { λ r. ⌜ r ≡ entryOf (now (s .entry)) ⌝ }
     {
+        if 8 <= s.len() {
+            return Entry {
+                start: number::quad(s[0], s[1], s[2], s[3]),
+                len: number::pair(s[4], s[5]),
+                category: Category::new(s[6]),
+                element: Element::new(s[7]),
+            };
+        }
         Entry {
             start: number::le32(s),
             len: number::le16(parts::from(s, 4)),

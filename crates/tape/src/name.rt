@@ -1,5 +1,7 @@
 // The rule of marker names.
 ghost use mathlib.Core.Path.{_≡_};
+ghost use mathlib.Core.Bool.{true, false};
+ghost use Prim.Native.Nat.{_<_};
 ghost use Rattle.tape.specs.Name.{strip as stripped, bare as bareOf, endsName, nameLen, nameIn};
 
 // A text without a byte that it may begin with.
@@ -36,17 +38,34 @@ pub fn ends_name(code: u32) -> bool
     code == 0x5C
 }
 
+// Whether a byte is an ASCII character that ends no name: 30..7A but for `\`.
+fn is_name_byte(x: u8) -> bool
+    ensures { λ r. ⌜ (r ≡ true → (x < 128) × (endsName x ≡ false)) ⌝ }
+{
+    if x < 0x30 {
+        return false;
+    }
+    if 0x7A < x {
+        return false;
+    }
+    x != 0x5C
+}
+
 // How long the name at the front of a text is.
 fn name_len(s: &[u8]) -> usize
     ensures { λ r. ⌜ r ≡ nameLen (now (s .entry)) ⌝ }
 {
     let mut i = 0;
     while i < s.len() {
-        let c = chars::first_char(parts::from(s, i));
-        if ends_name(c.code) {
-            return i;
+        if is_name_byte(s[i]) {
+            i += 1;
+        } else {
+            let c = chars::first_char(parts::from(s, i));
+            if ends_name(c.code) {
+                return i;
+            }
+            i += c.width;
         }
-        i += c.width;
     }
     i
 }

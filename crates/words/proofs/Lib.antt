@@ -6,5 +6,6 @@ pub mod Places
 pub mod Blank
 pub mod Twice
 pub mod Joins
+pub mod Ends
 pub mod Turns
 pub mod Answers

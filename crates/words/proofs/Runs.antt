@@ -86,6 +86,16 @@ module _ (p : Bytes → Bool) where
       go (d ∷ ds) true e (es, h, k) = (es, rw (← h), k)
       go (d ∷ ds) false e (es, h, k) = (es, rw (← h), k)
 
+  -- where the last fails the test, nothing is left out
+  pub end-solid : (cs : List Bytes) (c : Bytes) → p c ≡ false → dropEnd p (cs ++ (c ∷ [])) ≡ cs ++ (c ∷ [])
+  unfolding dropEnd keep
+  end-solid [] c e = rw e
+  end-solid (d ∷ cs) c e = rw (end-solid cs c e) (go cs)
+    where
+      go : (ds : List Bytes) → keep p d (ds ++ (c ∷ [])) ≡ d ∷ (ds ++ (c ∷ []))
+      go [] = refl
+      go (b ∷ ds) = refl
+
   pub end-twice : (cs : List Bytes) → dropEnd p (dropEnd p cs) ≡ dropEnd p cs
   unfolding dropEnd keep
   end-twice [] = refl

@@ -2,7 +2,7 @@
 use mathlib.Core.Path.{_≡_, sym, ap, _∙_}
 use mathlib.Core.Bool.{Bool}
 use mathlib.Core.List.{List, [], _++_, flatten}
-use Prim.Native.Nat.{ℕ, _≤_}
+use Prim.Native.Nat.{ℕ, _≤_, _<_}
 use native.Mathlib.Omega.{arith}
 use lib.ListN.{length, take, drop, length-append}
 use lib.Seq.{take-append-seam, drop-append-seam}
@@ -10,9 +10,9 @@ use Rattle.parts.specs.Bytes.{Bytes}
 use Rattle.chars.proofs.Characters.{cut-whole}
 use Rattle.words.specs.Words.{stepOf, charsOf, white, solid, takeWhile, dropWhile, dropEnd, pieces, nonempty, words, trimStart, trimEnd, trim, whiteLen, wordLen}
 use Rattle.words.specs.declared.Set.{Set}
-use Rattle.words.proofs.Rows.{Row, flatten-append, row-cut, row-whole, row-behind, row-before, row-empty}
+use Rattle.words.proofs.Rows.{Row, flatten-append, row-cut, row-whole, row-behind, row-before, row-empty, row-join}
 use Rattle.words.proofs.Runs.{wordIn, take-drop-while, every-take-while, drop-while-stops, end-split, words-behind, words-before, words-run, none-left}
-use Rattle.words.proofs.Steps.{size-some, size-le, size-steady}
+use Rattle.words.proofs.Steps.{Apart, size-some, size-le, size-steady, step-apart}
 
 module _ (set : Set) where
   -- ---- characters
@@ -28,6 +28,17 @@ module _ (set : Set) where
   pub row-chars : {cs : List Bytes} → Row (stepOf set) cs → charsOf set (flatten cs) ≡ cs
   unfolding charsOf
   row-chars r = row-whole (stepOf set) (size-some set) r
+
+  -- the characters of a text before one that none of them reaches into, and of that
+  pub chars-apart : (w t : Bytes) → Apart t → charsOf set (w ++ t) ≡ charsOf set w ++ charsOf set t
+  chars-apart w t a =
+      ap (charsOf set) (sym whole) ∙ row-chars (row-join (stepOf set) (charsOf set w) (charsOf set t) reach (chars-row w) (chars-row t))
+    where
+      whole : flatten (charsOf set w ++ charsOf set t) ≡ w ++ t
+      whole = flatten-append (charsOf set w) (charsOf set t) ∙ rw (chars-flatten w, chars-flatten t)
+
+      reach : (x : Bytes) → 0 < length x → stepOf set (x ++ flatten (charsOf set t)) ≡ stepOf set x
+      reach x h = rw (chars-flatten t) (step-apart set t x a h)
 
   -- characters in two halves: each half's text is cut into just those
   module _ (s : Bytes) (cs ds : List Bytes) (e : cs ++ ds ≡ charsOf set s) where

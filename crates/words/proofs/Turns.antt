@@ -5,7 +5,7 @@ use mathlib.Core.List.{List, [], _∷_, flatten}
 use Prim.Native.Nat.{ℕ, suc, _+_, _-_, _≤_, _<_, min}
 use native.Mathlib.Omega.{arith}
 use lib.ListN.{length, getD, take, drop, length-append, length-drop, drop-of-length-le}
-use lib.Seq.{length-take-le}
+use lib.Seq.{length-take-le, getD-drop}
 use borrow.Author.Tests.{not-true, not-false}
 use Rattle.parts.specs.Bytes.{Bytes}
 use Rattle.chars.specs.Range.{within, inAny}
@@ -13,7 +13,7 @@ use Rattle.chars.specs.Utf8.{cutAt, seqLen, firstChar}
 use Rattle.chars.specs.Space.{isWhite, isAsciiWhite}
 use Rattle.chars.specs.declared.Char.{Char}
 use Rattle.chars.proofs.Characters.{cut-at}
-use Rattle.chars.proofs.Laws.{len-one, first-one}
+use Rattle.chars.proofs.Laws.{beyond, len-one, first-one}
 use Rattle.chars.proofs.White.{between-white}
 use Rattle.words.specs.Words.{stepOf, charsOf, white, solid, takeWhile, keep, dropEnd, trimEnd, whiteLen, wordLen}
 use Rattle.words.specs.First.{frontOf, runOf}
@@ -28,6 +28,11 @@ pub front-none : (s : Bytes) → length s ≡ 0 → _≡_ {A = FirstChar} (recor
 unfolding frontOf stepOf white isAsciiWhite inAny within
 front-none [] h = refl
 front-none (x ∷ s) h = absurd (omega arith)
+
+-- no byte beyond the space is ASCII white space
+beyond-white : (x : ℕ) → 32 < x → false ≡ isAsciiWhite x
+unfolding isAsciiWhite inAny
+beyond-white x h = sym (simp (beyond 9 10 x (omega arith), beyond 12 13 x (omega arith), beyond 32 32 x (omega arith)))
 
 pub front-one : (s : Bytes) {t : Bool} → (length s ≡ 0 → ⊥) → t ≡ isAsciiWhite (getD s 0 0)
     → _≡_ {A = FirstChar} (record { width = 1; white = t }) (frontOf Ascii s)
@@ -45,6 +50,20 @@ front-visible s some l h =
     let one : _≡_ {A = Char} (record { code = getD s 0 0; width = 1 }) (firstChar s) =
     first-one s (seqLen s) refl refl (sym (len-one s (λ e. omega arith) h)) refl in
     front-wide s one (between-white (getD s 0 0) l (omega arith))
+
+pub front-seen : (set : Set) (s : Bytes) (at : ℕ) → at < length s → 32 < getD s at 0 → getD s at 0 < 127
+    → _≡_ {A = FirstChar} (record { width = 1; white = false }) (frontOf set (drop at s))
+front-seen set s at h l k = go set
+  where
+    here : getD (drop at s) 0 0 ≡ getD s at 0
+    here = getD-drop at s 0 0 ∙ ap (λ (i : ℕ). getD s i 0) (omega arith)
+
+    go : (set : Set) → _≡_ {A = FirstChar} (record { width = 1; white = false }) (frontOf set (drop at s))
+    go Ascii = front-one (drop at s) (λ e. omega (arith, length-drop at s)) (rw here (beyond-white (getD s at 0) l))
+    go Unicode = front-visible (drop at s) (omega (arith, length-drop at s)) (rw here l) (omega (arith, here))
+
+pub front-far : (set : Set) (s : Bytes) (at : ℕ) {r : Bytes} {f : FirstChar} → r ≡ drop at s → f ≡ frontOf set r → f ≡ frontOf set (drop at s)
+front-far set s at er ef = ef ∙ ap (frontOf set) er
 
 pub front-by : (s : Bytes) {set v : Set} {r : FirstChar} → set ≡ v → r ≡ frontOf v s → r ≡ frontOf set s
 front-by s e er = rw e er

@@ -1,8 +1,9 @@
--- What the code reads at the front of a text.
-use Prim.Native.Nat.{ℕ}
+-- What the code reads at the front of a text, and at its end.
+use Prim.Native.Nat.{ℕ, _-_}
 use mathlib.Core.Bool.{Bool, true, false}
-use lib.ListN.{take}
+use lib.ListN.{length, getD, take}
 use Rattle.parts.specs.Bytes.{Bytes}
+use Rattle.chars.specs.Range.{_to_, within}
 use Rattle.words.specs.Words.{stepOf, white, whiteLen, wordLen}
 use Rattle.words.specs.declared.Set.{Set}
 use Rattle.words.specs.declared.FirstChar.{FirstChar}
@@ -15,3 +16,7 @@ frontOf set s = record { width = stepOf set s; white = white set (take (stepOf s
 unfoldable pub runOf : Set → Bool → Bytes → ℕ
 runOf set true s = whiteLen set s
 runOf set false s = wordLen set s
+
+-- whether the last byte is visible ASCII, 21..7E
+unfoldable pub endsVisible : Bytes → Bool
+endsVisible s = within (33 to 126) (getD s (length s - 1) 0)

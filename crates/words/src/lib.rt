@@ -2,9 +2,9 @@
 ghost use mathlib.Core.Path.{_≡_};
 ghost use mathlib.Core.List.{[]};
 ghost use Prim.Native.Nat.{zero};
-ghost use lib.ListN.{length, getD};
+ghost use lib.ListN.{length, getD, drop};
 ghost use Rattle.words.specs.Words.{words, trimStart, trimEnd, trim as trimOf, isBlank, whiteLen, wordLen, afterWord, lastOf, nextWord, nthWord};
-ghost use Rattle.words.specs.First.{frontOf, runOf};
+ghost use Rattle.words.specs.First.{frontOf, runOf, endsVisible};
 
 // Which white space: the 5 bytes of ASCII, or Unicode's 25 code points.
 pub enum Set {
@@ -43,18 +43,6 @@ fn front_byte(s: &[u8]) -> FirstChar
 fn front_char(s: &[u8]) -> FirstChar
     ensures { λ r. ⌜ r ≡ frontOf Set.Unicode (now (s .entry)) ⌝ }
 {
-    if 0 < s.len() {
-        let x = s[0];
-        // Most characters: ASCII beyond the space.
-        if 0x20 < x {
-            if x < 0x80 {
-                return FirstChar {
-                    width: 1,
-                    white: false,
-                };
-            }
-        }
-    }
     let c = chars::first_char(s);
     FirstChar {
         width: c.width,
@@ -71,13 +59,31 @@ fn front(s: &[u8], set: Set) -> FirstChar
     }
 }
 
+// The character at a place: most are visible ASCII, which no set has as white space.
+fn front_at(s: &[u8], at: usize, set: Set) -> FirstChar
+    ensures { λ r. ⌜ r ≡ frontOf set (drop at (now (s .entry))) ⌝ }
+{
+    if at < s.len() {
+        let x = s[at];
+        if 0x20 < x {
+            if x < 0x7F {
+                return FirstChar {
+                    width: 1,
+                    white: false,
+                };
+            }
+        }
+    }
+    front(parts::from(s, at), set)
+}
+
 // The bytes of the characters at the front that are white space, or that are not.
 fn run_len(s: &[u8], set: Set, white: bool) -> usize
     ensures { λ r. ⌜ r ≡ runOf set white (now (s .entry)) ⌝ }
 {
     let mut at = 0;
     while at < s.len() {
-        let c = front(parts::from(s, at), set);
+        let c = front_at(s, at, set);
         if c.white != white {
             return at;
         }
@@ -100,14 +106,32 @@ pub fn word_len(s: &[u8], set: Set) -> usize
     run_len(s, set, false)
 }
 
+// Whether a text ends with a visible byte of ASCII, 21..7E.
+fn ends_visible(s: &[u8]) -> bool
+    ensures { λ r. ⌜ r ≡ endsVisible (now (s .entry)) ⌝ }
+{
+    if s.len() == 0 {
+        return false;
+    }
+    let x = s[s.len() - 1];
+    if x < 0x21 {
+        return false;
+    }
+    x <= 0x7E
+}
+
 // Where the last character that is not white space ends.
 pub fn solid_len(s: &[u8], set: Set) -> usize
     ensures { λ r. ⌜ r ≡ length (trimEnd set (now (s .entry))) ⌝ }
 {
+    // Most texts: no character reaches into the last byte, and it is not white space.
+    if ends_visible(s) {
+        return s.len();
+    }
     let mut at = 0;
     let mut end = 0;
     while at < s.len() {
-        let c = front(parts::from(s, at), set);
+        let c = front_at(s, at, set);
         let next = at + c.width;
         if !c.white {
             end = next;

@@ -10,6 +10,7 @@ const USAGE: &str = "usage: gen structured SEED COUNT [FIRST]
        gen random SEED COUNT [FIRST]
        gen damaged SEED COUNT [FIRST]
        gen glued SEED COUNT [FIRST]
+       gen shared SEED COUNT [FIRST]
        gen small SIZE
        gen links SIZE
        gen limits";
@@ -43,6 +44,7 @@ fn tapes(args: &[String]) -> Option<Tapes> {
         "random" => seeded(generate::random),
         "damaged" => seeded(|seed, i| generate::damaged(seed, i).file),
         "glued" => seeded(generate::glued),
+        "shared" => seeded(generate::shared),
         "small" => Some(Box::new(generate::small(number(1)? as usize))),
         "links" => Some(Box::new(generate::links(number(1)? as usize))),
         "limits" => Some(Box::new(generate::limits().map(|t| t.0))),

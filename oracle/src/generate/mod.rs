@@ -7,6 +7,7 @@ mod links;
 mod pool;
 mod random;
 mod rng;
+mod shared;
 mod small;
 mod structured;
 
@@ -15,5 +16,6 @@ pub use glued::glued;
 pub use limits::limits;
 pub use links::links;
 pub use random::random;
+pub use shared::shared;
 pub use small::small;
 pub use structured::structured;

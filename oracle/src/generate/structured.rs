@@ -11,6 +11,11 @@ const DEPTH: usize = 64;
 
 /// Tape `number` of `seed`.
 pub fn structured(seed: u64, number: u64) -> Vec<u8> {
+    parts(seed, number).file()
+}
+
+/// The same, before it is a file.
+pub(super) fn parts(seed: u64, number: u64) -> Parts {
     let mut r = Rng::new(MODE, seed, number);
     let fuel = r.pick(&[4, 12, 30, 60]);
     let mut writer = Writer { r, fuel };
@@ -18,7 +23,7 @@ pub fn structured(seed: u64, number: u64) -> Vec<u8> {
     // Markers above a shortened table are unknown.
     let known = if writer.r.once_in(8) { writer.r.below(pool::ENTRIES.len()) } else { pool::ENTRIES.len() };
     let root_end = writer.r.once_in(3);
-    tape(&items, &pool::ENTRIES[..known], root_end).file()
+    tape(&items, &pool::ENTRIES[..known], root_end)
 }
 
 struct Writer {

@@ -1,5 +1,5 @@
 use Prim.Native.Nat.{_+_, _≤_, _-_}
-use mathlib.Core.Path.{_≡_}
+use mathlib.Core.Path.{_≡_, refl}
 use native.Mathlib.Omega.{arith}
 use borrow.Author.Needs.{needs}
 use lib.ListN.{length, drop}
@@ -17,21 +17,14 @@ abbrev μ-loop : tie.MeasureT-loop
 loop-holds : tie.Need-loop-holds Inv-loop μ-loop
 loop-holds c = omega arith
 
-from-requires : tie.Need-from-requires Inv-loop μ-loop
-from-requires c κs = search needs
-
-front-requires : tie.Need-front-requires Inv-loop μ-loop
-front-requires c κs = search needs
+front-at-requires : tie.Need-front-at-requires Inv-loop μ-loop
+front-at-requires c κs = search needs
 
 returns : tie.Need-returns Inv-loop μ-loop
 returns c = search run-stop
 
 add-at : tie.Need-add-at Inv-loop μ-loop
-add-at c =
-    omega (
-      arith,
-      front-fits _ _ _ (c .before .before .before .before .from .ensures) (c .before .before .before .front .ensures) (c .before .before .before .before .before .loop-test .taken),
-    )
+add-at c = omega (arith, front-fits _ _ _ refl (c .before .before .before .front-at .ensures) (c .before .before .before .before .loop-test .taken))
 
 loop-less : tie.Need-loop-less Inv-loop μ-loop
 loop-less c = search front-less
@@ -49,8 +42,7 @@ run-len-spec =
     Inv-loop
     μ-loop
     loop-holds
-    from-requires
-    front-requires
+    front-at-requires
     returns
     add-at
     loop-less

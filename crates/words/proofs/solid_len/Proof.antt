@@ -1,9 +1,10 @@
 use Prim.Native.Nat.{_≤_, _-_}
-use mathlib.Core.Path.{_≡_}
+use mathlib.Core.Path.{_≡_, refl}
 use native.Mathlib.Omega.{arith}
 use borrow.Author.Needs.{needs}
 use lib.ListN.{length}
 use Rattle.words.specs.Words.{trimEnd}
+use Rattle.words.proofs.Ends.{visible-whole}
 use Rattle.words.proofs.Turns.{solidEnd, front-fits, front-less, solid-turn, white-turn, solid-start, solid-end}
 use Rattle.words.proofs.solid_len.Statement.{statement}
 use Rattle.words.proofs.solid_len.Tie as tie
@@ -14,17 +15,20 @@ Inv-loop s set at₀ end₀ at end = (at ≤ length s) × (solidEnd set s at end
 abbrev μ-loop : tie.MeasureT-loop
 μ-loop s set at₀ end₀ at end = length s - at
 
+ends-visible-requires : tie.Need-ends-visible-requires Inv-loop μ-loop
+ends-visible-requires c κs = search needs
+
+returns : tie.Need-returns Inv-loop μ-loop
+returns c = search visible-whole
+
 loop-holds : tie.Need-loop-holds Inv-loop μ-loop
 loop-holds c = (omega arith, search solid-start)
 
-from-requires : tie.Need-from-requires Inv-loop μ-loop
-from-requires c κs = search needs
-
-front-requires : tie.Need-front-requires Inv-loop μ-loop
-front-requires c κs = search needs
+front-at-requires : tie.Need-front-at-requires Inv-loop μ-loop
+front-at-requires c κs = search needs
 
 add-next : tie.Need-add-next Inv-loop μ-loop
-add-next c = omega (arith, front-fits _ _ _ (c .before .before .from .ensures) (c .before .front .ensures) (c .before .before .before .loop-test .taken))
+add-next c = omega (arith, front-fits _ _ _ refl (c .before .front-at .ensures) (c .before .before .loop-test .taken))
 
 loop-less : tie.Need-loop-less Inv-loop μ-loop
 loop-less c = search front-less
@@ -38,8 +42,8 @@ loop-less-2 c = search front-less
 loop-again-2 : tie.Need-loop-again-2 Inv-loop μ-loop
 loop-again-2 c = (search front-fits, search white-turn)
 
-returns : tie.Need-returns Inv-loop μ-loop
-returns c = search solid-end
+returns-2 : tie.Need-returns-2 Inv-loop μ-loop
+returns-2 c = search solid-end
 
 pub solid-len-spec : {M : Type 1} → statement M
 solid-len-spec =
@@ -47,12 +51,13 @@ solid-len-spec =
     (tie.spec
     Inv-loop
     μ-loop
+    ends-visible-requires
+    returns
     loop-holds
-    from-requires
-    front-requires
+    front-at-requires
     add-next
     loop-less
     loop-again
     loop-less-2
     loop-again-2
-    returns)
+    returns-2)

@@ -4,7 +4,7 @@ use native.Mathlib.Omega.{arith}
 use borrow.Author.Needs.{needs}
 use lib.ListN.{length, drop}
 use Rattle.tape.specs.Name.{nameLen}
-use Rattle.tape.proofs.NameRule.{name-fits, name-less, name-turn, name-stop, name-end}
+use Rattle.tape.proofs.NameRule.{byte-turn, name-fits, name-less, name-turn, name-stop, name-end}
 use Rattle.tape.proofs.name.name_len.Statement.{statement}
 use Rattle.tape.proofs.name.name_len.Tie as tie
 
@@ -16,6 +16,21 @@ abbrev μ-loop : tie.MeasureT-loop
 
 loop-holds : tie.Need-loop-holds Inv-loop μ-loop
 loop-holds c = omega arith
+
+shared-slice-read-is-name-byte : tie.Need-shared-slice-read-is-name-byte Inv-loop μ-loop
+shared-slice-read-is-name-byte c = search needs
+
+is-name-byte-requires : tie.Need-is-name-byte-requires Inv-loop μ-loop
+is-name-byte-requires c κs = search needs
+
+add-i : tie.Need-add-i Inv-loop μ-loop
+add-i c = search needs
+
+loop-less : tie.Need-loop-less Inv-loop μ-loop
+loop-less c = search needs
+
+loop-again : tie.Need-loop-again Inv-loop μ-loop
+loop-again c = (omega arith, search byte-turn)
 
 from-requires : tie.Need-from-requires Inv-loop μ-loop
 from-requires c κs = search needs
@@ -29,15 +44,15 @@ ends-name-requires c κs = search needs
 returns : tie.Need-returns Inv-loop μ-loop
 returns c = search name-stop
 
-add-i : tie.Need-add-i Inv-loop μ-loop
-add-i c =
-    let fits : c .before .before .before .before .before .before .loop .i + c .before .before .before .first-char .result .width ≤ length (c .before .before .before .before .before .before .before .before .args .s .now) = search name-fits in omega arith
+add-i-2 : tie.Need-add-i-2 Inv-loop μ-loop
+add-i-2 c =
+    let fits : c .before .before .before .before .before .before .before .before .before .loop .i + c .before .before .before .first-char .result .width ≤ length (c .before .before .before .before .before .before .before .before .before .before .before .args .s .now) = search name-fits in omega arith
 
-loop-less : tie.Need-loop-less Inv-loop μ-loop
-loop-less c = search name-less
+loop-less-2 : tie.Need-loop-less-2 Inv-loop μ-loop
+loop-less-2 c = search name-less
 
-loop-again : tie.Need-loop-again Inv-loop μ-loop
-loop-again c = (search name-fits, search name-turn)
+loop-again-2 : tie.Need-loop-again-2 Inv-loop μ-loop
+loop-again-2 c = (search name-fits, search name-turn)
 
 returns-2 : tie.Need-returns-2 Inv-loop μ-loop
 returns-2 c = search name-end
@@ -49,11 +64,16 @@ name-len-spec =
     Inv-loop
     μ-loop
     loop-holds
+    shared-slice-read-is-name-byte
+    is-name-byte-requires
+    add-i
+    loop-less
+    loop-again
     from-requires
     first-char-requires
     ends-name-requires
     returns
-    add-i
-    loop-less
-    loop-again
+    add-i-2
+    loop-less-2
+    loop-again-2
     returns-2)

@@ -1,0 +1,23 @@
+use Rattle.words.proofs.Turns.{front-seen, front-far}
+use borrow.Author.Needs.{needs}
+use Rattle.words.proofs.front_at.Statement.{statement}
+use Rattle.words.proofs.front_at.Tie as tie
+
+shared-slice-read-x : tie.Need-shared-slice-read-x
+shared-slice-read-x c = search needs
+
+returns : tie.Need-returns
+returns c = search front-seen
+
+from-requires : tie.Need-from-requires
+from-requires c κs = search needs
+
+front-requires : tie.Need-front-requires
+front-requires c κs = search needs
+
+returns-2 : tie.Need-returns-2
+returns-2 c = search front-far
+
+pub front-at-spec : {M : Type 1} → statement M
+front-at-spec =
+    tie.close (tie.spec shared-slice-read-x returns from-requires front-requires returns-2)
