@@ -15,7 +15,6 @@ use Rattle.texts.proofs.Edges.{white-more, white-ends}
 use Rattle.tape.specs.File.{tapeIn, nodeAt, textAt}
 use Rattle.tape.specs.declared.Sections.{Sections}
 use Rattle.tape.specs.declared.Cursor.{Cursor}
-use Rattle.tape.specs.declared.Node.{Node}
 use Rattle.places.specs.Seek.{solidByte, passesAt, nextFrom, Right}
 use Rattle.places.specs.declared.Test.the-variants.{Solid}
 use Rattle.places.proofs.Firsts.{first-hit, first-miss}
@@ -154,16 +153,19 @@ take-length (suc m) [] = refl
 take-length (suc m) (x ∷ u) = ap (λ (v : Bytes). x ∷ v) (take-length m u)
 
 module _ (c : Sections) (file : Bytes) (k : Cursor) (table : List ℕ) where
-  pub white-found : {n : Node} → n ≡ nodeAt (tapeIn c file) (k .at) → {source : Bytes} → source ≡ tapeIn c file .source → {start : ℕ} → start ≡ n .start → (len : ℕ) {r : ℕ}
+  pub white-found : {m start : ℕ} → m ≡ nodeAt (tapeIn c file) (k .at) .start → start ≡ m → {source : Bytes} → source ≡ tapeIn c file .source → (len : ℕ) {r : ℕ}
       → (Right Solid source table → start + len ≤ length source → r ≡ whiteLen Ascii (part source start len))
       → Solids (tapeIn c file) table → 0 < len → len ≡ length (textAt (tapeIn c file) (k .at)) → r ≡ whiteLen Ascii (textAt (tapeIn c file) (k .at))
   unfolding textAt
-  white-found {n} en {source} eo {start} et len {r} er q some el =
-      er (rw eo q) (omega (arith, some, el, ap length is, length-take (n .len) (drop start source), length-drop start source))
-      ∙ ap (whiteLen Ascii) (ap (λ (m : ℕ). take m (drop start source)) (el ∙ ap length is) ∙ take-length (n .len) (drop start source) ∙ sym is)
+  white-found {m} {start} em et {source} eo len {r} er q some el =
+      er (rw eo q) (omega (arith, some, el, ap length is, length-take l (drop start source), length-drop start source))
+      ∙ ap (whiteLen Ascii) (ap (λ (n : ℕ). take n (drop start source)) (el ∙ ap length is) ∙ take-length l (drop start source) ∙ sym is)
     where
-      is : part (tapeIn c file .source) (nodeAt (tapeIn c file) (k .at) .start) (nodeAt (tapeIn c file) (k .at) .len) ≡ take (n .len) (drop start source)
-      is = rw (et, eo, en)
+      l : ℕ
+      l = nodeAt (tapeIn c file) (k .at) .len
+
+      is : part (tapeIn c file .source) (nodeAt (tapeIn c file) (k .at) .start) l ≡ take l (drop start source)
+      is = rw (et, eo, em)
 
   pub text-white : {s : Bytes} → s ≡ textAt (tapeIn c file) (k .at) → {w : Bool} → (w ≡ true → 0 < length s) → not w ≡ false → {white : ℕ}
       → (Solids (tapeIn c file) table → 0 < length s → length s ≡ length (textAt (tapeIn c file) (k .at)) → white ≡ whiteLen Ascii (textAt (tapeIn c file) (k .at)))

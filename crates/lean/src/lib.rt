@@ -42,8 +42,8 @@ fn white_ahead(solids: &[u32], s: &[u8], start: usize, len: usize) -> usize
 fn white_of(file: &[u8], tape: Sections, solids: &[u32], c: Cursor, len: usize) -> usize
     ensures { λ r. ⌜ (Solids (tapeIn tape (now (file .entry))) (now (solids .entry)) → 0 < len → len ≡ length (textAt (tapeIn tape (now (file .entry))) (c .at)) → r ≡ whiteLen Set.Ascii (textAt (tapeIn tape (now (file .entry))) (c .at))) ⌝ }
 {
-    let n = c.node(file, tape);
-    white_ahead(solids, tape::source(file, tape), long(n.start), len)
+    let start = long(c.start(file, tape));
+    white_ahead(solids, tape::source(file, tape), start, len)
 }
 
 // Whether a text begins with two white bytes.

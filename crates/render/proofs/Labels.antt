@@ -56,7 +56,7 @@ module _ (t : Tape) (k : ℕ) where
       → r ≡ part src a l → w ≡ nthWord Unicode r zero n → _≡_ {A = Part} (record { start = a + w .start; len = w .len }) (wordPart t k n)
   unfolding wordPart inSource
   word-found n em ea es el er ew =
-      rw (← text-of t k em es ea el er, ← ew, ea, em)
+      rw (← text-of t k (ap (λ (z : Node). z .start) em) ea es (ap (λ (z : Node). z .len) em) el er, ← ew, ea, em)
 
 -- ---- the name
 

@@ -7,8 +7,8 @@ use native.Mathlib.Nat.{mul-zero, mul-suc, add-comm}
 use native.Mathlib.Omega.{arith}
 use lib.ListN.{length, getD, drop, List·getD-eq-default}
 use lib.Seq.{drop-drop, getD-drop}
-use lib.Dec.{eqb, leb}
-use borrow.Author.Tests.{eq-eqb, ne-eqb, lt-ltb, le-ltb, le-leb, lt-leb}
+use lib.Dec.{eqb, leb, ltb}
+use borrow.Author.Tests.{eq-eqb, ne-eqb, lt-ltb, le-ltb, ltb-true, ltb-false, le-leb, lt-leb}
 use Rattle.parts.specs.Bytes.{Bytes, part}
 use Rattle.tape.specs.File.{le16, le32, nodeOf, entryOf, recordsOf, Tape, tapeIn, entriesAt, namesAt, sourceAt, sectionsOf, nowhere, nameless, nodeAt, entryAt, kindAt, textAt, entryName, isSynthetic, isNested, bearsMarker, infoAt, numberAt, categoryOf, elementOf, baseLen, nameOf}
 use Rattle.tape.specs.Tree.{isClose, holds, matchingClose, childBefore, firstChild, lastOf, siblingPast, nextSibling}
@@ -95,6 +95,13 @@ entry-read s el em ek ee =
     let elt : _≡_ {A = Element} _ (record { code = getD s 7 0 }) = ap (λ (z : ℕ). record { code = z }) ee in
     rw (el ∙ quad-at s 0, em, behind s 4 0, behind s 4 1, cat, elt)
 
+pub le16-read : (s : Bytes) {r : ℕ} → r ≡ getD s 0 0 + 256 * getD s 1 0 → r ≡ le16 s
+unfolding le16
+le16-read s er = er
+
+pub le32-read : (s : Bytes) {r : ℕ} → r ≡ getD s 0 0 + 256 * getD s 1 0 + 65536 * (getD s 2 0 + 256 * getD s 3 0) → r ≡ le32 s
+le32-read s er = er ∙ quad-at s 0
+
 pub entry-made : (s : Bytes) {l m x y : ℕ} {k : Category} {e : Element} {r : Bytes}
     → l ≡ le32 s → r ≡ drop 4 s → m ≡ le16 r → x ≡ getD s 6 0 → k .code ≡ x → y ≡ getD s 7 0 → e .code ≡ y
     → _≡_ {A = Entry} (record { start = l; len = m; category = k; element = e }) (entryOf s)
@@ -144,6 +151,51 @@ module _ (c : Sections) (file : Bytes) (k : ℕ) where
   pub kind-out : {z : Kind} → c .nodes ≤ k → z .code ≡ 8 → z .code ≡ kindAt (tapeIn c file) k
   unfolding nowhere
   kind-out h ez = ez ∙ ap (λ (n : Node). n .kind .code) (node-out h)
+
+  -- a number that is read where a node has a field is the field
+  module _ (field : Node → ℕ) (p : ℕ) (is : (s : Bytes) → field (nodeOf s) ≡ le32 (drop p s)) (none : field nowhere ≡ 0) where
+    word-field : {r : ℕ} → (k < c .nodes → r ≡ le32 (drop (c .head + 16 * k + p) file)) → (c .nodes ≤ k → r ≡ 0) → r ≡ field (nodeAt (tapeIn c file) k)
+    word-field {r} f g = go (ltb k (c .nodes)) refl
+      where
+        go : (b : Bool) → ltb k (c .nodes) ≡ b → r ≡ field (nodeAt (tapeIn c file) k)
+        go true e =
+            let h = ltb-true k (c .nodes) e in
+            f h ∙ ap le32 (sym (drop-drop p (c .head + 16 * k) file)) ∙ sym (is (drop (c .head + 16 * k) file)) ∙ ap field (node-there h)
+        go false e = let h = ltb-false k (c .nodes) e in g h ∙ sym none ∙ ap field (node-out h)
+
+  pub link-read : {r : ℕ} → (k < c .nodes → r ≡ le32 (drop (c .head + 16 * k + 4) file)) → (c .nodes ≤ k → r ≡ 0) → r ≡ nodeAt (tapeIn c file) k .link
+  unfolding nodeOf
+  link-read = word-field (λ (n : Node). n .link) 4 (λ s. refl) refl
+
+  pub start-read : {r : ℕ} → (k < c .nodes → r ≡ le32 (drop (c .head + 16 * k + 8) file)) → (c .nodes ≤ k → r ≡ 0) → r ≡ nodeAt (tapeIn c file) k .start
+  unfolding nodeOf
+  start-read = word-field (λ (n : Node). n .start) 8 (λ s. refl) refl
+
+  pub len-read : {r : ℕ} → (k < c .nodes → r ≡ le32 (drop (c .head + 16 * k + 12) file)) → (c .nodes ≤ k → r ≡ 0) → r ≡ nodeAt (tapeIn c file) k .len
+  unfolding nodeOf
+  len-read = word-field (λ (n : Node). n .len) 12 (λ s. refl) refl
+
+  pub word-in : {p q a r : ℕ} {s : Bytes} → k < c .nodes → p ≡ c .head + 16 * k → a ≡ q → s ≡ drop (p + a) file → r ≡ le32 s → k < c .nodes → r ≡ le32 (drop (c .head + 16 * k + q) file)
+  word-in h ep ea es er l = er ∙ ap le32 (es ∙ rw (ep, ea))
+
+  pub word-here : k < c .nodes → (r : ℕ) → c .nodes ≤ k → r ≡ 0
+  word-here h r l = absurd (omega arith)
+
+  pub marker-in : {p r : ℕ} {s : Bytes} → k < c .nodes → p ≡ c .head + 16 * k → s ≡ drop (p + 2) file → r ≡ le16 s → r ≡ nodeAt (tapeIn c file) k .marker
+  unfolding nodeOf
+  marker-in {p} h ep es er =
+      er ∙ ap le16 (es ∙ ap (λ (i : ℕ). drop (i + 2) file) ep ∙ sym (drop-drop 2 (c .head + 16 * k) file)) ∙ ap (λ (n : Node). n .marker) (node-there h)
+
+  pub marker-out : c .nodes ≤ k → 65535 ≡ nodeAt (tapeIn c file) k .marker
+  marker-out h = ap (λ (n : Node). n .marker) (node-out h)
+
+  pub flags-in : {p x : ℕ} {z : Flags} → k < c .nodes → p ≡ c .head + 16 * k → x ≡ getD file (p + 1) 0 → z .bits ≡ x → z .bits ≡ nodeAt (tapeIn c file) k .flags .bits
+  unfolding nodeOf
+  flags-in {p} h ep ex ez =
+      ez ∙ ex ∙ ap (λ (i : ℕ). getD file (i + 1) 0) ep ∙ sym (behind file (c .head + 16 * k) 1) ∙ ap (λ (n : Node). n .flags .bits) (node-there h)
+
+  pub flags-out : {z : Flags} → c .nodes ≤ k → z .bits ≡ 0 → z .bits ≡ nodeAt (tapeIn c file) k .flags .bits
+  flags-out h ez = ez ∙ ap (λ (n : Node). n .flags .bits) (node-out h)
 
   pub entry-in : {e a : ℕ} {r : Bytes} {n : Entry} → k < c .entries → e ≡ entriesAt c → a ≡ k → r ≡ drop (e + 8 * a) file → n ≡ entryOf r → n ≡ entryAt (tapeIn c file) k
   unfolding entryAt tapeIn
@@ -215,14 +267,6 @@ module _ (t : Tape) (k : ℕ) {n : Node} (e : n ≡ nodeAt t k) where
   pub link-of : n .link ≡ nodeAt t k .link
   link-of = ap (λ (m : Node). m .link) e
 
-  pub synthetic-of : eqb (n .flags .bits % 2) 1 ≡ isSynthetic t k
-  unfolding isSynthetic
-  synthetic-of = ap (λ (m : Node). eqb (m .flags .bits % 2) 1) e
-
-  pub nested-of : eqb (n .flags .bits / 2 % 2) 1 ≡ isNested t k
-  unfolding isNested
-  nested-of = ap (λ (m : Node). eqb (m .flags .bits / 2 % 2) 1) e
-
   pub number-chapter : n .kind .code ≡ 6 → n .link ≡ numberAt t k
   unfolding numberAt
   number-chapter h = rw (either-first (kindAt t k) 6 (eqb (kindAt t k) 7) (sym kind-of ∙ h)) link-of
@@ -237,54 +281,60 @@ module _ (t : Tape) (k : ℕ) {n : Node} (e : n ≡ nodeAt t k) where
   number-none g h =
       rw (either-second (kindAt t k) 6 (eqb (kindAt t k) 7) (λ z. g (kind-of ∙ z)), ne-eqb (kindAt t k) 7 (λ z. h (kind-of ∙ z)))
 
-  pub text-of : {src r : Bytes} {a l : ℕ} → src ≡ t .source → a ≡ n .start → l ≡ n .len → r ≡ part src a l → r ≡ textAt t k
-  unfolding textAt
-  text-of es ea el er = er ∙ rw (es, ea, el) (ap (λ (m : Node). part (t .source) (m .start) (m .len)) e)
+module _ (t : Tape) (k : ℕ) {z : Flags} (e : z .bits ≡ nodeAt t k .flags .bits) where
+  pub synthetic-of : eqb (z .bits % 2) 1 ≡ isSynthetic t k
+  unfolding isSynthetic
+  synthetic-of = ap (λ (b : ℕ). eqb (b % 2) 1) e
 
-  pub close-of : n .kind .code ≡ 3 → At (record { at = n .link }) ≡ matchingClose t k
+  pub nested-of : eqb (z .bits / 2 % 2) 1 ≡ isNested t k
+  unfolding isNested
+  nested-of = ap (λ (b : ℕ). eqb (b / 2 % 2) 1) e
+
+pub text-of : (t : Tape) (k : ℕ) {m l a n : ℕ} {src r : Bytes} → m ≡ nodeAt t k .start → a ≡ m → src ≡ t .source → l ≡ nodeAt t k .len → n ≡ l → r ≡ part src a n → r ≡ textAt t k
+unfolding textAt
+text-of t k em ea es el en er = er ∙ rw (es, ea, em, en, el)
+
+module _ (t : Tape) (k : ℕ) {z : Kind} (ez : z .code ≡ kindAt t k) where
+  pub close-of : z .code ≡ 3 → {l : ℕ} → l ≡ nodeAt t k .link → At (record { at = l }) ≡ matchingClose t k
   unfolding matchingClose
-  close-of h = rw (eq-eqb (kindAt t k) 3 (sym kind-of ∙ h), link-of)
+  close-of h el = rw (eq-eqb (kindAt t k) 3 (sym ez ∙ h), el)
 
-  pub close-none : (n .kind .code ≡ 3 → ⊥) → Done ≡ matchingClose t k
+  pub close-none : (z .code ≡ 3 → ⊥) → Done ≡ matchingClose t k
   unfolding matchingClose
-  close-none h = rw (ne-eqb (kindAt t k) 3 (λ z. h (kind-of ∙ z)))
+  close-none h = rw (ne-eqb (kindAt t k) 3 (λ x. h (ez ∙ x)))
 
-  pub last-link : {h : Bool} → h ≡ holds (n .kind .code) → h ≡ true → n .link ≡ lastOf t k
-  unfolding lastOf
-  last-link eh h = rw (ap holds (sym kind-of) ∙ sym eh ∙ h) link-of
+  module _ {h : Bool} (eh : h ≡ holds (z .code)) where
+    pub last-link : h ≡ true → {l : ℕ} → l ≡ nodeAt t k .link → l ≡ lastOf t k
+    unfolding lastOf
+    last-link y el = rw (ap holds (sym ez) ∙ sym eh ∙ y) el
 
-  pub last-self : {h : Bool} → h ≡ holds (n .kind .code) → h ≡ false → k ≡ lastOf t k
-  unfolding lastOf
-  last-self eh h = rw (ap holds (sym kind-of) ∙ sym eh ∙ h)
+    pub last-self : h ≡ false → k ≡ lastOf t k
+    unfolding lastOf
+    last-self y = rw (ap holds (sym ez) ∙ sym eh ∙ y)
 
-  pub child-none : {h : Bool} → h ≡ holds (n .kind .code) → h ≡ false → Done ≡ firstChild t k
-  unfolding firstChild
-  child-none eh h = rw (ap holds (sym kind-of) ∙ sym eh ∙ h)
+    pub child-none : h ≡ false → Done ≡ firstChild t k
+    unfolding firstChild
+    child-none y = rw (ap holds (sym ez) ∙ sym eh ∙ y)
 
-  pub info-plain : {h : Bool} → h ≡ bearsMarker (n .kind .code) → h ≡ false → Unknown ≡ infoAt t k
+  pub info-plain : {h : Bool} → h ≡ bearsMarker (z .code) → h ≡ false → Unknown ≡ infoAt t k
   unfolding infoAt
-  info-plain eh h = rw (ap bearsMarker (sym kind-of) ∙ sym eh ∙ h)
-
-  pub marker-of : n .marker ≡ nodeAt t k .marker
-  marker-of = ap (λ (m : Node). m .marker) e
+  info-plain eh h = rw (ap bearsMarker (sym ez) ∙ sym eh ∙ h)
 
 -- ---- where the count of nodes or entries decides
 
-module _ (c : Sections) (file : Bytes) (k : ℕ) {n : Node} (e : n ≡ nodeAt (tapeIn c file) k) where
-  pub child-some : {h : Bool} {s : Step} → h ≡ holds (n .kind .code) → h ≡ true → s ≡ childBefore (c .nodes) k (n .link) → s ≡ firstChild (tapeIn c file) k
+module _ (c : Sections) (file : Bytes) (k : ℕ) {z : Kind} (ez : z .code ≡ kindAt (tapeIn c file) k) where
+  pub child-some : {h : Bool} → h ≡ holds (z .code) → h ≡ true → {l : ℕ} → l ≡ nodeAt (tapeIn c file) k .link → {s : Step} → s ≡ childBefore (c .nodes) k l → s ≡ firstChild (tapeIn c file) k
   unfolding firstChild
-  child-some eh h es = rw (ap holds (sym (kind-of (tapeIn c file) k e)) ∙ sym eh ∙ h, node-count c file) (es ∙ ap (childBefore (c .nodes) k) (link-of (tapeIn c file) k e))
+  child-some eh h el es = rw (ap holds (sym ez) ∙ sym eh ∙ h, node-count c file) (es ∙ ap (childBefore (c .nodes) k) el)
 
-  pub info-known : {h : Bool} {m : ℕ} {i : Entry} → m ≡ n .marker → h ≡ bearsMarker (n .kind .code) → h ≡ true → m < c .entries → i ≡ entryAt (tapeIn c file) m
-      → Known i ≡ infoAt (tapeIn c file) k
-  unfolding infoAt
-  info-known em eh h l ei =
-      rw (ap bearsMarker (sym (kind-of (tapeIn c file) k e)) ∙ sym eh ∙ h, entry-count c file, ← marker-of (tapeIn c file) k e, ← em, lt-ltb _ _ l, ei)
+  module _ {h : Bool} (eh : h ≡ bearsMarker (z .code)) (y : h ≡ true) {l m : ℕ} (el : l ≡ nodeAt (tapeIn c file) k .marker) (em : m ≡ l) where
+    pub info-known : m < c .entries → {i : Entry} → i ≡ entryAt (tapeIn c file) m → Known i ≡ infoAt (tapeIn c file) k
+    unfolding infoAt
+    info-known b ei = rw (ap bearsMarker (sym ez) ∙ sym eh ∙ y, entry-count c file, ← el, ← em, lt-ltb _ _ b, ei)
 
-  pub info-unknown : {h : Bool} {m : ℕ} → m ≡ n .marker → h ≡ bearsMarker (n .kind .code) → h ≡ true → c .entries ≤ m → Unknown ≡ infoAt (tapeIn c file) k
-  unfolding infoAt
-  info-unknown em eh h l =
-      rw (ap bearsMarker (sym (kind-of (tapeIn c file) k e)) ∙ sym eh ∙ h, entry-count c file, ← marker-of (tapeIn c file) k e, ← em, le-ltb _ _ l)
+    pub info-unknown : c .entries ≤ m → Unknown ≡ infoAt (tapeIn c file) k
+    unfolding infoAt
+    info-unknown b = rw (ap bearsMarker (sym ez) ∙ sym eh ∙ y, entry-count c file, ← el, ← em, le-ltb _ _ b)
 
 -- ---- steps
 

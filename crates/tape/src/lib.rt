@@ -12,7 +12,8 @@ pub use name::ends_name;
 pub use number::long;
 pub use number::short;
 ghost use mathlib.Core.Path.{_≡_};
-ghost use Prim.Native.Nat.{_+_, _*_, _<_, _^_};
+ghost use Prim.Native.Nat.{_+_, _*_, _≤_, _<_, _^_};
+ghost use lib.ListN.{drop};
 ghost use Rattle.parts.specs.Bytes.{part, same};
 ghost use Rattle.tape.specs.File.{le32 as le32Of, nodeOf, entryOf, sectionsOf, entriesAt, namesAt, sourceAt, tapeIn, nodeAt, entryAt, kindAt, textAt, entryName, isSynthetic, isNested, bearsMarker, infoAt, numberAt, categoryOf, elementOf, baseLen, nameOf};
 ghost use Rattle.tape.specs.Name.{markerName, entryIs};
@@ -287,19 +288,56 @@ impl Cursor {
     pub fn link(self, file: &[u8], tape: Sections) -> u32
         ensures { λ r. ⌜ r ≡ nodeAt (tapeIn tape (now (file .entry))) (self .at) .link ⌝ }
     {
-        self.node(file, tape).link
+        self.word(file, tape, 4)
+    }
+
+    // The number at a place of the node; 0 where there is none.
+    fn word(self, file: &[u8], tape: Sections, place: u32) -> u32
+        ensures { λ r. ⌜ (self .at < tape .nodes → r ≡ le32Of (drop (tape .head + 16 * self .at + place) (now (file .entry)))) ⌝ }
+        ensures { λ r. ⌜ (tape .nodes ≤ self .at → r ≡ 0) ⌝ }
+    {
+        if self.at < tape.nodes {
+            number::le32(parts::from(file, node_place(tape, self.at) + long(place)))
+        } else {
+            0
+        }
+    }
+
+    // Where the node's span starts.
+    pub fn start(self, file: &[u8], tape: Sections) -> u32
+        ensures { λ r. ⌜ r ≡ nodeAt (tapeIn tape (now (file .entry))) (self .at) .start ⌝ }
+    {
+        self.word(file, tape, 8)
+    }
+
+    // How long the node's span is.
+    fn len(self, file: &[u8], tape: Sections) -> u32
+        ensures { λ r. ⌜ r ≡ nodeAt (tapeIn tape (now (file .entry))) (self .at) .len ⌝ }
+    {
+        self.word(file, tape, 12)
+    }
+
+    // The index of the node's entry.
+    fn marker(self, file: &[u8], tape: Sections) -> u16
+        ensures { λ r. ⌜ r ≡ nodeAt (tapeIn tape (now (file .entry))) (self .at) .marker ⌝ }
+    {
+        if self.at < tape.nodes {
+            number::le16(parts::from(file, node_place(tape, self.at) + 2))
+        } else {
+            65535
+        }
     }
 
     pub fn is_synthetic(self, file: &[u8], tape: Sections) -> bool
         ensures { λ r. ⌜ r ≡ isSynthetic (tapeIn tape (now (file .entry))) (self .at) ⌝ }
     {
-        self.node(file, tape).flags.bits % 2 == 1
+        self.flags(file, tape).bits % 2 == 1
     }
 
     pub fn is_nested(self, file: &[u8], tape: Sections) -> bool
         ensures { λ r. ⌜ r ≡ isNested (tapeIn tape (now (file .entry))) (self .at) ⌝ }
     {
-        self.node(file, tape).flags.bits / 2 % 2 == 1
+        self.flags(file, tape).bits / 2 % 2 == 1
     }
 
     // The number of a Chapter or Verse; 0 for other kinds.
@@ -320,9 +358,8 @@ impl Cursor {
     pub fn marker_info(self, file: &[u8], tape: Sections) -> Info
         ensures { λ r. ⌜ r ≡ infoAt (tapeIn tape (now (file .entry))) (self .at) ⌝ }
     {
-        let n = self.node(file, tape);
-        let marker = number::wider(n.marker);
-        if n.kind.bears_marker() {
+        if self.kind(file, tape).bears_marker() {
+            let marker = number::wider(self.marker(file, tape));
             if marker < tape.entries {
                 Info::Known(entry_at(file, tape, marker))
             } else {
@@ -336,7 +373,11 @@ impl Cursor {
     pub fn flags(self, file: &[u8], tape: Sections) -> Flags
         ensures { λ r. ⌜ r .bits ≡ nodeAt (tapeIn tape (now (file .entry))) (self .at) .flags .bits ⌝ }
     {
-        self.node(file, tape).flags
+        if self.at < tape.nodes {
+            Flags::new(parts::byte_at(file, node_place(tape, self.at) + 1))
+        } else {
+            Flags::new(0)
+        }
     }
 
     // The category of the node's entry; Other where it is unknown.
@@ -384,17 +425,18 @@ impl Cursor {
     pub fn text(self, file: &[u8], tape: Sections) -> &[u8]
         ensures { λ r. ⌜ now r ≡ textAt (tapeIn tape (now (file .entry))) (self .at) ⌝ }
     {
-        let n = self.node(file, tape);
-        parts::part(source(file, tape), long(n.start), long(n.len))
+        let start = long(self.start(file, tape));
+        parts::part(source(file, tape), start, long(self.len(file, tape)))
     }
 
     // The node that a MarkerOpen links to.
     pub fn matching_close(self, file: &[u8], tape: Sections) -> Step
         ensures { λ r. ⌜ r ≡ matchingClose (tapeIn tape (now (file .entry))) (self .at) ⌝ }
     {
-        let n = self.node(file, tape);
-        if n.kind.code == Kind::MARKER_OPEN {
-            Step::At(Cursor { at: n.link })
+        if self.kind(file, tape).code == Kind::MARKER_OPEN {
+            Step::At(Cursor {
+                at: self.link(file, tape),
+            })
         } else {
             Step::Done
         }
@@ -403,9 +445,8 @@ impl Cursor {
     pub fn first_child(self, file: &[u8], tape: Sections) -> Step
         ensures { λ r. ⌜ r ≡ firstChild (tapeIn tape (now (file .entry))) (self .at) ⌝ }
     {
-        let n = self.node(file, tape);
-        if n.kind.holds() {
-            child_before(tape.nodes, self.at, n.link)
+        if self.kind(file, tape).holds() {
+            child_before(tape.nodes, self.at, self.link(file, tape))
         } else {
             Step::Done
         }
@@ -421,8 +462,11 @@ impl Cursor {
     fn last(self, file: &[u8], tape: Sections) -> u32
         ensures { λ r. ⌜ r ≡ lastOf (tapeIn tape (now (file .entry))) (self .at) ⌝ }
     {
-        let n = self.node(file, tape);
-        if n.kind.holds() { n.link } else { self.at }
+        if self.kind(file, tape).holds() {
+            self.link(file, tape)
+        } else {
+            self.at
+        }
     }
 
     // The marker name: the part of the node's text between an optional `\`, an optional `+`, and white space, `*`, `|`, `\` or the end.

@@ -42,12 +42,18 @@ pub fn quad(a: u8, e: u8, i: u8, o: u8) -> u32
 pub fn le16(s: &[u8]) -> u16
     ensures { λ r. ⌜ r ≡ le16Of (now (s .entry)) ⌝ }
 {
+    if 2 <= s.len() {
+        return pair(s[0], s[1]);
+    }
     pair(parts::byte_at(s, 0), parts::byte_at(s, 1))
 }
 
 pub fn le32(s: &[u8]) -> u32
     ensures { λ r. ⌜ r ≡ le32Of (now (s .entry)) ⌝ }
 {
+    if 4 <= s.len() {
+        return quad(s[0], s[1], s[2], s[3]);
+    }
     wider(le16(s)) + 65536 * wider(le16(parts::from(s, 2)))
 }
 

@@ -3,14 +3,14 @@ use borrow.Author.Needs.{needs}
 use Rattle.lean.proofs.white_of.Statement.{statement}
 use Rattle.lean.proofs.white_of.Tie as tie
 
-node-requires : tie.Need-node-requires
-node-requires c κs = search needs
-
-source-requires : tie.Need-source-requires
-source-requires c κs = search needs
+start-requires : tie.Need-start-requires
+start-requires c κs = search needs
 
 long-requires : tie.Need-long-requires
 long-requires c κs = search needs
+
+source-requires : tie.Need-source-requires
+source-requires c κs = search needs
 
 white-ahead-requires : tie.Need-white-ahead-requires
 white-ahead-requires c κs = search needs
@@ -20,4 +20,4 @@ returns c = search white-found
 
 pub white-of-spec : {M : Type 1} → statement M
 white-of-spec =
-    tie.close (tie.spec node-requires source-requires long-requires white-ahead-requires returns)
+    tie.close (tie.spec start-requires long-requires source-requires white-ahead-requires returns)

@@ -1,16 +1,19 @@
-use Rattle.tape.proofs.Laws.{info-known, info-plain, info-unknown}
+use Rattle.tape.proofs.Laws.{info-known, info-unknown, info-plain}
 use borrow.Author.Needs.{needs}
 use Rattle.tape.proofs.Cursor.marker_info.Statement.{statement}
 use Rattle.tape.proofs.Cursor.marker_info.Tie as tie
 
-node-requires : tie.Need-node-requires
-node-requires c κs = search needs
-
-wider-requires : tie.Need-wider-requires
-wider-requires c κs = search needs
+kind-requires : tie.Need-kind-requires
+kind-requires c κs = search needs
 
 bears-marker-requires : tie.Need-bears-marker-requires
 bears-marker-requires c κs = search needs
+
+marker-requires : tie.Need-marker-requires
+marker-requires c κs = search needs
+
+wider-requires : tie.Need-wider-requires
+wider-requires c κs = search needs
 
 entry-at-requires : tie.Need-entry-at-requires
 entry-at-requires c κs = search needs
@@ -28,9 +31,10 @@ pub marker-info-spec : {M : Type 1} → statement M
 marker-info-spec =
     tie.close
     (tie.spec
-    node-requires
-    wider-requires
+    kind-requires
     bears-marker-requires
+    marker-requires
+    wider-requires
     entry-at-requires
     returns
     returns-2

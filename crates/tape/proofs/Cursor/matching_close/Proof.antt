@@ -1,10 +1,13 @@
-use Rattle.tape.proofs.Laws.{close-none, close-of}
+use Rattle.tape.proofs.Laws.{close-of, close-none}
 use borrow.Author.Needs.{needs}
 use Rattle.tape.proofs.Cursor.matching_close.Statement.{statement}
 use Rattle.tape.proofs.Cursor.matching_close.Tie as tie
 
-node-requires : tie.Need-node-requires
-node-requires c κs = search needs
+kind-requires : tie.Need-kind-requires
+kind-requires c κs = search needs
+
+link-requires : tie.Need-link-requires
+link-requires c κs = search needs
 
 returns : tie.Need-returns
 returns c = search close-of
@@ -13,4 +16,4 @@ returns-2 : tie.Need-returns-2
 returns-2 c = search close-none
 
 pub matching-close-spec : {M : Type 1} → statement M
-matching-close-spec = tie.close (tie.spec node-requires returns returns-2)
+matching-close-spec = tie.close (tie.spec kind-requires link-requires returns returns-2)

@@ -1,11 +1,19 @@
-use Rattle.tape.proofs.Laws.{le16-made}
+use Rattle.tape.proofs.Laws.{le16-read, le16-made}
 use borrow.Author.Needs.{needs}
 use Rattle.tape.proofs.number.le16.Statement.{statement}
 use Rattle.tape.proofs.number.le16.Tie as tie
-use Rattle.tape.proofs.number.le16.Reads as reads
-use Rattle.tape.proofs.number.le16.Lts as lts
-use Rattle.parts.proofs.byte_at.Reads as byte-at-reads
-use Rattle.tape.proofs.number.pair.Reads as pair-reads
+
+shared-slice-read-pair : tie.Need-shared-slice-read-pair
+shared-slice-read-pair c = search needs
+
+shared-slice-read-pair-2 : tie.Need-shared-slice-read-pair-2
+shared-slice-read-pair-2 c = search needs
+
+pair-requires : tie.Need-pair-requires
+pair-requires c κs = search needs
+
+returns : tie.Need-returns
+returns c = search le16-read
 
 byte-at-requires : tie.Need-byte-at-requires
 byte-at-requires c κs = search needs
@@ -13,11 +21,21 @@ byte-at-requires c κs = search needs
 byte-at-requires-2 : tie.Need-byte-at-requires-2
 byte-at-requires-2 c κs = search needs
 
-pair-requires : tie.Need-pair-requires
-pair-requires c κs = search needs
+pair-requires-2 : tie.Need-pair-requires-2
+pair-requires-2 c κs = search needs
 
-returns : tie.Need-returns
-returns c = search le16-made
+returns-2 : tie.Need-returns-2
+returns-2 c = search le16-made
 
 pub le16-spec : {M : Type 1} → statement M
-le16-spec = tie.close (tie.spec byte-at-requires byte-at-requires-2 pair-requires returns)
+le16-spec =
+    tie.close
+    (tie.spec
+    shared-slice-read-pair
+    shared-slice-read-pair-2
+    pair-requires
+    returns
+    byte-at-requires
+    byte-at-requires-2
+    pair-requires-2
+    returns-2)

@@ -1,12 +1,25 @@
-use Rattle.tape.proofs.Laws.{le32-made}
+use Rattle.tape.proofs.Laws.{le32-read, le32-made}
 use borrow.Author.Needs.{needs}
 use Rattle.tape.proofs.number.le32.Statement.{statement}
 use Rattle.tape.proofs.number.le32.Tie as tie
-use Rattle.tape.proofs.number.le32.Reads as reads
-use Rattle.tape.proofs.number.le32.Lts as lts
-use Rattle.parts.proofs.from.Reads as from-reads
-use Rattle.tape.proofs.number.le16.Reads as le16-reads
-use Rattle.tape.proofs.number.wider.Reads as wider-reads
+
+shared-slice-read-quad : tie.Need-shared-slice-read-quad
+shared-slice-read-quad c = search needs
+
+shared-slice-read-quad-2 : tie.Need-shared-slice-read-quad-2
+shared-slice-read-quad-2 c = search needs
+
+shared-slice-read-quad-3 : tie.Need-shared-slice-read-quad-3
+shared-slice-read-quad-3 c = search needs
+
+shared-slice-read-quad-4 : tie.Need-shared-slice-read-quad-4
+shared-slice-read-quad-4 c = search needs
+
+quad-requires : tie.Need-quad-requires
+quad-requires c κs = search needs
+
+returns : tie.Need-returns
+returns c = search le32-read
 
 le16-requires : tie.Need-le16-requires
 le16-requires c κs = search needs
@@ -29,13 +42,19 @@ mul-result c = search needs
 add-result : tie.Need-add-result
 add-result c = search needs
 
-returns : tie.Need-returns
-returns c = search le32-made
+returns-2 : tie.Need-returns-2
+returns-2 c = search le32-made
 
 pub le32-spec : {M : Type 1} → statement M
 le32-spec =
     tie.close
     (tie.spec
+    shared-slice-read-quad
+    shared-slice-read-quad-2
+    shared-slice-read-quad-3
+    shared-slice-read-quad-4
+    quad-requires
+    returns
     le16-requires
     wider-requires
     from-requires
@@ -43,4 +62,4 @@ le32-spec =
     wider-requires-2
     mul-result
     add-result
-    returns)
+    returns-2)
