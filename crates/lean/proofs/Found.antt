@@ -1,6 +1,6 @@
 -- How the code finds a lean text.
 use mathlib.Core.Path.{_≡_, refl, sym, ap, _∙_}
-use mathlib.Core.Bool.{Bool, true, false, not, _&&_, and-false}
+use mathlib.Core.Bool.{Bool, true, false, not, _&&_}
 use mathlib.Core.List.{List, [], _∷_}
 use Prim.Native.Nat.{ℕ, zero, suc, _+_, _-_, _≤_, _<_, _^_, min}
 use native.Mathlib.Omega.{arith}
@@ -19,7 +19,7 @@ use Rattle.places.specs.Seek.{solidByte, passesAt, nextFrom, Right}
 use Rattle.places.specs.declared.Test.the-variants.{Solid}
 use Rattle.places.proofs.Firsts.{first-hit, first-miss}
 use Rattle.places.proofs.Spans.{source-short}
-use Rattle.lean.specs.Lean.{lean, Solids}
+use Rattle.lean.specs.Lean.{isWide, lean, Solids}
 
 -- ---- white bytes
 
@@ -111,41 +111,47 @@ lean-read s e f = f e
 
 -- ---- the text of a node
 
--- two white bytes in front, or a lean text
+-- what the code tells from two bytes
 module _ (s : Bytes) where
-  pub wide-not : _≡_ {A = Bool} false true → 0 < length s
-  wide-not e = absurd (let no-way : _≡_ {A = ℕ} 0 1 = cc in omega arith)
-
-  pub wide-some : 2 ≤ length s → {z : Bool} → z ≡ true → 0 < length s
-  wide-some h e = omega arith
-
-  pub wide-short : length s < 2 → _≡_ {A = Bool} false false → s ≡ lean s
-  wide-short h e = go s h
+  pub wide-short : length s < 2 → false ≡ isWide s
+  unfolding isWide
+  wide-short h = go s h
     where
-      go : (u : Bytes) → length u < 2 → u ≡ lean u
-      go [] l = sym lean-none
-      go (x ∷ []) l = sym (lean-one x)
+      go : (u : Bytes) → length u < 2 → false ≡ isWide u
+      go [] l = refl
+      go (x ∷ []) l = refl
       go (x ∷ y ∷ u) l = absurd (omega arith)
 
+  wide-two : 2 ≤ length s → isWide s ≡ isAsciiWhite (getD s 0 0) && isAsciiWhite (getD s 1 0)
+  unfolding isWide
+  wide-two h = go s h
+    where
+      go : (u : Bytes) → 2 ≤ length u → isWide u ≡ isAsciiWhite (getD u 0 0) && isAsciiWhite (getD u 1 0)
+      go [] l = absurd (omega arith)
+      go (x ∷ []) l = absurd (omega arith)
+      go (x ∷ y ∷ u) l = refl
+
   module _ {a : Bool} (h : 2 ≤ length s) (ea : a ≡ isAsciiWhite (getD s 0 0)) where
-    pub wide-solid : a ≡ false → _≡_ {A = Bool} false false → s ≡ lean s
-    wide-solid e n = go s h (sym ea ∙ e)
-      where
-        go : (u : Bytes) → 2 ≤ length u → isAsciiWhite (getD u 0 0) ≡ false → u ≡ lean u
-        go [] l w = absurd (omega arith)
-        go (x ∷ []) l w = absurd (omega arith)
-        go (x ∷ y ∷ u) l w = sym (lean-solid x y u (rw w))
+    pub wide-solid : a ≡ false → false ≡ isWide s
+    wide-solid e = sym (wide-two h ∙ rw (sym ea ∙ e))
 
-    pub wide-second : a ≡ true → {z : Bool} → z ≡ isAsciiWhite (getD s 1 0) → z ≡ false → s ≡ lean s
-    wide-second e ez f = go s h (sym ez ∙ f)
-      where
-        go : (u : Bytes) → 2 ≤ length u → isAsciiWhite (getD u 1 0) ≡ false → u ≡ lean u
-        go [] l w = absurd (omega arith)
-        go (x ∷ []) l w = absurd (omega arith)
-        go (x ∷ y ∷ u) l w = sym (lean-solid x y u (rw (w, and-false (isAsciiWhite x))))
+    pub wide-white : a ≡ true → {z : Bool} → z ≡ isAsciiWhite (getD s 1 0) → z ≡ isWide s
+    wide-white e ez = ez ∙ sym (wide-two h ∙ rw (sym ea ∙ e))
 
-pub text-plain : {s t : Bytes} → s ≡ t → {w : Bool} → (w ≡ false → s ≡ lean s) → not w ≡ true → s ≡ lean t
-text-plain {s} {t} e {w} ew h = ew (not-true w h) ∙ ap lean e
+-- a text that is not wide is lean
+wide-not : (s : Bytes) → isWide s ≡ false → s ≡ lean s
+unfolding isWide
+wide-not [] e = sym lean-none
+wide-not (x ∷ []) e = sym (lean-one x)
+wide-not (x ∷ y ∷ s) e = sym (lean-solid x y s e)
+
+wide-some : (s : Bytes) → isWide s ≡ true → 0 < length s
+unfolding isWide
+wide-some [] e = absurd (let no-way : _≡_ {A = ℕ} 0 1 = cc in omega arith)
+wide-some (x ∷ s) e = omega arith
+
+pub text-plain : {s t : Bytes} → s ≡ t → {w : Bool} → w ≡ isWide s → not w ≡ true → s ≡ lean t
+text-plain {s} {t} e {w} ew h = wide-not s (sym ew ∙ not-true w h) ∙ ap lean e
 
 take-length : (m : ℕ) (u : Bytes) → take (length (take m u)) u ≡ take m u
 take-length zero u = refl
@@ -167,11 +173,11 @@ module _ (c : Sections) (file : Bytes) (k : Cursor) (table : List ℕ) where
       is : part (tapeIn c file .source) (nodeAt (tapeIn c file) (k .at) .start) l ≡ take l (drop start source)
       is = rw (et, eo, em)
 
-  pub text-white : {s : Bytes} → s ≡ textAt (tapeIn c file) (k .at) → {w : Bool} → (w ≡ true → 0 < length s) → not w ≡ false → {white : ℕ}
+  pub text-white : {s : Bytes} → s ≡ textAt (tapeIn c file) (k .at) → {w : Bool} → w ≡ isWide s → not w ≡ false → {white : ℕ}
       → (Solids (tapeIn c file) table → 0 < length s → length s ≡ length (textAt (tapeIn c file) (k .at)) → white ≡ whiteLen Ascii (textAt (tapeIn c file) (k .at)))
       → {r : Bytes} → (white ≡ whiteLen Ascii s → r ≡ lean s) → Solids (tapeIn c file) table → r ≡ lean (textAt (tapeIn c file) (k .at))
   text-white {s} es {w} ew hw {white} en er q =
-      er (en q (ew (not-false w hw)) (ap length es) ∙ ap (whiteLen Ascii) (sym es)) ∙ ap lean es
+      er (en q (wide-some s (sym ew ∙ not-false w hw)) (ap length es) ∙ ap (whiteLen Ascii) (sym es)) ∙ ap lean es
 
 pub solids-filled : (c : Sections) (file : Bytes) {s : Bytes} {table : List ℕ} → c .source < 2 ^ 32 → s ≡ tapeIn c file .source → (length s < 2 ^ 32 → Right Solid s table) → Solids (tapeIn c file) table
 solids-filled c file h es f = rw es at (f (rw es (source-short c file h)))

@@ -1,5 +1,5 @@
 -- Texts with one white byte in front at most, and the table that finds them.
-use mathlib.Core.Bool.{cond, _&&_}
+use mathlib.Core.Bool.{Bool, false, cond, _&&_}
 use mathlib.Core.List.{List, [], _∷_}
 use Prim.Native.Nat.{ℕ}
 use Rattle.parts.specs.Bytes.{Bytes}
@@ -7,6 +7,12 @@ use Rattle.chars.specs.Space.{isAsciiWhite}
 use Rattle.tape.specs.File.{Tape}
 use Rattle.places.specs.Seek.{Right}
 use Rattle.places.specs.declared.Test.the-variants.{Solid}
+
+-- whether a text begins with two ASCII white bytes
+unfoldable pub isWide : Bytes → Bool
+isWide [] = false
+isWide (x ∷ []) = false
+isWide (x ∷ y ∷ s) = isAsciiWhite x && isAsciiWhite y
 
 -- a text of whose first ASCII white bytes only the last is left
 unfoldable pub lean : Bytes → Bytes

@@ -1,13 +1,12 @@
 // A text without all but the last of the white bytes that it begins with, found through a table: however long that white space is.
 ghost use mathlib.Core.Path.{_≡_};
-ghost use mathlib.Core.Bool.{true, false};
 ghost use Prim.Native.Nat.{_+_, _-_, _≤_, _<_, min};
 ghost use lib.ListN.{length};
 ghost use Rattle.parts.specs.Bytes.{part};
 ghost use Rattle.words.specs.Words.{whiteLen};
 ghost use Rattle.tape.specs.File.{tapeIn, textAt};
 ghost use Rattle.places.specs.Seek.{Right};
-ghost use Rattle.lean.specs.Lean.{lean, Solids};
+ghost use Rattle.lean.specs.Lean.{isWide, lean, Solids};
 use places::Test;
 use tape::Cursor;
 use tape::Sections;
@@ -48,8 +47,7 @@ fn white_of(file: &[u8], tape: Sections, solids: &[u32], c: Cursor, len: usize) 
 
 // Whether a text begins with two white bytes.
 fn is_wide(s: &[u8]) -> bool
-    ensures { λ r. ⌜ (r ≡ false → now (s .entry) ≡ lean (now (s .entry))) ⌝ }
-    ensures { λ r. ⌜ (r ≡ true → 0 < length (now (s .entry))) ⌝ }
+    ensures { λ r. ⌜ r ≡ isWide (now (s .entry)) ⌝ }
 {
     if s.len() < 2 {
         return false;

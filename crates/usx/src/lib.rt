@@ -1,6 +1,6 @@
 // The USX text of a tape file: admission, a measuring walk, a writing walk.
 ghost use mathlib.Core.Path.{_≡_};
-ghost use Prim.Native.Nat.{_≤_, _<_, _^_};
+ghost use Prim.Native.Nat.{_+_, _/_, _≤_, _<_, _^_, min};
 ghost use lib.ListN.{length};
 ghost use Rattle.tape.specs.File.{tapeIn};
 ghost use Rattle.lean.specs.Lean.{Solids};
@@ -82,6 +82,7 @@ fn write_tabled(file: &[u8], tape: Sections, solids: &mut [u32], out: &mut [u8])
 
 // How many blocks of 64 bytes a source has, up to so many.
 fn blocks_of(tape: Sections, most: usize) -> usize
+    ensures { λ r. ⌜ r ≡ min (tape .source / 64 + 1) most ⌝ }
     ensures { λ r. ⌜ r ≤ most ⌝ }
 {
     let n = long(tape.source) / 64 + 1;

@@ -6,38 +6,32 @@ use Prim.Native.Nat.{ℕ, _+_, _-_, _≤_, _<_}
 use native.Mathlib.Nat.{lt-of-not-le}
 use native.Mathlib.Omega.{arith}
 use lib.ListN.{length, getD, take, drop, take-append-drop, drop-of-length-le, List·getD-eq-default}
-use lib.Dec.{leb}
-use borrow.Author.Tests.{leb-true}
 use Rattle.parts.specs.Bytes.{Bytes}
-use Rattle.parts.proofs.Laws.{and-true as both-true, drop-at}
-use Rattle.chars.specs.Range.{within, inAny}
+use Rattle.parts.proofs.Laws.{drop-at}
+use Rattle.chars.specs.Range.{inAny}
 use Rattle.chars.specs.Utf8.{cutAt, isSequence, codeOf, point}
 use Rattle.chars.specs.Space.{isAsciiWhite}
-use Rattle.chars.proofs.Laws.{below, beyond, lies-low, lies-high, len-one}
+use Rattle.chars.proofs.Laws.{below, beyond, len-one}
 use Rattle.chars.proofs.White.{between-white}
 use Rattle.words.specs.Words.{stepOf, charsOf, white, trimEnd}
-use Rattle.words.specs.First.{endsVisible}
+use Rattle.words.specs.First.{visible, endsVisible}
 use Rattle.words.specs.declared.Set.{Set}
 use Rattle.words.specs.declared.Set.the-variants.{Ascii, Unicode}
 use Rattle.words.proofs.Runs.{end-solid}
 use Rattle.words.proofs.Steps.{size-some, size-le}
 use Rattle.words.proofs.Texts.{chars-flatten, chars-apart}
+use Rattle.words.proofs.Turns.{visible-low, visible-ends}
 
 -- ---- the test
 
 module _ (s : Bytes) where
   pub ends-none : length s ≡ 0 → false ≡ endsVisible s
   unfolding endsVisible
-  ends-none e = rw (List·getD-eq-default s 0 {n = length s - 1} (omega arith)) (lies-low 33 126 0 (omega arith))
+  ends-none e = rw (List·getD-eq-default s 0 {n = length s - 1} (omega arith)) (visible-low 0 (omega arith))
 
-  module _ {x : ℕ} (ex : x ≡ getD s (length s - 1) 0) where
-    pub ends-low : x < 33 → false ≡ endsVisible s
-    unfolding endsVisible
-    ends-low h = rw (← ex) (lies-low 33 126 x h)
-
-    pub ends-high : 33 ≤ x → leb x 126 ≡ endsVisible s
-    unfolding endsVisible
-    ends-high h = rw (← ex) (lies-high 33 126 x h)
+  pub ends-last : {t : Bool} → t ≡ visible (getD s (length s - 1) 0) → t ≡ endsVisible s
+  unfolding endsVisible
+  ends-last et = et
 
 -- ---- a visible byte
 
@@ -74,16 +68,14 @@ module _ (set : Set) where
     abbrev x : ℕ
     x = getD s (length s - 1) 0
 
-    visible : (32 < x) × (x < 127)
-    unfolding endsVisible within
-    visible =
-        let b = both-true (leb 33 x) (leb x 126) (sym et ∙ h) in
-        (omega (arith, leb-true 33 x (b .0)), omega (arith, leb-true x 126 (b .1)))
+    seen : (32 < x) × (x < 127)
+    unfolding endsVisible
+    seen = visible-ends x (sym et ∙ h)
 
     some : 0 < length s
-    some = lt-of-not-le (λ (n : length s ≤ 0). omega (arith, visible .0, List·getD-eq-default s 0 {n = length s - 1} (omega arith)))
+    some = lt-of-not-le (λ (n : length s ≤ 0). omega (arith, seen .0, List·getD-eq-default s 0 {n = length s - 1} (omega arith)))
 
     pub visible-whole : length s ≡ length (trimEnd set s)
     visible-whole =
-        let e : trimEnd set s ≡ s = rw (last-split s some) (behind-visible (take (length s - 1) s) x (visible .0) (visible .1)) in
+        let e : trimEnd set s ≡ s = rw (last-split s some) (behind-visible (take (length s - 1) s) x (seen .0) (seen .1)) in
         ap length (sym e)

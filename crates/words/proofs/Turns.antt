@@ -6,17 +6,19 @@ use Prim.Native.Nat.{ℕ, suc, _+_, _-_, _≤_, _<_, min}
 use native.Mathlib.Omega.{arith}
 use lib.ListN.{length, getD, take, drop, length-append, length-drop, drop-of-length-le}
 use lib.Seq.{length-take-le, getD-drop}
-use borrow.Author.Tests.{not-true, not-false}
+use lib.Dec.{leb}
+use borrow.Author.Tests.{not-true, not-false, leb-true}
 use Rattle.parts.specs.Bytes.{Bytes}
+use Rattle.parts.proofs.Laws.{and-true as both-true}
 use Rattle.chars.specs.Range.{within, inAny}
 use Rattle.chars.specs.Utf8.{cutAt, seqLen, firstChar}
 use Rattle.chars.specs.Space.{isWhite, isAsciiWhite}
 use Rattle.chars.specs.declared.Char.{Char}
 use Rattle.chars.proofs.Characters.{cut-at}
-use Rattle.chars.proofs.Laws.{beyond, len-one, first-one}
+use Rattle.chars.proofs.Laws.{beyond, lies-low, lies-high, len-one, first-one}
 use Rattle.chars.proofs.White.{between-white}
 use Rattle.words.specs.Words.{stepOf, charsOf, white, solid, takeWhile, keep, dropEnd, trimEnd, whiteLen, wordLen}
-use Rattle.words.specs.First.{frontOf, runOf}
+use Rattle.words.specs.First.{frontOf, runOf, visible}
 use Rattle.words.specs.declared.Set.{Set}
 use Rattle.words.specs.declared.Set.the-variants.{Ascii, Unicode}
 use Rattle.words.specs.declared.FirstChar.{FirstChar}
@@ -51,16 +53,39 @@ front-visible s some l h =
     first-one s (seqLen s) refl refl (sym (len-one s (λ e. omega arith) h)) refl in
     front-wide s one (between-white (getD s 0 0) l (omega arith))
 
-pub front-seen : (set : Set) (s : Bytes) (at : ℕ) → at < length s → 32 < getD s at 0 → getD s at 0 < 127
+-- ---- a visible byte
+
+module _ (x : ℕ) where
+  pub visible-low : x < 33 → false ≡ visible x
+  unfolding visible
+  visible-low h = lies-low 33 126 x h
+
+  pub visible-high : 33 ≤ x → leb x 126 ≡ visible x
+  unfolding visible
+  visible-high h = lies-high 33 126 x h
+
+  pub visible-ends : visible x ≡ true → (32 < x) × (x < 127)
+  unfolding visible within
+  visible-ends h =
+      let b = both-true (leb 33 x) (leb x 126) h in
+      (omega (arith, leb-true 33 x (b .0)), omega (arith, leb-true x 126 (b .1)))
+
+pub front-seen : (set : Set) (s : Bytes) (at : ℕ) → at < length s → {t : Bool} → t ≡ visible (getD s at 0) → t ≡ true
     → _≡_ {A = FirstChar} (record { width = 1; white = false }) (frontOf set (drop at s))
-front-seen set s at h l k = go set
+front-seen set s at h et e = go set
   where
+    l : 32 < getD s at 0
+    l = visible-ends (getD s at 0) (sym et ∙ e) .0
+
+    k : getD s at 0 < 127
+    k = visible-ends (getD s at 0) (sym et ∙ e) .1
+
     here : getD (drop at s) 0 0 ≡ getD s at 0
     here = getD-drop at s 0 0 ∙ ap (λ (i : ℕ). getD s i 0) (omega arith)
 
     go : (set : Set) → _≡_ {A = FirstChar} (record { width = 1; white = false }) (frontOf set (drop at s))
     go Ascii = front-one (drop at s) (λ e. omega (arith, length-drop at s)) (rw here (beyond-white (getD s at 0) l))
-    go Unicode = front-visible (drop at s) (omega (arith, length-drop at s)) (rw here l) (omega (arith, here))
+    go Unicode = front-visible (drop at s) (omega (arith, length-drop at s)) (rw here l) (omega (arith, here, k))
 
 pub front-far : (set : Set) (s : Bytes) (at : ℕ) {r : Bytes} {f : FirstChar} → r ≡ drop at s → f ≡ frontOf set r → f ≡ frontOf set (drop at s)
 front-far set s at er ef = ef ∙ ap (frontOf set) er

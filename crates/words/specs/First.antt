@@ -17,6 +17,10 @@ unfoldable pub runOf : Set → Bool → Bytes → ℕ
 runOf set true s = whiteLen set s
 runOf set false s = wordLen set s
 
--- whether the last byte is visible ASCII, 21..7E
+-- whether a byte is visible ASCII, 21..7E
+unfoldable pub visible : ℕ → Bool
+visible x = within (33 to 126) x
+
+-- whether the last byte is
 unfoldable pub endsVisible : Bytes → Bool
-endsVisible s = within (33 to 126) (getD s (length s - 1) 0)
+endsVisible s = visible (getD s (length s - 1) 0)

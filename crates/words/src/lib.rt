@@ -4,7 +4,7 @@ ghost use mathlib.Core.List.{[]};
 ghost use Prim.Native.Nat.{zero};
 ghost use lib.ListN.{length, getD, drop};
 ghost use Rattle.words.specs.Words.{words, trimStart, trimEnd, trim as trimOf, isBlank, whiteLen, wordLen, afterWord, lastOf, nextWord, nthWord};
-ghost use Rattle.words.specs.First.{frontOf, runOf, endsVisible};
+ghost use Rattle.words.specs.First.{frontOf, runOf, visible, endsVisible};
 
 // Which white space: the 5 bytes of ASCII, or Unicode's 25 code points.
 pub enum Set {
@@ -59,19 +59,26 @@ fn front(s: &[u8], set: Set) -> FirstChar
     }
 }
 
+// Whether a byte is visible ASCII, 21..7E.
+fn is_visible(x: u8) -> bool
+    ensures { λ r. ⌜ r ≡ visible x ⌝ }
+{
+    if x < 0x21 {
+        return false;
+    }
+    x <= 0x7E
+}
+
 // The character at a place: most are visible ASCII, which no set has as white space.
 fn front_at(s: &[u8], at: usize, set: Set) -> FirstChar
     ensures { λ r. ⌜ r ≡ frontOf set (drop at (now (s .entry))) ⌝ }
 {
     if at < s.len() {
-        let x = s[at];
-        if 0x20 < x {
-            if x < 0x7F {
-                return FirstChar {
-                    width: 1,
-                    white: false,
-                };
-            }
+        if is_visible(s[at]) {
+            return FirstChar {
+                width: 1,
+                white: false,
+            };
         }
     }
     front(parts::from(s, at), set)
@@ -106,18 +113,14 @@ pub fn word_len(s: &[u8], set: Set) -> usize
     run_len(s, set, false)
 }
 
-// Whether a text ends with a visible byte of ASCII, 21..7E.
+// Whether a text ends with a visible byte of ASCII.
 fn ends_visible(s: &[u8]) -> bool
     ensures { λ r. ⌜ r ≡ endsVisible (now (s .entry)) ⌝ }
 {
     if s.len() == 0 {
         return false;
     }
-    let x = s[s.len() - 1];
-    if x < 0x21 {
-        return false;
-    }
-    x <= 0x7E
+    is_visible(s[s.len() - 1])
 }
 
 // Where the last character that is not white space ends.

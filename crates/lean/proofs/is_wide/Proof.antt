@@ -1,10 +1,10 @@
-use Rattle.lean.proofs.Found.{wide-not, wide-some, wide-short, wide-solid, wide-second}
+use Rattle.lean.proofs.Found.{wide-short, wide-solid, wide-white}
 use borrow.Author.Needs.{needs}
 use Rattle.lean.proofs.is_wide.Statement.{statement}
 use Rattle.lean.proofs.is_wide.Tie as tie
 
 returns : tie.Need-returns
-returns c = (search wide-short, search wide-not)
+returns c = search wide-short
 
 shared-slice-read-is-ascii-white : tie.Need-shared-slice-read-is-ascii-white
 shared-slice-read-is-ascii-white c = search needs
@@ -19,10 +19,10 @@ is-ascii-white-requires-2 : tie.Need-is-ascii-white-requires-2
 is-ascii-white-requires-2 c κs = search needs
 
 returns-2 : tie.Need-returns-2
-returns-2 c = (search wide-second, search wide-some)
+returns-2 c = search wide-white
 
 returns-3 : tie.Need-returns-3
-returns-3 c = (search wide-solid, search wide-not)
+returns-3 c = search wide-solid
 
 pub is-wide-spec : {M : Type 1} → statement M
 is-wide-spec =

@@ -3,8 +3,11 @@ use borrow.Author.Needs.{needs}
 use Rattle.words.proofs.front_at.Statement.{statement}
 use Rattle.words.proofs.front_at.Tie as tie
 
-shared-slice-read-x : tie.Need-shared-slice-read-x
-shared-slice-read-x c = search needs
+shared-slice-read-is-visible : tie.Need-shared-slice-read-is-visible
+shared-slice-read-is-visible c = search needs
+
+is-visible-requires : tie.Need-is-visible-requires
+is-visible-requires c κs = search needs
 
 returns : tie.Need-returns
 returns c = search front-seen
@@ -20,4 +23,11 @@ returns-2 c = search front-far
 
 pub front-at-spec : {M : Type 1} → statement M
 front-at-spec =
-    tie.close (tie.spec shared-slice-read-x returns from-requires front-requires returns-2)
+    tie.close
+    (tie.spec
+    shared-slice-read-is-visible
+    is-visible-requires
+    returns
+    from-requires
+    front-requires
+    returns-2)
