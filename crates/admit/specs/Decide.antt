@@ -11,6 +11,8 @@ use Rattle.tape.specs.File.{le32, sectionsOf, entriesAt, namesAt, sourceAt, Tap
 use Rattle.tape.specs.Name.{markerName}
 use Rattle.tape.specs.declared.Entry.{Entry}
 use Rattle.nest.specs.Decide.{tooDeep, sound}
+use Rattle.tape.specs.Kind as kinds
+use Rattle.tape.specs.Element as elements
 
 -- whether all indices below n pass a test
 unfoldable pub allBelow : (ℕ → Bool) → ℕ → Bool
@@ -57,12 +59,12 @@ unfoldable pub goodNode : Tape → ℕ → Bool
 goodNode t k =
     leb (kindAt t k) 8
     && (leb (nodeAt t k .flags .bits) 3
-    && (cond (eqb (kindAt t k) 0) (eqb k 0) (not (eqb k 0))
+    && (cond (eqb (kindAt t k) kinds.root) (eqb k 0) (not (eqb k 0))
     && (leb (nodeAt t k .start + nodeAt t k .len) (length (t .source))
     && (isBoundary (t .source) (nodeAt t k .start)
     && (isBoundary (t .source) (nodeAt t k .start + nodeAt t k .len)
-    && (cond (eqb (kindAt t k) 6 || eqb (kindAt t k) 7) (eqb (elementOf (infoAt t k)) 0) true
-    && cond (eqb (kindAt t k) 7 && labelCut t k) (isBoundary (markerName t k) (baseLen (infoAt t k))) true))))))
+    && (cond (eqb (kindAt t k) kinds.chapter || eqb (kindAt t k) kinds.verse) (eqb (elementOf (infoAt t k)) elements.other) true
+    && cond (eqb (kindAt t k) kinds.verse && labelCut t k) (isBoundary (markerName t k) (baseLen (infoAt t k))) true))))))
 
 unfoldable pub goodNodes : Tape → Bool
 goodNodes t = allBelow (goodNode t) (length (t .nodes))

@@ -14,6 +14,8 @@ use Rattle.tape.specs.declared.Sections.{Sections}
 use Rattle.places.specs.Seek.{Right}
 use Rattle.places.specs.declared.Test.the-variants.{Ender, Gap}
 use Rattle.admit.specs.Rules.{GoodEntry, LabelCut}
+use Rattle.tape.specs.Kind as kinds
+use Rattle.tape.specs.Element as elements
 
 -- 1: the offsets of a header are those of these counts
 pub record Offsets (file : Bytes) (c : Sections) : Type 0 where
@@ -38,7 +40,7 @@ GoodEntries t = (i : ℕ) → i < length (t .entries) → GoodEntry t (entryAt t
 pub record GoodShape (n : Node) (k : ℕ) : Type 0 where
   pub kind : n .kind .code ≤ 8
   pub flags : n .flags .bits ≤ 3
-  pub root : (n .kind .code ≡ 0) ↔ (k ≡ 0)
+  pub root : (n .kind .code ≡ kinds.root) ↔ (k ≡ 0)
 
 -- 5: a span lies in the source, with both ends between characters
 pub record GoodSpan (source : Bytes) (n : Node) : Type 0 where
@@ -50,11 +52,11 @@ pub record GoodSpan (source : Bytes) (n : Node) : Type 0 where
 pub record SoundNode (t : Tape) (k : ℕ) : Type 0 where
   pub kind : kindAt t k ≤ 8
   pub flags : nodeAt t k .flags .bits ≤ 3
-  pub root : (kindAt t k ≡ 0) ↔ (k ≡ 0)
+  pub root : (kindAt t k ≡ kinds.root) ↔ (k ≡ 0)
   pub inside : nodeAt t k .start + nodeAt t k .len ≤ length (t .source)
   pub start : isBoundary (t .source) (nodeAt t k .start) ≡ true
   pub end : isBoundary (t .source) (nodeAt t k .start + nodeAt t k .len) ≡ true
-  pub plain : (kindAt t k ≡ 6) ⊎ (kindAt t k ≡ 7) → elementOf (infoAt t k) ≡ 0
+  pub plain : (kindAt t k ≡ kinds.chapter) ⊎ (kindAt t k ≡ kinds.verse) → elementOf (infoAt t k) ≡ elements.other
 
 abbrev pub SoundNodes : Tape → Type 0
 SoundNodes t = (k : ℕ) → k < length (t .nodes) → SoundNode t k
@@ -65,7 +67,7 @@ GoodLabel t k = LabelCut t k → isBoundary (markerName t k) (baseLen (infoAt t 
 
 -- 5: the label of a Verse
 abbrev pub GoodVerse : Tape → ℕ → Type 0
-GoodVerse t k = kindAt t k ≡ 7 → GoodLabel t k
+GoodVerse t k = kindAt t k ≡ kinds.verse → GoodLabel t k
 
 abbrev pub GoodVerses : Tape → Type 0
 GoodVerses t = (k : ℕ) → k < length (t .nodes) → GoodVerse t k

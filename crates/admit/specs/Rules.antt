@@ -11,6 +11,8 @@ use Rattle.words.specs.declared.Set.the-variants.{Unicode}
 use Rattle.tape.specs.File.{le32, sectionsOf, entriesAt, namesAt, sourceAt, Tape, nodeAt, entryAt, kindAt, textAt, infoAt, elementOf, baseLen}
 use Rattle.tape.specs.Name.{markerName}
 use Rattle.tape.specs.declared.Entry.{Entry}
+use Rattle.tape.specs.Kind as kinds
+use Rattle.tape.specs.Element as elements
 
 -- 1: at least 36 bytes, format 1, offsets and the file's length as laid out
 pub record LaidOut (file : Bytes) : Type 0 where
@@ -54,12 +56,12 @@ pub record LabelCut (t : Tape) (k : ℕ) : Type 0 where
 pub record GoodNode (t : Tape) (k : ℕ) : Type 0 where
   pub kind : kindAt t k ≤ 8
   pub flags : nodeAt t k .flags .bits ≤ 3
-  pub root : (kindAt t k ≡ 0) ↔ (k ≡ 0)
+  pub root : (kindAt t k ≡ kinds.root) ↔ (k ≡ 0)
   pub inside : nodeAt t k .start + nodeAt t k .len ≤ length (t .source)
   pub start : isBoundary (t .source) (nodeAt t k .start) ≡ true
   pub end : isBoundary (t .source) (nodeAt t k .start + nodeAt t k .len) ≡ true
-  pub plain : (kindAt t k ≡ 6) ⊎ (kindAt t k ≡ 7) → elementOf (infoAt t k) ≡ 0
-  pub label : kindAt t k ≡ 7 → LabelCut t k → isBoundary (markerName t k) (baseLen (infoAt t k)) ≡ true
+  pub plain : (kindAt t k ≡ kinds.chapter) ⊎ (kindAt t k ≡ kinds.verse) → elementOf (infoAt t k) ≡ elements.other
+  pub label : kindAt t k ≡ kinds.verse → LabelCut t k → isBoundary (markerName t k) (baseLen (infoAt t k)) ≡ true
 
 -- 5: every node is good
 abbrev pub GoodNodes : Tape → Type 0

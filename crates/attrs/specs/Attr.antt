@@ -11,6 +11,7 @@ use Rattle.tape.specs.File.{Tape, kindAt, textAt}
 use Rattle.tape.specs.Name.{strip}
 use Rattle.tape.specs.Tree.{children}
 use Rattle.attrs.specs.declared.Taken.{Taken}
+use Rattle.tape.specs.Kind as kinds
 
 -- an attribute: its key, and its value with no escape left
 pub record Pair : Type 0 where
@@ -124,7 +125,7 @@ pairsOf marker (x ∷ s) =
 
 -- the pairs of a node: an Attribute has those of its body, others have none
 unfoldable pub pairsAt : Tape → Bytes → ℕ → List Pair
-pairsAt t marker k = cond (eqb (kindAt t k) 2) (pairsOf marker (bodyOf (textAt t k))) []
+pairsAt t marker k = cond (eqb (kindAt t k) kinds.attribute) (pairsOf marker (bodyOf (textAt t k))) []
 
 unfoldable pub pairsAlong : Tape → Bytes → List ℕ → List Pair
 pairsAlong t marker [] = []

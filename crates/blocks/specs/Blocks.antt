@@ -14,6 +14,8 @@ use Rattle.events.specs.Event.{Event, item, perhaps, collected, element}
 use Rattle.events.specs.Walk.{style, styled, unclosed, levelOf, nodeIn, inside, inlineAll, sidebarIn, periphIn, blocksE}
 use Rattle.blocks.specs.declared.Holder.{Holder}
 use Rattle.blocks.specs.declared.Holder.the-variants.{Sidebar, Periph, Neither}
+use Rattle.tape.specs.Element as elements
+use Rattle.tags.specs.Element as el
 
 -- a list of blocks has all siblings, without category markers or with them: a sidebar's goes without
 abbrev pub uncut : Bool → Span
@@ -23,7 +25,7 @@ uncut sifted = record { cut = false; sifted = sifted }
 unfoldable pub holderOf : Tape → ℕ → Holder
 holderOf t k =
     cond (isRow t k || isChapter t k) Neither
-    (cond (isElement 1 (infoAt t k)) Sidebar (cond (isElement 2 (infoAt t k)) Periph Neither))
+    (cond (isElement elements.sidebar (infoAt t k)) Sidebar (cond (isElement elements.periph (infoAt t k)) Periph Neither))
 
 -- a block or a row
 unfoldable pub isBlockOrRow : Tape → ℕ → Bool
@@ -45,10 +47,10 @@ unfoldable pub attrsOf : Tape → ℕ → Bool → List Attr
 attrsOf t k true = sidebarAttrs t k
 attrsOf t k false = periphAttrs t k
 
--- its element: sidebar 13, periph 14
+-- its element
 unfoldable pub elementNo : Bool → ℕ
-elementNo true = 13
-elementNo false = 14
+elementNo true = el.sidebar
+elementNo false = el.periph
 
 -- what it writes
 unfoldable pub holderIn : Tape → ℕ → ℕ → Bool → ℕ → List Event
@@ -57,7 +59,7 @@ holderIn t d level false k = periphIn (below t d) t level k
 
 -- a paragraph around a verse and what follows it up to the next block
 unfoldable pub runOpens : ℕ → List Event
-runOpens level = item (line level) ∷ item (start 5 (styled (b "p"))) ∷ []
+runOpens level = item (line level) ∷ item (start el.para (styled (b "p"))) ∷ []
 
 unfoldable pub runIn : Tape → ℕ → ℕ → List ℕ → List Event
-runIn t d k ks = item (line (levelOf d)) ∷ element 5 (styled (b "p")) (inlineAll (nodeIn (inside t d) t) t false true (k ∷ upTo (isTopLevelBlock t) ks))
+runIn t d k ks = item (line (levelOf d)) ∷ element el.para (styled (b "p")) (inlineAll (nodeIn (inside t d) t) t false true (k ∷ upTo (isTopLevelBlock t) ks))

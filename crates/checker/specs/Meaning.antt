@@ -7,6 +7,7 @@ use lib.Dec.{eqb}
 use lib.IntN.{ℤ, pos, _-ℤ_}
 use lib.Signed.{ltZ}
 use Rattle.checker.specs.Rules.{Mark, start, ends, bare, plain, other, View, words, opened, closed, single, Held, shut, held}
+use Rattle.tags.specs.Element as el
 
 -- ---- heights
 
@@ -31,7 +32,7 @@ heightOf vs = pos (openings vs) -ℤ pos (closings vs)
 abbrev pub SomeHigh : List View → Type 0
 SomeHigh vs = (a : List View) × (z : List View) × (vs ≡ a ++ z) × (ltZ (pos 160) (heightOf a) ≡ true)
 
--- ---- milestones: `k` is 3 for chapters, 4 for verses
+-- ---- milestones
 
 -- what a tag makes of an open milestone of kind `k`
 unfoldable pub since : ℕ → Held → View → Held
@@ -52,20 +53,20 @@ openBehind k h (v ∷ vs) = openBehind k (since k h v) vs
 -- a chapter or verse tag is a start or an end; a start finds none of its kind open, an end its own; a chapter's finds no verse open
 pub data Fits (chapter verse : Held) : View → Type 0 where
   of-words : Fits chapter verse words
-  of-open : {n : ℕ} → (n ≡ 3 → ⊥) → (n ≡ 4 → ⊥) → Fits chapter verse (opened n)
-  of-close : {n : ℕ} → (n ≡ 3 → ⊥) → (n ≡ 4 → ⊥) → Fits chapter verse (closed n)
-  of-single : {n : ℕ} {m : Mark} → (n ≡ 3 → ⊥) → (n ≡ 4 → ⊥) → Fits chapter verse (single n m)
-  chapter-start : {i : List ℕ} → chapter ≡ shut → verse ≡ shut → Fits chapter verse (single 3 (start i))
-  chapter-end : {i : List ℕ} → chapter ≡ held i → verse ≡ shut → Fits chapter verse (single 3 (ends i))
-  verse-start : {i : List ℕ} → verse ≡ shut → Fits chapter verse (single 4 (start i))
-  verse-end : {i : List ℕ} → verse ≡ held i → Fits chapter verse (single 4 (ends i))
+  of-open : {n : ℕ} → (n ≡ el.chapter → ⊥) → (n ≡ el.verse → ⊥) → Fits chapter verse (opened n)
+  of-close : {n : ℕ} → (n ≡ el.chapter → ⊥) → (n ≡ el.verse → ⊥) → Fits chapter verse (closed n)
+  of-single : {n : ℕ} {m : Mark} → (n ≡ el.chapter → ⊥) → (n ≡ el.verse → ⊥) → Fits chapter verse (single n m)
+  chapter-start : {i : List ℕ} → chapter ≡ shut → verse ≡ shut → Fits chapter verse (single el.chapter (start i))
+  chapter-end : {i : List ℕ} → chapter ≡ held i → verse ≡ shut → Fits chapter verse (single el.chapter (ends i))
+  verse-start : {i : List ℕ} → verse ≡ shut → Fits chapter verse (single el.verse (start i))
+  verse-end : {i : List ℕ} → verse ≡ held i → Fits chapter verse (single el.verse (ends i))
 
 pub record Milestones (vs : List View) : Type 0 where
-  pub places : (a : List View) (v : View) (z : List View) → vs ≡ a ++ v ∷ z → Fits (openBehind 3 shut a) (openBehind 4 shut a) v
-  pub chapter : openBehind 3 shut vs ≡ shut
-  pub verse : openBehind 4 shut vs ≡ shut
+  pub places : (a : List View) (v : View) (z : List View) → vs ≡ a ++ v ∷ z → Fits (openBehind el.chapter shut a) (openBehind el.verse shut a) v
+  pub chapter : openBehind el.chapter shut vs ≡ shut
+  pub verse : openBehind el.verse shut vs ≡ shut
 
--- ---- one tree: usx is element 1
+-- ---- one tree
 
 -- the elements still open behind a row, innermost first
 unfoldable pub still : List ℕ → View → List ℕ
@@ -82,14 +83,14 @@ stillOpen st (v ∷ vs) = stillOpen (still st v) vs
 -- whether usx was opened before or is now; closed
 unfoldable pub opensUsx : Bool → View → Bool
 opensUsx u words = u
-opensUsx u (opened n) = cond (eqb n 1) true u
+opensUsx u (opened n) = cond (eqb n el.usx) true u
 opensUsx u (closed n) = u
 opensUsx u (single n m) = u
 
 unfoldable pub closesUsx : Bool → View → Bool
 closesUsx d words = d
 closesUsx d (opened n) = d
-closesUsx d (closed n) = cond (eqb n 1) true d
+closesUsx d (closed n) = cond (eqb n el.usx) true d
 closesUsx d (single n m) = d
 
 unfoldable pub usxOpened : Bool → List View → Bool
@@ -103,9 +104,9 @@ usxClosed d (v ∷ vs) = usxClosed (closesUsx d v) vs
 -- usx opens once and is never empty; a closing tag names the innermost element still open
 pub data Grows (st : List ℕ) (seen : Bool) : View → Type 0 where
   g-words : Grows st seen words
-  g-open : {n : ℕ} → (n ≡ 1 → seen ≡ false) → Grows st seen (opened n)
+  g-open : {n : ℕ} → (n ≡ el.usx → seen ≡ false) → Grows st seen (opened n)
   g-close : {n : ℕ} {ms : List ℕ} → st ≡ n ∷ ms → Grows st seen (closed n)
-  g-single : {n : ℕ} {m : Mark} → (n ≡ 1 → ⊥) → Grows st seen (single n m)
+  g-single : {n : ℕ} {m : Mark} → (n ≡ el.usx → ⊥) → Grows st seen (single n m)
 
 pub record OneTree (vs : List View) : Type 0 where
   pub places : (a : List View) (v : View) (z : List View) → vs ≡ a ++ v ∷ z → (usxClosed false a ≡ false) × Grows (stillOpen [] a) (usxOpened false a) v

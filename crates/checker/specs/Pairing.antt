@@ -6,6 +6,7 @@ use Rattle.tags.specs.Form.{Pair, Token, text, opens, closes, empty}
 use Rattle.tags.specs.Items.{Item, start as startItem, empty as emptyItem, close as closeItem, text as textItem, line as lineItem, newLine, pairsOf}
 use Rattle.checker.specs.Rules.{Held, shut, held}
 use Rattle.checker.specs.Words.{Kind, IsStart}
+use Rattle.tags.specs.Element as el
 
 -- a chapter or a verse has its attributes and its identifier
 pub data Event : Type 0 where
@@ -19,10 +20,10 @@ endTag k (held i) ts = empty k (record { key = b "eid"; value = i } ∷ []) ∷ 
 
 -- the events in front of a tail: a chapter ends an open verse first
 unfoldable pub paired : List Token → Held → Held → List Event → List Token
-paired z c v [] = endTag 4 v (endTag 3 c z)
+paired z c v [] = endTag el.verse v (endTag el.chapter c z)
 paired z c v (token t ∷ es) = t ∷ paired z c v es
-paired z c v (chapter ps i ∷ es) = endTag 4 v (endTag 3 c (empty 3 ps ∷ paired z (held i) shut es))
-paired z c v (verse ps i ∷ es) = endTag 4 v (empty 4 ps ∷ paired z c (held i) es)
+paired z c v (chapter ps i ∷ es) = endTag el.verse v (endTag el.chapter c (empty el.chapter ps ∷ paired z (held i) shut es))
+paired z c v (verse ps i ∷ es) = endTag el.verse v (empty el.verse ps ∷ paired z c (held i) es)
 
 -- the same with no chapter and no verse
 unfoldable pub unpaired : List Token → List Event → List Token

@@ -7,6 +7,7 @@ use lib.Dec.{eqb, ltb}
 use lib.IntN.{ℤ, pos, _+ℤ_, _-ℤ_}
 use Rattle.parts.specs.Bytes.{b, same}
 use Rattle.tags.specs.Form.{Pair, Token, text, opens, closes, empty}
+use Rattle.tags.specs.Element as el
 
 -- ---- what the rules see of a token
 
@@ -55,7 +56,7 @@ rise h (opened n) = h +ℤ pos 1
 rise h (closed n) = h -ℤ pos 1
 rise h (single n m) = h
 
--- ---- one tree: usx is element 1
+-- ---- one tree
 
 -- the elements still open, innermost first; whether usx was opened, and closed
 pub record Trunk : Type 0 where
@@ -74,18 +75,18 @@ push t n u =
 
 unfoldable pub pop : Trunk → ℕ → List ℕ → Trunk
 pop t n [] = broke t
-pop t n (m ∷ ms) = cond (eqb m n) (record { stack = ms; seen = t .seen; done = eqb n 1; broken = t .broken }) (broke t)
+pop t n (m ∷ ms) = cond (eqb m n) (record { stack = ms; seen = t .seen; done = eqb n el.usx; broken = t .broken }) (broke t)
 
 unfoldable pub growIn : Trunk → View → Trunk
 growIn t words = t
-growIn t (opened n) = cond (eqb n 1) (cond (t .seen) (broke t) (push t n true)) (push t n (t .seen))
+growIn t (opened n) = cond (eqb n el.usx) (cond (t .seen) (broke t) (push t n true)) (push t n (t .seen))
 growIn t (closed n) = pop t n (t .stack)
-growIn t (single n m) = cond (eqb n 1) (broke t) t
+growIn t (single n m) = cond (eqb n el.usx) (broke t) t
 
 unfoldable pub grow : Trunk → View → Trunk
 grow t v = cond (t .done) (broke t) (growIn t v)
 
--- ---- milestones: chapter is element 3, verse 4
+-- ---- milestones
 
 pub data Held : Type 0 where
   shut : Held
@@ -134,12 +135,12 @@ isHeld shut i = false
 isHeld (held j) i = same j i
 
 unfoldable pub isMilestone : ℕ → Bool
-isMilestone n = eqb n 3 || eqb n 4
+isMilestone n = eqb n el.chapter || eqb n el.verse
 
 unfoldable pub pairUp : Pairs → View → Pairs
 pairUp p words = p
 pairUp p (opened n) = cond (isMilestone n) (missed p) p
 pairUp p (closed n) = cond (isMilestone n) (missed p) p
 pairUp p (single n m) =
-    cond (eqb n 3) (cond (isShut (p .verse)) (chapterTo p (turn (p .chapter) m)) (missed p))
-    (cond (eqb n 4) (verseTo p (turn (p .verse) m)) p)
+    cond (eqb n el.chapter) (cond (isShut (p .verse)) (chapterTo p (turn (p .chapter) m)) (missed p))
+    (cond (eqb n el.verse) (verseTo p (turn (p .verse) m)) p)

@@ -12,6 +12,7 @@ use Rattle.checker.specs.Rules.{Mark, start, ends, bare, plain, other, V
 use Rattle.checker.specs.Meaning.{SomeHigh, stillOpen}
 use Rattle.checker.specs.declared.Verdict.{Verdict}
 use Rattle.checker.specs.declared.Verdict.the-variants.{Accepted, NotTags, TooHigh, NoTree, BadMarks}
+use Rattle.tags.specs.Element as el
 
 abbrev pub views : List Token → List View
 views [] = []
@@ -36,10 +37,10 @@ pub record IsStart (ps : List Pair) (i : Bytes) : Type 0 where
   pub one : No (b "sid") before × No (b "sid") after
   pub no-end : No (b "eid") before × No (b "eid") after
 
--- ---- milestones: chapter is element 3, verse 4
+-- ---- milestones
 
 abbrev pub Kind : ℕ → Type 0
-Kind k = (k ≡ 3) ⊎ (k ≡ 4)
+Kind k = (k ≡ el.chapter) ⊎ (k ≡ el.verse)
 
 abbrev pub Starts : ℕ → View → Type 0
 Starts k v = (i : Bytes) × (v ≡ single k (start i))
@@ -86,7 +87,7 @@ pub record Demand (vs : List View) : Type 0 where
   pub form : (a : List View) (v : View) (z : List View) → vs ≡ a ++ v ∷ z → Proper v
   pub starts : (k : ℕ) → Kind k → (a : List View) (i : Bytes) (z : List View) → vs ≡ a ++ single k (start i) ∷ z → HasEnd k i z
   pub ends : (k : ℕ) → Kind k → (a : List View) (i : Bytes) (z : List View) → vs ≡ a ++ single k (ends i) ∷ z → HasStart k i a
-  pub apart : (a : List View) (v : View) (z : List View) → vs ≡ a ++ v ∷ z → Starts 3 v ⊎ Ends 3 v → IsOpen 4 a → ⊥
+  pub apart : (a : List View) (v : View) (z : List View) → vs ≡ a ++ v ∷ z → Starts el.chapter v ⊎ Ends el.chapter v → IsOpen el.verse a → ⊥
 
 -- the number of start tags of a kind
 unfoldable pub startsIn : ℕ → List View → ℕ
@@ -106,7 +107,7 @@ startsIn k (single n (ends i) ∷ vs) = startsIn k vs
 unfoldable pub usxTags : List View → ℕ
 usxTags [] = 0
 usxTags (words ∷ vs) = usxTags vs
-usxTags (opened n ∷ vs) = cond (eqb n 1) (suc (usxTags vs)) (usxTags vs)
+usxTags (opened n ∷ vs) = cond (eqb n el.usx) (suc (usxTags vs)) (usxTags vs)
 usxTags (closed n ∷ vs) = usxTags vs
 usxTags (single n m ∷ vs) = usxTags vs
 
@@ -117,9 +118,9 @@ pub record UsxTree (vs : List View) : Type 0 where
   pub none : stillOpen [] vs ≡ []
   -- usx has one opening tag and no tag ending in ` />`
   pub one : usxTags vs ≡ 1
-  pub no-empty : (a : List View) (m : Mark) (z : List View) → vs ≡ a ++ single 1 m ∷ z → ⊥
+  pub no-empty : (a : List View) (m : Mark) (z : List View) → vs ≡ a ++ single el.usx m ∷ z → ⊥
   -- nothing follows its close
-  pub last : (a z : List View) → vs ≡ a ++ closed 1 ∷ z → z ≡ []
+  pub last : (a z : List View) → vs ≡ a ++ closed el.usx ∷ z → z ≡ []
 
 -- ---- the answers, the lowest that applies
 
@@ -129,4 +130,4 @@ pub data Judged (s : Bytes) : Verdict → Type 0 where
   is-13 : (ts : List Token) → TagForm s ts → (SomeHigh (views ts) → ⊥) → (UsxTree (views ts) → ⊥) → Judged s NoTree
   is-14 : (ts : List Token) → TagForm s ts → (SomeHigh (views ts) → ⊥) → UsxTree (views ts) → (Demand (views ts) → ⊥) → Judged s BadMarks
   is-0 : (ts : List Token) → TagForm s ts → (SomeHigh (views ts) → ⊥) → UsxTree (views ts) → Demand (views ts)
-      → Judged s (Accepted (startsIn 3 (views ts)) (startsIn 4 (views ts)))
+      → Judged s (Accepted (startsIn el.chapter (views ts)) (startsIn el.verse (views ts)))

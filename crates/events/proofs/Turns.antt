@@ -15,7 +15,7 @@ use Rattle.fold.specs.declared.Claim.{Claim}
 use Rattle.fold.specs.declared.Claim.the-variants.{Blank, Alt, Pub, Stops}
 use Rattle.fold.proofs.Folding.{fold-blank, fold-alt, fold-pub, fold-stops, fold-nil}
 use Rattle.events.specs.Event.{Event}
-use Rattle.events.specs.Walk.{Child, anchor, words, passed, marker, childOf, Turn, inlineTurn, inlineFrom, inlineAll, Place, aRow, aChapter, aSidebar, aPeriph, aBlock, aVerse, dropped, placeOf, Blocks, blockTurn, blocksFrom}
+use Rattle.events.specs.Walk.{Child, anchor, words, passed, marker, childOf, Turn, inlineTurn, inlineFrom, inlineAll, inlineOn, Place, aRow, aChapter, aSidebar, aPeriph, aBlock, aVerse, dropped, placeOf, Blocks, blockTurn, blocksFrom, blocksAll, blocksOn}
 
 -- ---- a fold goes on in its list
 
@@ -62,12 +62,7 @@ module _ (node : ℕ → Bool → List Event) (t : Tape) (behind : Bool) where
   unfolding inlineAll inlineFrom
   inline-none trim = refl
 
-  -- what a child writes, and the list behind it
-  unfoldable pub inlineOn : Bool → ℕ → List ℕ → Child → List Event
-  inlineOn trim k ks c =
-      let r = inlineTurn node t behind trim k ks c in r .written ++ inlineAll node t behind (r .trim) (r .rest)
-
-  pub inline-turn : (trim : Bool) (k : ℕ) (ks : List ℕ) → inlineAll node t behind trim (k ∷ ks) ≡ inlineOn trim k ks (childOf (kindAt t k))
+  pub inline-turn : (trim : Bool) (k : ℕ) (ks : List ℕ) → inlineAll node t behind trim (k ∷ ks) ≡ inlineOn node t behind trim k ks (childOf (kindAt t k))
   unfolding inlineAll inlineFrom inlineOn
   inline-turn trim k ks =
       let r : Turn = inlineTurn node t behind trim k ks (childOf (kindAt t k)) in
@@ -84,8 +79,8 @@ from-short p (k ∷ ks) = go (p k) (from-short p ks)
     go true h = omega arith
     go false h = omega arith
 
-module _ (blocks : List ℕ → List Event) (t : Tape) (d : ℕ) where
-  block-short : (k : ℕ) (ks : List ℕ) (p : Place) → length (blockTurn blocks t d k ks p .rest) ≤ length ks
+module _ (blocks : List ℕ → List Event) (t : Tape) (d level : ℕ) where
+  block-short : (k : ℕ) (ks : List ℕ) (p : Place) → length (blockTurn blocks t d level k ks p .rest) ≤ length ks
   unfolding blockTurn
   block-short k ks aRow = from-short (λ i. not (isRow t i)) ks
   block-short k ks aChapter = fold-within t 6 ks
@@ -95,7 +90,7 @@ module _ (blocks : List ℕ → List Event) (t : Tape) (d : ℕ) where
   block-short k ks aVerse = from-short (isTopLevelBlock t) ks
   block-short k ks dropped = omega arith
 
-  enough-blocks : (n m : ℕ) (ks : List ℕ) → length ks ≤ n → length ks ≤ m → blocksFrom blocks t d n ks ≡ blocksFrom blocks t d m ks
+  enough-blocks : (n m : ℕ) (ks : List ℕ) → length ks ≤ n → length ks ≤ m → blocksFrom blocks t d level n ks ≡ blocksFrom blocks t d level m ks
   unfolding blocksFrom
   enough-blocks zero zero [] hn hm = refl
   enough-blocks zero (suc m) [] hn hm = refl
@@ -104,24 +99,16 @@ module _ (blocks : List ℕ → List Event) (t : Tape) (d : ℕ) where
   enough-blocks zero m (k ∷ ks) hn hm = absurd (omega arith)
   enough-blocks (suc n) zero (k ∷ ks) hn hm = absurd (omega arith)
   enough-blocks (suc n) (suc m) (k ∷ ks) hn hm =
-      let r : Blocks = blockTurn blocks t d k ks (placeOf t k) in
+      let r : Blocks = blockTurn blocks t d level k ks (placeOf t k) in
       let short : length (r .rest) ≤ length ks = block-short k ks (placeOf t k) in
       ap (λ (es : List Event). r .written ++ es) (enough-blocks n m (r .rest) (omega arith) (omega arith))
 
-  -- the events of a list of blocks, with those one level down
-  unfoldable pub blocksAll : List ℕ → List Event
-  blocksAll ks = blocksFrom blocks t d (length ks) ks
-
-  pub blocks-none : blocksAll [] ≡ []
+  pub blocks-none : blocksAll blocks t d level [] ≡ []
   unfolding blocksAll blocksFrom
   blocks-none = refl
 
-  -- what a block writes, and the list behind it
-  unfoldable pub blocksOn : ℕ → List ℕ → Place → List Event
-  blocksOn k ks p = let r = blockTurn blocks t d k ks p in r .written ++ blocksAll (r .rest)
-
-  pub blocks-turn : (k : ℕ) (ks : List ℕ) → blocksAll (k ∷ ks) ≡ blocksOn k ks (placeOf t k)
+  pub blocks-turn : (k : ℕ) (ks : List ℕ) → blocksAll blocks t d level (k ∷ ks) ≡ blocksOn blocks t d level k ks (placeOf t k)
   unfolding blocksAll blocksFrom blocksOn
   blocks-turn k ks =
-      let r : Blocks = blockTurn blocks t d k ks (placeOf t k) in
+      let r : Blocks = blockTurn blocks t d level k ks (placeOf t k) in
       ap (λ (es : List Event). r .written ++ es) (enough-blocks (length ks) (length (r .rest)) (r .rest) (block-short k ks (placeOf t k)) (omega arith))

@@ -6,6 +6,7 @@ use Rattle.parts.specs.Bytes.{Bytes, b}
 use Rattle.chars.specs.Decimal.{decimal}
 use Rattle.tags.specs.Items.{Attr, Item, start, empty, close, text}
 use Rattle.events.specs.Event.{Event, item, chapter, verse, book, rawly, escaped, perhaps}
+use Rattle.tags.specs.Element as el
 
 -- the book's code, the chapter's number, and the identifiers of the chapter and verse that are open
 pub record State : Type 0 where
@@ -60,21 +61,21 @@ unfoldable pub bookAttrs : Bytes → List Attr
 bookAttrs code = rawly (b "code") code ∷ rawly (b "style") (b "id") ∷ []
 
 unfoldable pub bookItems : Bytes → Bytes → List Item
-bookItems code [] = empty 2 (bookAttrs code) ∷ []
-bookItems code (x ∷ rest) = start 2 (bookAttrs code) ∷ text (x ∷ rest) ∷ close 2 ∷ []
+bookItems code [] = empty el.book (bookAttrs code) ∷ []
+bookItems code (x ∷ rest) = start el.book (bookAttrs code) ∷ text (x ∷ rest) ∷ close el.book ∷ []
 
 -- "ends are written before the next start (a chapter closes an open verse first)"
 unfoldable pub itemsOf : State → Event → List Item
 itemsOf s (item i) = i ∷ []
 itemsOf s (chapter n alt published) =
-    endOf 4 (s .verse) ++ (endOf 3 (s .chapter) ++ (empty 3 (chapterAttrs (s .book) n alt published) ∷ []))
+    endOf el.verse (s .verse) ++ (endOf el.chapter (s .chapter) ++ (empty el.chapter (chapterAttrs (s .book) n alt published) ∷ []))
 itemsOf s (verse label alt published) =
-    endOf 4 (s .verse) ++ (empty 4 (verseAttrs (s .book) (s .number) label alt published) ∷ [])
+    endOf el.verse (s .verse) ++ (empty el.verse (verseAttrs (s .book) (s .number) label alt published) ∷ [])
 itemsOf s (book code rest) = bookItems code rest
 
 -- what is still open at the end
 unfoldable pub lastEnds : State → List Item
-lastEnds s = endOf 4 (s .verse) ++ endOf 3 (s .chapter)
+lastEnds s = endOf el.verse (s .verse) ++ endOf el.chapter (s .chapter)
 
 -- the items of a list of events, with the ends of what it leaves open
 unfoldable pub paired : State → List Event → List Item

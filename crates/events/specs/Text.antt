@@ -12,10 +12,11 @@ use Rattle.admit.specs.Decide.{refusal}
 use Rattle.tags.specs.Items.{Item, line, framed, render}
 use Rattle.events.specs.Pairing.{State, paired}
 use Rattle.events.specs.Walk.{eventsOf}
+use Rattle.tape.specs.Kind as kinds
 
 unfoldable pub anyChapter : List Node → Bool
 anyChapter [] = false
-anyChapter (n ∷ ns) = eqb (n .kind .code) 6 || anyChapter ns
+anyChapter (n ∷ ns) = eqb (n .kind .code) kinds.chapter || anyChapter ns
 
 -- "the chapter starts at 1 if the tape has no Chapter node, else 0"
 unfoldable pub firstState : Tape → State

@@ -16,6 +16,7 @@ use Rattle.render.specs.Shape.{isOpen, isBlank}
 use Rattle.render.specs.Children.{isPlainText}
 use Rattle.fold.specs.declared.Claim.{Claim}
 use Rattle.fold.specs.declared.Claim.the-variants.{Blank, Alt, Pub, Stops}
+use Rattle.tape.specs.Kind as kinds
 
 unfoldable pub slotBy : Bytes → Bytes → Bytes → Claim
 slotBy name alt published = cond (same name alt) Alt (cond (same name published) Pub Stops)
@@ -23,7 +24,7 @@ slotBy name alt published = cond (same name alt) Alt (cond (same name published)
 -- `alt_pub_kind`: `ca` and `cp` belong to a Chapter, `va` and `vp` to a Verse
 unfoldable pub slotOf : ℕ → Bytes → Claim
 slotOf anchor name =
-    cond (eqb anchor 6) (slotBy name (b "ca") (b "cp")) (cond (eqb anchor 7) (slotBy name (b "va") (b "vp")) Stops)
+    cond (eqb anchor kinds.chapter) (slotBy name (b "ca") (b "cp")) (cond (eqb anchor kinds.verse) (slotBy name (b "va") (b "vp")) Stops)
 
 -- "one alternate, one published number per anchor": a repeat stops the fold
 unfoldable pub free : Bool → Bool → Claim → Claim
@@ -40,7 +41,7 @@ claimOf t anchor gotAlt gotPub k =
 
 -- the text that a node adds to a number: a Text its own, others none
 unfoldable pub textOf : Tape → ℕ → Bytes
-textOf t k = cond (eqb (kindAt t k) 1) (textAt t k) []
+textOf t k = cond (eqb (kindAt t k) kinds.text) (textAt t k) []
 
 -- the Text nodes of a list, one text
 unfoldable pub textsOf : Tape → List ℕ → Bytes

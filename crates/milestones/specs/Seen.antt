@@ -9,6 +9,7 @@ use Rattle.checker.specs.Rules.{start as starts, View, single, view}
 use Rattle.checker.specs.Words.{Kind}
 use Rattle.events.specs.Event.{Event, item, chapter, verse, book}
 use Rattle.events.specs.Pairing.{State}
+use Rattle.tags.specs.Element as el
 
 -- "identifiers are compared as bytes"
 unfoldable pub pairs : List Attr → List Pair
@@ -33,11 +34,11 @@ startOf k (some i) = single k (starts i) ∷ []
 
 -- the starts of what is open in a state: none where nothing is
 unfoldable pub opening : State → List View
-opening s = startOf 3 (s .chapter) ++ startOf 4 (s .verse)
+opening s = startOf el.chapter (s .chapter) ++ startOf el.verse (s .verse)
 
 -- ---- events
 
--- neither a chapter element nor a verse element: 3 and 4
+-- neither a chapter element nor a verse element
 abbrev pub PlainItem : Item → Type 0
 PlainItem (start n qs) = Kind n → ⊥
 PlainItem (empty n qs) = Kind n → ⊥

@@ -10,6 +10,7 @@ use Rattle.nest.specs.Tape.{kindAt, linkAt}
 use Rattle.nest.specs.Nest.{container, close, partOf}
 use Rattle.nest.specs.declared.Part.{Part}
 use Rattle.nest.specs.declared.Part.the-variants.{Opens, Closes, Leaf}
+use Rattle.tape.specs.Kind as kinds
 
 -- the n nodes from i on, before which stand o containers and c closes
 unfoldable pub deepFrom : List Node → ℕ → ℕ → ℕ → ℕ → Bool
@@ -44,7 +45,7 @@ allMatched (some (c ∷ s)) = false
 unfoldable pub rootEnds : List Node → Bool
 rootEnds t =
     eqb (linkAt t 0) (length t)
-    || (eqb (linkAt t 0 + 1) (length t) && eqb (kindAt t (linkAt t 0)) 5)
+    || (eqb (linkAt t 0 + 1) (length t) && eqb (kindAt t (linkAt t 0)) kinds.blockEnd)
 
 unfoldable pub sound : List Node → Bool
 sound t = rootEnds t && allMatched (matchFrom t (linkAt t 0) 0 (some []))

@@ -10,14 +10,15 @@ use Rattle.tape.specs.declared.Node.{Node}
 use Rattle.nest.specs.Tape.{kindAt, linkAt}
 use Rattle.nest.specs.declared.Part.{Part}
 use Rattle.nest.specs.declared.Part.the-variants.{Opens, Closes, Leaf}
+use Rattle.tape.specs.Kind as kinds
 
 -- a MarkerOpen whose link is not its own index
 unfoldable pub container : List Node → ℕ → Bool
-container t i = eqb (kindAt t i) 3 && not (eqb (linkAt t i) i)
+container t i = eqb (kindAt t i) kinds.markerOpen && not (eqb (linkAt t i) i)
 
 -- a MarkerClose or a BlockEnd
 unfoldable pub close : List Node → ℕ → Bool
-close t i = eqb (kindAt t i) 4 || eqb (kindAt t i) 5
+close t i = eqb (kindAt t i) kinds.markerClose || eqb (kindAt t i) kinds.blockEnd
 
 abbrev pub Container : List Node → ℕ → Type 0
 Container t i = container t i ≡ true
@@ -60,7 +61,7 @@ Cross t i k = (i < k) × (k < linkAt t i) × (linkAt t i < linkAt t k)
 abbrev pub RootEnds : List Node → Type 0
 RootEnds t =
     (linkAt t 0 ≡ length t)
-    ⊎ ((linkAt t 0 + 1 ≡ length t) × (kindAt t (linkAt t 0) ≡ 5))
+    ⊎ ((linkAt t 0 + 1 ≡ length t) × (kindAt t (linkAt t 0) ≡ kinds.blockEnd))
 
 -- nesting is right; refusal 7 is that it is not
 pub record Nested (t : List Node) : Type 0 where

@@ -12,33 +12,36 @@ use Rattle.tape.specs.declared.Info.{Info}
 use Rattle.tape.specs.declared.Info.the-variants.{Known, Unknown}
 use Rattle.render.specs.declared.shape.Shape.{Shape}
 use Rattle.render.specs.declared.shape.Shape.the-variants.{Block, Inline, Leaf, Other}
+use Rattle.tape.specs.Kind as kinds
+use Rattle.tape.specs.Category as categories
+use Rattle.tape.specs.Element as elements
 
 -- ---- kinds
 
 abbrev pub isText : Tape → ℕ → Bool
-isText t k = eqb (kindAt t k) 1
+isText t k = eqb (kindAt t k) kinds.text
 
 abbrev pub isAttribute : Tape → ℕ → Bool
-isAttribute t k = eqb (kindAt t k) 2
+isAttribute t k = eqb (kindAt t k) kinds.attribute
 
 -- MarkerOpen
 abbrev pub isOpen : Tape → ℕ → Bool
-isOpen t k = eqb (kindAt t k) 3
+isOpen t k = eqb (kindAt t k) kinds.markerOpen
 
 abbrev pub isChapter : Tape → ℕ → Bool
-isChapter t k = eqb (kindAt t k) 6
+isChapter t k = eqb (kindAt t k) kinds.chapter
 
 abbrev pub isVerse : Tape → ℕ → Bool
-isVerse t k = eqb (kindAt t k) 7
+isVerse t k = eqb (kindAt t k) kinds.verse
 
 abbrev pub isError : Tape → ℕ → Bool
-isError t k = eqb (kindAt t k) 8
+isError t k = eqb (kindAt t k) kinds.error
 
 -- ---- unknown markers
 
 -- `unknown_shape`, by the kind of the matching close: a BlockEnd makes a block, a MarkerClose an inline marker, anything else a leaf
 unfoldable pub closedBy : ℕ → Shape
-closedBy kind = cond (eqb kind 5) Block (cond (eqb kind 4) Inline Leaf)
+closedBy kind = cond (eqb kind kinds.blockEnd) Block (cond (eqb kind kinds.markerClose) Inline Leaf)
 
 unfoldable pub shapeBy : Tape → ℕ → Info → Shape
 shapeBy t k (Known e) = Other
@@ -64,7 +67,7 @@ isBlockShape Other = false
 
 -- the categories of markers that run inside text: Character, Note, Milestone
 unfoldable pub inlineCategory : ℕ → Bool
-inlineCategory code = eqb code 4 || (eqb code 5 || eqb code 6)
+inlineCategory code = eqb code categories.character || (eqb code categories.note || eqb code categories.milestone)
 
 -- a marker runs inside text by its category, or by its shape
 unfoldable pub inlineMarker : Tape → ℕ → Info → Bool
@@ -97,7 +100,7 @@ isElement code Unknown = false
 
 -- `is_table_row`: a MarkerOpen whose entry has the row code
 unfoldable pub isRow : Tape → ℕ → Bool
-isRow t k = isOpen t k && isElement 3 (infoAt t k)
+isRow t k = isOpen t k && isElement elements.row (infoAt t k)
 
 -- `is_category_marker`: a MarkerOpen that the source names `cat`
 unfoldable pub isCategoryMarker : Tape → ℕ → Bool

@@ -12,6 +12,7 @@ use Rattle.figure.specs.Figure.{legacyAt}
 use Rattle.events.specs.Walk.{Manner, asInline, asNote, Role, unknownBlock, unknownInline, unwritten, figure, ref, id, note, ms, char, para, roleOfCategory, isRef}
 use Rattle.roles.specs.declared.Role.{Role as Code}
 use Rattle.roles.specs.declared.Role.the-variants.{UnknownBlock, UnknownInline, Unwritten, Figure, Ref, Id, Note, Ms, Char, Para}
+use Rattle.tape.specs.Category as categories
 
 -- the role that the code names
 unfoldable pub roleIn : Code → Role
@@ -28,7 +29,7 @@ roleIn Para = para
 
 -- behind the names that decide: `id` by its entry's name and category, others by category
 unfoldable pub roleOfEntry : ℕ → Bytes → Role
-roleOfEntry category name = cond (eqb category 0 && same name (b "id")) id (roleOfCategory category)
+roleOfEntry category name = cond (eqb category categories.identification && same name (b "id")) id (roleOfCategory category)
 
 unfoldable pub mannerBy : Bool → Manner
 mannerBy true = asNote

@@ -8,18 +8,19 @@ use Rattle.render.specs.Shape.{isRow}
 use Rattle.tags.specs.Items.{start, close, line}
 use Rattle.events.specs.Event.{Event, item}
 use Rattle.events.specs.Walk.{styled}
+use Rattle.tags.specs.Element as el
 
 abbrev pub isNoRow : Tape → ℕ → Bool
 isNoRow t k = not (isRow t k)
 
 unfoldable pub rowOpens : ℕ → List Event
-rowOpens level = item (line level) ∷ item (start 11 (styled (b "tr"))) ∷ []
+rowOpens level = item (line level) ∷ item (start el.row (styled (b "tr"))) ∷ []
 
 unfoldable pub rowCloses : ℕ → List Event
-rowCloses level = item (line level) ∷ item (close 11) ∷ []
+rowCloses level = item (line level) ∷ item (close el.row) ∷ []
 
 unfoldable pub tableOpens : ℕ → List Event
-tableOpens level = item (line level) ∷ item (start 10 []) ∷ []
+tableOpens level = item (line level) ∷ item (start el.table []) ∷ []
 
 unfoldable pub tableCloses : ℕ → List Event
-tableCloses level = item (line level) ∷ item (close 10) ∷ []
+tableCloses level = item (line level) ∷ item (close el.table) ∷ []

@@ -14,44 +14,45 @@ use Rattle.figure.specs.Figure.{legacyAt, legacyPairs, captionOf}
 use Rattle.tags.specs.Items.{start, empty, close, text}
 use Rattle.events.specs.Event.{Event, item, book, escaped, perhaps, collected, element}
 use Rattle.events.specs.Walk.{style, styled, unclosed, Role, unknownBlock, unknownInline, unwritten, figure, ref, id, note, ms, char, para, linkOf}
+use Rattle.tags.specs.Element as el
 
 -- the `ref` around what an `xt` links
 unfoldable pub linkOpens : Option Bytes → List Event
 linkOpens none = []
-linkOpens (some loc) = item (start 16 (escaped (b "loc") loc ∷ [])) ∷ []
+linkOpens (some loc) = item (start el.ref (escaped (b "loc") loc ∷ [])) ∷ []
 
 unfoldable pub linkCloses : Option Bytes → List Event
 linkCloses none = []
-linkCloses (some loc) = item (close 16) ∷ []
+linkCloses (some loc) = item (close el.ref) ∷ []
 
 unfoldable pub opening : Tape → ℕ → Role → List Event
-opening t k unknownBlock = item (start 5 (style t k ∷ escaped (b "status") (b "unknown") ∷ [])) ∷ []
-opening t k unknownInline = item (start 6 (style t k ∷ escaped (b "status") (b "unknown") ∷ [])) ∷ []
+opening t k unknownBlock = item (start el.para (style t k ∷ escaped (b "status") (b "unknown") ∷ [])) ∷ []
+opening t k unknownInline = item (start el.char (style t k ∷ escaped (b "status") (b "unknown") ∷ [])) ∷ []
 opening t k unwritten = []
-opening t k figure = item (start 9 (styled (b "fig") ++ collected (attributesOf t k (b "fig")))) ∷ []
-opening t k ref = item (start 16 (perhaps (b "loc") (firstOf (b "loc") (attributesOf t k (b "ref"))))) ∷ []
+opening t k figure = item (start el.figure (styled (b "fig") ++ collected (attributesOf t k (b "fig")))) ∷ []
+opening t k ref = item (start el.ref (perhaps (b "loc") (firstOf (b "loc") (attributesOf t k (b "ref"))))) ∷ []
 opening t k id = []
-opening t k note = item (start 7 (escaped (b "caller") (noteCaller t k) ∷ style t k ∷ perhaps (b "category") (categoryOf t k))) ∷ []
+opening t k note = item (start el.note (escaped (b "caller") (noteCaller t k) ∷ style t k ∷ perhaps (b "category") (categoryOf t k))) ∷ []
 opening t k ms = []
-opening t k char = item (start 6 (style t k ∷ (unclosed t k ++ collected (attributesOf t k (markerName t k))))) ∷ linkOpens (linkOf t k)
-opening t k para = item (start 5 (style t k ∷ [])) ∷ []
+opening t k char = item (start el.char (style t k ∷ (unclosed t k ++ collected (attributesOf t k (markerName t k))))) ∷ linkOpens (linkOf t k)
+opening t k para = item (start el.para (style t k ∷ [])) ∷ []
 
 unfoldable pub closing : Tape → ℕ → Role → List Event
-closing t k unknownBlock = item (close 5) ∷ []
-closing t k unknownInline = item (close 6) ∷ []
+closing t k unknownBlock = item (close el.para) ∷ []
+closing t k unknownInline = item (close el.char) ∷ []
 closing t k unwritten = []
-closing t k figure = item (close 9) ∷ []
-closing t k ref = item (close 16) ∷ []
+closing t k figure = item (close el.figure) ∷ []
+closing t k ref = item (close el.ref) ∷ []
 closing t k id = []
-closing t k note = item (close 7) ∷ []
+closing t k note = item (close el.note) ∷ []
 closing t k ms = []
-closing t k char = linkCloses (linkOf t k) ++ (item (close 6) ∷ [])
-closing t k para = item (close 5) ∷ []
+closing t k char = linkCloses (linkOf t k) ++ (item (close el.char) ∷ [])
+closing t k para = item (close el.para) ∷ []
 
 -- a figure of old, by its Attribute
 unfoldable pub oldFigure : Tape → ℕ → Step → List Event
 oldFigure t k Done = []
-oldFigure t k (At a) = element 9 (styled (b "fig") ++ collected (legacyPairs t k (a .at))) (item (text (captionOf t (a .at))) ∷ [])
+oldFigure t k (At a) = element el.figure (styled (b "fig") ++ collected (legacyPairs t k (a .at))) (item (text (captionOf t (a .at))) ∷ [])
 
 unfoldable pub leafOf : Tape → ℕ → Role → List Event
 leafOf t k unknownBlock = []
@@ -61,6 +62,6 @@ leafOf t k figure = oldFigure t k (legacyAt t k)
 leafOf t k ref = []
 leafOf t k id = book (bookCode t k) (bookRest t k) ∷ []
 leafOf t k note = []
-leafOf t k ms = item (empty 8 (style t k ∷ collected (attributesOf t k (markerName t k)))) ∷ []
+leafOf t k ms = item (empty el.ms (style t k ∷ collected (attributesOf t k (markerName t k)))) ∷ []
 leafOf t k char = []
-leafOf t k para = item (empty 5 (style t k ∷ [])) ∷ []
+leafOf t k para = item (empty el.para (style t k ∷ [])) ∷ []

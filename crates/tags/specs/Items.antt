@@ -10,6 +10,7 @@ use Rattle.tags.specs.Names.{nameOf, IsName}
 use Rattle.tags.specs.Form.{Pair, Token, text as textToken, opens, closes, empty as emptyToken}
 use Rattle.tags.specs.Write.{Clean}
 use Rattle.tags.specs.declared.Class.the-variants.{Value, Key}
+use Rattle.tags.specs.Element as el
 
 -- a key, its value, and whether the value is written as it is or escaped
 pub record Attr : Type 0 where
@@ -97,4 +98,4 @@ pub data LegalItems : List Item → Type 0 where
 
 -- usx around the items
 abbrev pub framed : List Item → List Item
-framed is = start 1 (record { key = b "version"; value = b "3.0"; raw = false } ∷ []) ∷ (is ++ (close 1 ∷ []))
+framed is = start el.usx (record { key = b "version"; value = b "3.0"; raw = false } ∷ []) ∷ (is ++ (close el.usx ∷ []))

@@ -1,3 +1,4 @@
+pub mod Element
 pub mod Names
 pub mod Form
 pub mod Write

@@ -10,6 +10,9 @@ use Rattle.tape.specs.declared.Entry.{Entry}
 use Rattle.tape.specs.declared.Sections.{Sections}
 use Rattle.tape.specs.declared.Info.{Info}
 use Rattle.tape.specs.declared.Info.the-variants.{Known, Unknown}
+use Rattle.tape.specs.Kind as kinds
+use Rattle.tape.specs.Category as categories
+use Rattle.tape.specs.Element as elements
 
 -- ---- numbers, little-endian
 
@@ -99,7 +102,7 @@ tapeOf file = tapeIn (sectionsOf file) file
 abbrev pub nowhere : Node
 nowhere =
     record {
-      kind = record { code = 8 };
+      kind = record { code = kinds.error };
       flags = record { bits = 0 };
       marker = 65535;
       link = 0;
@@ -109,7 +112,7 @@ nowhere =
 
 -- what stands outside the entries: no name, category Other
 abbrev pub nameless : Entry
-nameless = record { start = 0; len = 0; category = record { code = 7 }; element = record { code = 0 } }
+nameless = record { start = 0; len = 0; category = record { code = categories.other }; element = record { code = elements.other } }
 
 unfoldable pub nodeAt : Tape → ℕ → Node
 nodeAt t k = getD (t .nodes) k nowhere
@@ -137,7 +140,7 @@ isNested t k = eqb (nodeAt t k .flags .bits / 2 % 2) 1
 
 -- the kinds whose nodes bear a marker: MarkerOpen, MarkerClose, BlockEnd, Chapter, Verse
 unfoldable pub bearsMarker : ℕ → Bool
-bearsMarker kind = leb 3 kind && leb kind 7
+bearsMarker kind = leb kinds.markerOpen kind && leb kind kinds.verse
 
 -- the entry of a node; a marker number at or above the entry count is unknown
 unfoldable pub infoAt : Tape → ℕ → Info
@@ -147,17 +150,17 @@ infoAt t k =
 
 -- the number of a Chapter or Verse, which stands in its link
 unfoldable pub numberAt : Tape → ℕ → ℕ
-numberAt t k = cond (eqb (kindAt t k) 6 || eqb (kindAt t k) 7) (nodeAt t k .link) 0
+numberAt t k = cond (eqb (kindAt t k) kinds.chapter || eqb (kindAt t k) kinds.verse) (nodeAt t k .link) 0
 
 -- the category of a node's entry; that of what is unknown is Other
 unfoldable pub categoryOf : Info → ℕ
 categoryOf (Known e) = e .category .code
-categoryOf Unknown = 7
+categoryOf Unknown = categories.other
 
 -- the element of a node's entry; that of what is unknown is other
 unfoldable pub elementOf : Info → ℕ
 elementOf (Known e) = e .element .code
-elementOf Unknown = 0
+elementOf Unknown = elements.other
 
 -- how long the name of a node's entry is; unknown counts 0
 unfoldable pub baseLen : Info → ℕ

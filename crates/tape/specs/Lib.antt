@@ -1,3 +1,6 @@
+pub mod Kind
+pub mod Category
+pub mod Element
 pub mod File
 pub mod Tree
 pub mod Name

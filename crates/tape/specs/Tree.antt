@@ -7,18 +7,19 @@ use lib.Dec.{eqb, ltb}
 use Rattle.tape.specs.File.{Tape, nodeAt, kindAt}
 use Rattle.tape.specs.declared.Step.{Step}
 use Rattle.tape.specs.declared.Step.the-variants.{At, Done}
+use Rattle.tape.specs.Kind as kinds
 
 -- MarkerClose and BlockEnd
 unfoldable pub isClose : ℕ → Bool
-isClose kind = eqb kind 4 || eqb kind 5
+isClose kind = eqb kind kinds.markerClose || eqb kind kinds.blockEnd
 
 -- Root and MarkerOpen hold others; of other kinds the link says nothing
 unfoldable pub holds : ℕ → Bool
-holds kind = eqb kind 0 || eqb kind 3
+holds kind = eqb kind kinds.root || eqb kind kinds.markerOpen
 
 -- the close of a MarkerOpen: the node that it links to
 unfoldable pub matchingClose : Tape → ℕ → Step
-matchingClose t k = cond (eqb (kindAt t k) 3) (At (record { at = nodeAt t k .link })) Done
+matchingClose t k = cond (eqb (kindAt t k) kinds.markerOpen) (At (record { at = nodeAt t k .link })) Done
 
 -- the node behind k, where it stands before the link and on a tape of so many nodes
 unfoldable pub childBefore : ℕ → ℕ → ℕ → Step

@@ -19,12 +19,13 @@ use Rattle.turns.specs.declared.Child.{Child}
 use Rattle.turns.specs.declared.Child.the-variants.{Skipped, Anchor, Words, Passed}
 use Rattle.turns.specs.declared.Sort.{Sort}
 use Rattle.turns.specs.declared.Sort.the-variants.{End, Enter, Plain}
+use Rattle.tape.specs.Kind as kinds
 
 -- ---- what a child is
 
 -- by its kind: Verse, Text, Attribute or Error, and markers
 unfoldable pub sortOf : ℕ → Sort
-sortOf kind = cond (eqb kind 7) (Plain Anchor) (cond (eqb kind 1) (Plain Words) (cond (eqb kind 2 || eqb kind 8) (Plain Passed) Enter))
+sortOf kind = cond (eqb kind kinds.verse) (Plain Anchor) (cond (eqb kind kinds.text) (Plain Words) (cond (eqb kind kinds.attribute || eqb kind kinds.error) (Plain Passed) Enter))
 
 unfoldable pub sortBy : Member → ℕ → Sort
 sortBy EndMember kind = End
@@ -39,7 +40,7 @@ sortIn t span k = sortBy (memberOf t span k) (kindAt t k)
 unfoldable pub noteSort : Tape → ℕ → Sort
 noteSort t k =
     cond (isCategoryMarker t k) (Plain Skipped)
-    (cond (eqb (kindAt t k) 1) (Plain Words) (cond (eqb (kindAt t k) 2 || eqb (kindAt t k) 8) (Plain Passed) Enter))
+    (cond (eqb (kindAt t k) kinds.text) (Plain Words) (cond (eqb (kindAt t k) kinds.attribute || eqb (kindAt t k) kinds.error) (Plain Passed) Enter))
 
 -- ---- what is still written
 
