@@ -1,0 +1,4 @@
+pub mod Members
+pub mod Inline
+pub mod Blocks
+pub mod Enough
