@@ -97,3 +97,8 @@ module _ (source fixed : Bytes) (p : Part) {k : Key} {r : Bytes} where
   pub key-fixed : k ≡ Fixed p → r ≡ part fixed (p .start) (p .len) → r ≡ keyOf source fixed k
   unfolding keyOf
   key-fixed ek er = rw ek er
+
+-- ---- a key that is sought
+
+pub key-is : (source key : Bytes) (k : Key) {x : Bytes} {h : Bool} → x ≡ keyOf source fixedKeys k → h ≡ same x key → h ≡ same (keyOf source fixedKeys k) key
+key-is source key k ex eh = eh ∙ ap (λ (z : Bytes). same z key) ex

@@ -204,9 +204,9 @@ module _ (t : Tape) (m key : Bytes) (a : Attrs) {n : Next} (en : remaining t m a
   sought-none e k a₀ all inv = sym (ap (firstOf key) (next-end t m a en e)) ∙ inv ∙ ap (firstOf key) (all m)
 
   module _ {k : Key} {v : Value} {left : Attrs} (e : n ≡ NextPair k v left) where
-    module _ {s x : Bytes} {h : Bool} (es : s ≡ t .source) (ex : x ≡ keyOf s fixedKeys k) (eh : h ≡ same x key) where
+    module _ {s : Bytes} {h : Bool} (es : s ≡ t .source) (eh : h ≡ same (keyOf s fixedKeys k) key) where
       tested : same (keyOf (t .source) fixedKeys k) key ≡ h
-      tested = sym (eh ∙ ap (λ (z : Bytes). same z key) (ex ∙ ap (λ (z : Bytes). keyOf z fixedKeys k) es))
+      tested = sym (eh ∙ ap (λ (z : Bytes). same (keyOf z fixedKeys k) key) es)
 
       pub sought-found : h ≡ true → (k : ℕ) (a₀ : Attrs) → ((m : Bytes) → remaining t m a₀ ≡ attributesOf t k m)
           → firstOf key (remaining t m a) ≡ firstOf key (remaining t m a₀) → soughtOf (t .source) (Found v) ≡ firstOf key (attributesOf t k m)

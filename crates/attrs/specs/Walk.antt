@@ -1,5 +1,5 @@
 -- What the code's parts, keys, values and answers stand for.
-use Prim.Native.Nat.{_+_, _≤_, _<_}
+use Prim.Native.Nat.{ℕ, _+_, _≤_, _<_}
 use mathlib.Core.Path.{_≡_}
 use mathlib.Core.List.{List, [], _∷_, _++_, map}
 use mathlib.Core.Bool.{cond}
@@ -9,7 +9,7 @@ use Rattle.parts.specs.Bytes.{Bytes, b, part, same}
 use Rattle.words.specs.Words.{bytesOf}
 use Rattle.words.specs.declared.Part.{Part}
 use Rattle.tape.specs.File.{Tape}
-use Rattle.tape.specs.Tree.{walkFrom}
+use Rattle.tape.specs.Tree.{firstChild, walkFrom}
 use Rattle.attrs.specs.Attr.{Pair, shown, keyed, pairsIn, keyedFor, pairsAlong}
 use Rattle.attrs.specs.declared.Taken.{Taken}
 use Rattle.attrs.specs.declared.Value.{Value}
@@ -73,6 +73,10 @@ gotList source marker GotNone = []
 unfoldable pub remaining : Tape → Bytes → Attrs → List Pair
 remaining t marker a =
     map (keyedFor marker) (pairsIn (bytesOf (t .source) (a .rest))) ++ pairsAlong t marker (walkFrom t (a .next))
+
+-- a walk before the first attribute: nothing is left of a body, and the first child is next
+unfoldable pub attrsOf : Tape → ℕ → Attrs
+attrsOf t k = record { rest = record { start = 0; len = 0 }; next = firstChild t k }
 
 -- an answer: one attribute and those behind it
 unfoldable pub nextList : Tape → Bytes → Next → List Pair

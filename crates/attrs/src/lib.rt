@@ -11,13 +11,16 @@ ghost use mathlib.Core.List.{map};
 ghost use Prim.Native.Nat.{_+_, _≤_, _<_, min};
 ghost use lib.ListN.{length, drop};
 ghost use Rattle.tape.specs.Name.{strip};
-ghost use Rattle.parts.specs.Bytes.{Bytes};
+ghost use Rattle.parts.specs.Bytes.{Bytes, same};
 ghost use Rattle.words.specs.Words.{words as wordsOf, lastOf, bytesOf};
 ghost use Rattle.words.specs.declared.Set.the-variants.{Unicode};
 ghost use Rattle.tape.specs.File.{tapeIn, textAt};
 ghost use Rattle.attrs.specs.Attr.{closesAt, quotedLen, pieceLen, valueAt, pairsIn, isWordMarker, defaultKey, keyFor, keyedFor, bodyOf, pairsOf, pairsAt, pairsAlong, attributesOf};
-ghost use Rattle.attrs.specs.Walk.{fixedKeys, Spot, keyOf, FirstOf, itemList, gotList, remaining, nextList, firstOf, soughtOf};
+ghost use Rattle.attrs.specs.Walk.{fixedKeys, Spot, keyOf, FirstOf, itemList, gotList, remaining, attrsOf, nextList, firstOf, soughtOf};
 ghost use Rattle.tape.specs.Tree.{walkFrom};
+
+// The keys that stand in no source, one behind the other.
+pub const FIXED_KEYS: [u8; 42] = *b"lemmaglosshrefloclink-hrefidwhodefaultfile";
 
 // A value at the front of a text: its part, whether it is quoted, and where what follows it starts.
 struct Taken {
@@ -280,6 +283,14 @@ pub fn key_of<'a>(source: &'a [u8], fixed: &'a [u8], k: Key) -> &'a [u8]
     }
 }
 
+// Whether a key is this one.
+fn is_key(source: &[u8], k: Key, key: &[u8]) -> bool
+    ensures { λ r. ⌜ r ≡ same (keyOf (now (source .entry)) fixedKeys k) (now (key .entry)) ⌝ }
+{
+    let fixed = FIXED_KEYS;
+    parts::same(key_of(source, &fixed, k), key)
+}
+
 // ---- attributes
 
 // The first pair of a part of the source, its key as the marker has it.
@@ -389,6 +400,7 @@ impl Attrs {
     // The attributes of a node, from the first on.
     pub fn of(file: &[u8], tape: Sections, c: Cursor) -> Self
         ensures { λ r. ⌜ ((m : Bytes) → remaining (tapeIn tape (now (file .entry))) m r ≡ attributesOf (tapeIn tape (now (file .entry))) (c .at) m) ⌝ }
+        ensures { λ r. ⌜ r ≡ attrsOf (tapeIn tape (now (file .entry))) (c .at) ⌝ }
     {
         Attrs {
             rest: Part { start: 0, len: 0 },
@@ -429,14 +441,7 @@ pub fn first_with(file: &[u8], tape: Sections, c: Cursor, marker: &[u8], key: &[
                 value,
                 left: after,
             } => {
-                if parts::same(
-                    key_of(
-                        tape::source(file, tape),
-                        b"lemmaglosshrefloclink-hrefidwhodefaultfile",
-                        k,
-                    ),
-                    key,
-                ) {
+                if is_key(tape::source(file, tape), k, key) {
                     return Sought::At(value);
                 }
                 left = after;

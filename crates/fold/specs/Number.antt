@@ -1,5 +1,5 @@
 -- A folded number, as it is walked: pieces of texts, with a space where white space stood between two.
-use Prim.Native.Nat.{_≤_, _<_}
+use Prim.Native.Nat.{ℕ, _≤_, _<_}
 use lib.ListN.{length}
 use mathlib.Core.List.{[], _∷_, _++_}
 use mathlib.Core.Bool.{Bool, true, false, cond, _&&_}
@@ -7,7 +7,7 @@ use Rattle.parts.specs.Bytes.{Bytes}
 use Rattle.words.specs.Words.{bytesOf}
 use Rattle.chars.specs.Space.{isAsciiWhite}
 use Rattle.tape.specs.File.{Tape}
-use Rattle.tape.specs.Tree.{walkFrom}
+use Rattle.tape.specs.Tree.{firstChild, walkFrom}
 use Rattle.fold.specs.Fold.{textsOf}
 use Rattle.fold.specs.declared.Run.{Run}
 use Rattle.fold.specs.declared.Run.the-variants.{Word, White}
@@ -36,6 +36,10 @@ runList source begun (White gap) more = collapse begun gap more
 -- what is still to come of a number
 unfoldable pub toCome : Tape → Number → Bytes
 toCome t n = collapse (n .begun) (n .gap) (bytesOf (t .source) (n .rest) ++ textsOf t (walkFrom t (n .next)))
+
+-- a walk before a number's first byte: no text is begun, and the first child is next
+unfoldable pub walkOf : Tape → ℕ → Number
+walkOf t k = record { rest = record { start = 0; len = 0 }; next = firstChild t k; begun = false; gap = false }
 
 -- an answer: a piece, with or without a space in front, and what comes behind it
 unfoldable pub pieceList : Tape → Piece → Bytes

@@ -35,7 +35,8 @@ pub fn value(source: &[u8], v: Value) {
 
 fn pair(source: &[u8], key: Key, v: Value) {
     say::run(b" ");
-    say::run(attrs::key_of(source, b"lemmaglosshrefloclink-hrefidwhodefaultfile", key));
+    let fixed = attrs::FIXED_KEYS;
+    say::run(attrs::key_of(source, &fixed, key));
     say::run(b"=");
     value(source, v);
 }

@@ -97,7 +97,8 @@ fn put_pair(w: Window, out: &mut [u8], key: &[u8], source: &[u8], v: Value) -> W
 fn put_next(w: Window, out: &mut [u8], source: &[u8], k: Key, v: Value) -> Window
     ensures { λ r. ⌜ pageOf r (now (out .exit)) ≡ paint (pageOf w (now (out .entry))) (attrBytes (escaped (keyOf (now (source .entry)) fixedKeys k) (valueOf (now (source .entry)) v))) ⌝ }
 {
-    let key = attrs::key_of(source, b"lemmaglosshrefloclink-hrefidwhodefaultfile", k);
+    let fixed = attrs::FIXED_KEYS;
+    let key = attrs::key_of(source, &fixed, k);
     put_pair(w, out, key, source, v)
 }
 

@@ -8,10 +8,10 @@ use Rattle.attrs.proofs.first_with.Statement.{statement}
 use Rattle.attrs.proofs.first_with.Tie as tie
 
 abbrev Inv-loop : tie.InvT-loop
-Inv-loop file tape marker key left₀ t10 left = firstOf key (remaining (tapeIn tape file) marker left) ≡ firstOf key (remaining (tapeIn tape file) marker left₀)
+Inv-loop file tape marker key left₀ left = firstOf key (remaining (tapeIn tape file) marker left) ≡ firstOf key (remaining (tapeIn tape file) marker left₀)
 
 abbrev μ-loop : tie.MeasureT-loop
-μ-loop file tape marker key left₀ t10 left = length (remaining (tapeIn tape file) marker left)
+μ-loop file tape marker key left₀ left = length (remaining (tapeIn tape file) marker left)
 
 of-requires : tie.Need-of-requires Inv-loop μ-loop
 of-requires c κs = search needs
@@ -34,14 +34,8 @@ enum-known-k c = search needs
 source-requires : tie.Need-source-requires Inv-loop μ-loop
 source-requires c κs = search needs
 
-slice-aggregate-key-of : tie.Need-slice-aggregate-key-of Inv-loop μ-loop
-slice-aggregate-key-of c = search needs
-
-key-of-requires : tie.Need-key-of-requires Inv-loop μ-loop
-key-of-requires c κs = search needs
-
-same-requires : tie.Need-same-requires Inv-loop μ-loop
-same-requires c κs = search needs
+is-key-requires : tie.Need-is-key-requires Inv-loop μ-loop
+is-key-requires c κs = search needs
 
 returns-2 : tie.Need-returns-2 Inv-loop μ-loop
 returns-2 c = search sought-found
@@ -65,9 +59,7 @@ first-with-spec =
     returns
     enum-known-k
     source-requires
-    slice-aggregate-key-of
-    key-of-requires
-    same-requires
+    is-key-requires
     returns-2
     loop-less
     loop-again)

@@ -1,3 +1,4 @@
+use Rattle.attrs.specs.Walk.{attrsOf}
 use Rattle.attrs.proofs.Walks.{walk-starts}
 use borrow.Author.Needs.{needs}
 use Rattle.attrs.proofs.Attrs.of.Statement.{statement}
@@ -7,7 +8,8 @@ first-child-requires : tie.Need-first-child-requires
 first-child-requires c κs = search needs
 
 returns : tie.Need-returns
-returns c = search walk-starts
+unfolding attrsOf
+returns c = (search walk-starts, rw (c .first-child .ensures))
 
 pub of-spec : {M : Type 1} → statement M
 of-spec = tie.close (tie.spec first-child-requires returns)
