@@ -12,10 +12,11 @@ use borrow.Author.Tests.{eq-eqb, ne-eqb, eqb-true, eqb-false, not-true}
 use Rattle.parts.proofs.Laws.{and-true, same-true, same-refl}
 use Rattle.tags.specs.Form.{Token}
 use Rattle.parts.specs.Bytes.{same}
-use Rattle.checker.specs.Rules.{Mark, bare, plain, other, start, ends, View, words, opened, closed, single, view, rise, Held, shut, held, Turned, begun, ended, wrong, turn, Pairs, missed, chapterTo, verseTo, isShut, isMilestone, pairUp}
+use Rattle.checker.specs.View.{Mark, bare, plain, other, start, ends, View, words, opened, closed, single, view, views}
+use Rattle.checker.specs.Words.{startsIn, openings, closings, heightOf, SomeHigh}
+use Rattle.checker.specs.Steps.{rise, Held, shut, held, Turned, begun, ended, wrong, turn, Pairs, missed, chapterTo, verseTo, isShut, isMilestone, pairUp}
+use Rattle.checker.specs.Meaning.{since, openBehind, Fits, of-words, of-open, of-close, of-single, chapter-start, chapter-end, verse-start, verse-end, Milestones}
 use Rattle.checker.specs.Check.{Run, stepOn, foldOn, atStart, pairedOff}
-use Rattle.checker.specs.Words.{views, startsIn}
-use Rattle.checker.specs.Meaning.{openings, closings, heightOf, SomeHigh, since, openBehind, Fits, of-words, of-open, of-close, of-single, chapter-start, chapter-end, verse-start, verse-end, Milestones}
 
 -- ---- the fold over what the rules see
 

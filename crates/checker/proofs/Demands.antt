@@ -8,9 +8,10 @@ use native.Mathlib.Omega.{arith}
 use lib.Dec.{eqb}
 use borrow.Author.Tests.{eq-eqb, eqb-true, eqb-false}
 use Rattle.parts.specs.Bytes.{Bytes}
-use Rattle.checker.specs.Rules.{start, ends, bare, plain, other, View, words, opened, closed, single, Held, shut, held}
-use Rattle.checker.specs.Meaning.{since, openBehind, Fits, of-words, of-open, of-close, of-single, chapter-start, chapter-end, verse-start, verse-end, Milestones}
+use Rattle.checker.specs.View.{start, ends, bare, plain, other, View, words, opened, closed, single}
 use Rattle.checker.specs.Words.{Kind, Starts, Ends, None, Proper, p-words, p-open, p-close, p-other, p-start, p-end, HasEnd, HasStart, Demand}
+use Rattle.checker.specs.Steps.{Held, shut, held}
+use Rattle.checker.specs.Meaning.{since, openBehind, Fits, of-words, of-open, of-close, of-single, chapter-start, chapter-end, verse-start, verse-end, Milestones}
 
 -- ---- rows
 
@@ -224,15 +225,20 @@ held-shut e = absurd (let no-way : _≡_ {A = ℕ} 0 1 = cc in omega arith)
 ends-here : (k : ℕ) (i : Bytes) (v : View) (vs : List View) → v ≡ single k (ends i) → Right k (held i) (v ∷ vs) → HasEnd k i (v ∷ vs)
 unfolding openBehind
 ends-here k i v vs x r =
-    record { between = []; after = vs; here = ap (λ (u : View). u ∷ vs) x; before-next = none-nil (Starts k); one = one }
+    record {
+      between = [];
+      after = vs;
+      here = ap (λ (u : View). u ∷ vs) x;
+      before-next = none-nil (Starts k);
+      no-earlier = none-nil (Ends k);
+      no-later = later;
+    }
   where
-    one : (m : List View) (j : Bytes) (n : List View) → v ∷ vs ≡ m ++ single k (ends j) ∷ n → None (Starts k) m → m ≡ []
-    one [] j n e s = refl
-    one (u ∷ m) j n e s =
-        let uv : v ≡ u = cc in
-        let behind : openBehind k (held i) (u ∷ m) ≡ held j = r .at-end (u ∷ m) j n e in
-        let closed-by : since k (held i) u ≡ shut = since-end k (held i) i u (sym uv ∙ x) in
-        no-held (sym (stays-shut k m (none-rest (Starts k) u m s)) ∙ ap (λ (h : Held). openBehind k h m) (sym closed-by) ∙ behind)
+    later : (m : List View) (u : View) (n : List View) → vs ≡ m ++ u ∷ n → Ends k u → None (Starts k) m → ⊥
+    later m u n e w s =
+        let behind : openBehind k (held i) (v ∷ m) ≡ held (w .0) = r .at-end (v ∷ m) (w .0) n (ap (λ (l : List View). v ∷ l) (e ∙ ap (λ (z : View). m ++ z ∷ n) (w .1))) in
+        let closed-by : since k (held i) v ≡ shut = since-end k (held i) i v x in
+        no-held (sym (stays-shut k m s) ∙ ap (λ (h : Held). openBehind k h m) (sym closed-by) ∙ behind)
 
 -- a tag of another sort in front changes nothing
 ends-later : (k : ℕ) (i : Bytes) (v : View) (vs : List View) → (Starts k v → ⊥) → (Ends k v → ⊥) → HasEnd k i vs → HasEnd k i (v ∷ vs)
@@ -242,15 +248,9 @@ ends-later k i v vs ns ne w =
       after = w .after;
       here = ap (λ (l : List View). v ∷ l) (w .here);
       before-next = none-cons (Starts k) v (w .between) ns (w .before-next);
-      one = one;
+      no-earlier = none-cons (Ends k) v (w .between) ne (w .no-earlier);
+      no-later = w .no-later;
     }
-  where
-    one : (m : List View) (j : Bytes) (n : List View) → v ∷ vs ≡ m ++ single k (ends j) ∷ n → None (Starts k) m → m ≡ v ∷ w .between
-    one [] j n e s = let q : v ≡ single k (ends j) = cc in absurd (ne (j, q))
-    one (u ∷ m) j n e s =
-        let uv : u ≡ v = cc in
-        let rest : vs ≡ m ++ single k (ends j) ∷ n = cc in
-        let mb : m ≡ w .between = w .one m j n rest (none-rest (Starts k) u m s) in cc
 
 has-end : (k : ℕ) (i : Bytes) (vs : List View) → Right k (held i) vs → HasEnd k i vs
 unfolding openBehind

@@ -4,10 +4,12 @@ use mathlib.Core.List.{List, [], _∷_, _++_}
 use Prim.Native.Nat.{ℕ, zero, suc}
 use Rattle.parts.specs.Bytes.{Bytes, b, same, begins}
 use Rattle.tags.specs.Names.{which, elementAt}
-use Rattle.tags.specs.Form.{plain, escape, keyByte, ok, run, pairAt, pairsAt, pairsFrom, closeHead, openHead, textHead, headAt, tailAt, ended, tagged, headed, next, tokensAt, tokensFrom, tokens}
-use Rattle.checker.specs.Rules.{notedBy, noted, markOn, view, rise, broke, push, pop, growIn, grow, turn, missed, chapterTo, verseTo, isShut, isMilestone, pairUp}
-use Rattle.checker.specs.Place.{isBroken, brokenAt, brokenFrom, placeOf, lineEnd, lineEnds, lineOf}
-use Rattle.checker.specs.Check.{stepOn, foldOn, noneOpen, oneTree, pairedOff, verdictOf, settle, answerOf, numberOf, chaptersOf, versesOf}
+use Rattle.tags.specs.Form.{plain, escapeAt, keyByte, ok, run, pairAt, pairsAt, pairsFrom, closeHead, openHead, textHead, headAt, tailAt, ended, tagged, headed, next, tokensAt, tokensFrom, tokens}
+use Rattle.checker.specs.View.{keyOf, notedBy, noted, markOn, view}
+use Rattle.checker.specs.Steps.{rise, broke, push, pop, growIn, grow, turn, missed, chapterTo, verseTo, isShut, isMilestone, pairUp}
+use Rattle.checker.specs.Check.{stepOn, foldOn, noneOpen, oneTree, pairedOff, verdictOf, settle, foldVerdict}
+use Rattle.checker.specs.Answer.{Answer, answerOf}
+use Rattle.checker.specs.Place.{isBroken, brokenAt, brokenFrom, brokenPlace, lineEnd, lineEnds, lineOf}
 
 abbrev framed : Bytes → Bytes
 framed s = b "<usx version=\"3.0\">" ++ (s ++ b "</usx>")
@@ -16,16 +18,14 @@ abbrev nested : ℕ → Bytes
 nested zero = []
 nested (suc n) = b "<char>" ++ (nested n ++ b "</char>")
 
--- a text, document 01's number and the counts
+-- a text and document 01's answer to it
 pub record Row : Type 0 where
   pub text : Bytes
-  pub number : ℕ
-  pub chapters : ℕ
-  pub verses : ℕ
+  pub answer : Answer
 
 infix 70 _gives_and_and_
 abbrev _gives_and_and_ : Bytes → ℕ → ℕ → ℕ → Row
-s gives n and c and v = record { text = s; number = n; chapters = c; verses = v }
+s gives n and c and v = record { text = s; answer = record { number = n; chapters = c; verses = v } }
 
 abbrev pub table : List Row
 table =
@@ -51,13 +51,11 @@ table =
 
 abbrev Each : List Row → Type 0
 Each [] = Unit {0}
-Each (r ∷ rs) =
-    (numberOf (answerOf (r .text)) ≡ r .number) × (chaptersOf (answerOf (r .text)) ≡ r .chapters) × (versesOf (answerOf (r .text)) ≡ r .verses) × Each rs
+Each (r ∷ rs) = (answerOf (foldVerdict (r .text)) ≡ r .answer) × Each rs
 
 pub examples : Each table
-unfolding plain escape keyByte ok run which elementAt pairAt pairsAt pairsFrom closeHead openHead textHead headAt tailAt ended tagged headed next tokensAt tokensFrom tokens notedBy noted markOn view rise broke push pop growIn grow turn missed chapterTo verseTo isShut isMilestone pairUp stepOn foldOn noneOpen oneTree pairedOff verdictOf settle answerOf same begins numberOf chaptersOf versesOf
-examples =
-    (refl, refl, refl, (refl, refl, refl, (refl, refl, refl, (refl, refl, refl, (refl, refl, refl, (refl, refl, refl, (refl, refl, refl, (refl, refl, refl, (refl, refl, refl, (refl, refl, refl, (refl, refl, refl, (refl, refl, refl, (refl, refl, refl, (refl, refl, refl, (refl, refl, refl, (refl, refl, refl, (refl, refl, refl, tt)))))))))))))))))
+unfolding plain escapeAt keyByte ok run which elementAt pairAt pairsAt pairsFrom closeHead openHead textHead headAt tailAt ended tagged headed next tokensAt tokensFrom tokens notedBy noted markOn view rise broke push pop growIn grow turn missed chapterTo verseTo isShut isMilestone pairUp stepOn foldOn noneOpen oneTree pairedOff verdictOf settle foldVerdict same begins answerOf keyOf
+examples = (refl, (refl, (refl, (refl, (refl, (refl, (refl, (refl, (refl, (refl, (refl, (refl, (refl, (refl, (refl, (refl, (refl, tt)))))))))))))))))
 
 -- a text, and the bytes before the place where its first rule breaks, and the line of it
 pub record Spot : Type 0 where
@@ -84,8 +82,8 @@ spots =
 abbrev EachSpot : List Spot → Type 0
 EachSpot [] = Unit {0}
 EachSpot (r ∷ rs) =
-    (placeOf (answerOf (r .text)) (r .text) ≡ r .place) × (lineOf (r .text) (r .place) ≡ r .line) × EachSpot rs
+    (brokenPlace (foldVerdict (r .text)) (r .text) ≡ r .place) × (lineOf (r .text) (r .place) ≡ r .line) × EachSpot rs
 
 pub places : EachSpot spots
-unfolding plain escape keyByte ok run which elementAt pairAt pairsAt pairsFrom closeHead openHead textHead headAt tailAt ended tagged headed next tokensAt tokensFrom tokens notedBy noted markOn view rise broke push pop growIn grow turn missed chapterTo verseTo isShut isMilestone pairUp stepOn foldOn noneOpen oneTree pairedOff verdictOf settle answerOf same begins isBroken brokenAt brokenFrom placeOf lineEnd lineEnds lineOf
+unfolding plain escapeAt keyByte ok run which elementAt pairAt pairsAt pairsFrom closeHead openHead textHead headAt tailAt ended tagged headed next tokensAt tokensFrom tokens notedBy noted markOn view rise broke push pop growIn grow turn missed chapterTo verseTo isShut isMilestone pairUp stepOn foldOn noneOpen oneTree pairedOff verdictOf settle foldVerdict same begins keyOf isBroken brokenAt brokenFrom brokenPlace lineEnd lineEnds lineOf
 places = (refl, refl, (refl, refl, (refl, refl, (refl, refl, (refl, refl, (refl, refl, (refl, refl, (refl, refl, tt))))))))

@@ -1,6 +1,8 @@
 -- Neighbouring texts are nothing to the rules: rendered items are accepted where they are right with their texts apart.
 use mathlib.Core.Path.{_≡_, refl, sym, ap, _∙_, subst}
-use mathlib.Core.Bool.{Bool, true, false, cond, _||_}
+use mathlib.Core.Bool.{Bool, true, false, cond, not, _||_, or-true}
+use borrow.Author.Tests.{not-true}
+use Rattle.parts.proofs.Laws.{and-true}
 use mathlib.Core.List.{List, [], _∷_}
 use Prim.Native.Nat.{ℕ}
 use lib.IntN.{ℤ, pos}
@@ -8,25 +10,85 @@ use lib.Signed.{ltZ}
 use Rattle.parts.specs.Bytes.{Bytes}
 use Rattle.tags.specs.Form.{Token, text as textToken, opens, closes, empty as emptyToken}
 use Rattle.tags.specs.Write.{TagForm}
-use Rattle.tags.specs.Items.{Item, start, empty, close, text, line, join, tokensOf}
-use Rattle.checker.specs.Rules.{View, words, view, rise, Trunk, broke, growIn, grow, Pairs, pairUp}
-use Rattle.checker.specs.Check.{atStart, oneTree, pairedOff, verdictOf, answerOf}
-use Rattle.checker.specs.Meaning.{SomeHigh, Milestones}
-use Rattle.checker.specs.Words.{views, Demand, startsIn, UsxTree}
-use Rattle.checker.specs.Pairing.{Event, chaptersIn, versesIn, PlainEvents, Frame, PlainFrame, whole, bones, apart}
-use Rattle.checker.specs.declared.Verdict.the-variants.{Accepted}
-use Rattle.checker.proofs.Decides.{folds, pairFold, pairs-of, milestones-decide, milestones-counted}
-use Rattle.checker.proofs.Trees.{tree-decides}
+use Rattle.tags.specs.Items.{Item, start, empty, close, text, line, join, tokensOf, apart}
+use Rattle.tags.specs.Element as el
+use Rattle.checker.specs.View.{View, words, view, views}
+use Rattle.checker.specs.Answer.{accepted, answerOf}
+use Rattle.checker.specs.Words.{SomeHigh, Demand, startsIn, UsxTree}
+use Rattle.checker.specs.Steps.{rise, Trunk, broke, growIn, grow, Pairs, pairUp}
+use Rattle.checker.specs.Meaning.{Milestones}
+use Rattle.checker.specs.Check.{Run, stepOn, atStart, oneTree, pairedOff, verdictOf, foldVerdict}
+use Rattle.checker.proofs.Decides.{folds, never, pairFold, pairs-of, milestones-decide, milestones-counted}
+use Rattle.checker.proofs.Trees.{grow-stays, on-grows, tree-decides}
 use Rattle.checker.proofs.Demands.{demand-exact}
 use Rattle.checker.proofs.Usx.{usx-exact}
 use Rattle.checker.proofs.Answers.{by-tokens, is-low}
-use Rattle.checker.proofs.Accepts.{trunkFold, trunk-of, going, highFold, high-of, Noted, or-noted, noted-on, tree-whole, whole-milestones, whole-counts, whole-low, whole-tree}
+
+-- ---- the tree and the height alone
+
+unfoldable pub trunkFold : Trunk → List View → Trunk
+trunkFold t [] = t
+trunkFold t (v ∷ vs) = trunkFold (grow t v) vs
+
+pub trunk-of : (r : Run) (vs : List View) → folds r vs .trunk ≡ trunkFold (r .trunk) vs
+unfolding folds trunkFold stepOn
+trunk-of r [] = refl
+trunk-of r (v ∷ vs) = trunk-of (stepOn r v) vs
+
+fold-stays : (t : Trunk) (vs : List View) → t .broken ≡ true → trunkFold t vs .broken ≡ true
+unfolding trunkFold
+fold-stays t [] e = e
+fold-stays t (v ∷ vs) e = fold-stays (grow t v) vs (grow-stays t v e)
+
+whole-first : (t : Trunk) (vs : List View) → trunkFold t vs .broken ≡ false → t .broken ≡ false
+whole-first t vs e = go (t .broken) refl
+  where
+    go : (z : Bool) → t .broken ≡ z → t .broken ≡ false
+    go false i = i
+    go true i = never (sym e ∙ fold-stays t vs i)
+
+pub going : (t : Trunk) (v : View) (vs : List View) → trunkFold t (v ∷ vs) .broken ≡ false → t .done ≡ false
+unfolding trunkFold
+going t v vs e =
+    on-grows t (whole-first t (v ∷ vs) e) v (whole-first (grow t v) vs e) .0
+
+pub tree-whole : (t : Trunk) → oneTree t ≡ true → t .broken ≡ false
+unfolding oneTree
+tree-whole t e = not-true (t .broken) (and-true (not (t .broken)) _ e .0)
+
+unfoldable pub highFold : ℤ → Bool → List View → Bool
+highFold h g [] = g
+highFold h g (v ∷ vs) = highFold (rise h v) (g || ltZ (pos 160) (rise h v)) vs
+
+pub high-of : (r : Run) (vs : List View) → folds r vs .high ≡ highFold (r .height) (r .high) vs
+unfolding folds highFold stepOn
+high-of r [] = refl
+high-of r (v ∷ vs) = high-of (stepOn r v) vs
+
+-- a height over 160 was noted
+abbrev pub Noted : ℤ → Bool → Type 0
+Noted h g = ltZ (pos 160) h ≡ true → g ≡ true
+
+pub or-noted : (h : ℤ) (g : Bool) → Noted h g → (g || ltZ (pos 160) h) ≡ g
+or-noted h g i = go g (ltZ (pos 160) h) i
+  where
+    go : (g x : Bool) → (x ≡ true → g ≡ true) → (g || x) ≡ g
+    go true x i = refl
+    go false true i = never (i refl)
+    go false false i = refl
+
+pub noted-on : (h : ℤ) (g : Bool) → Noted h (g || ltZ (pos 160) h)
+noted-on h g e = rw e (or-true g)
 
 -- ---- a text more or less
 
 words-keep : (t : Trunk) → t .done ≡ false → grow t words ≡ t
 unfolding grow growIn
-words-keep t d = ap (λ (z : Bool). cond z (broke t) t) d
+words-keep t d = go (t .broken)
+  where
+    go : (x : Bool) → cond x t (cond (t .done) (broke t) t) ≡ t
+    go true = refl
+    go false = ap (λ (z : Bool). cond z (broke t) t) d
 
 -- milestones
 join-pairs : (p : Pairs) (s : Bytes) (ts : List Token) → pairFold p (views (join s ts)) ≡ pairFold p (views ts)
@@ -102,10 +164,10 @@ same-high h g (line d ∷ is) i = join-high h g _ (tokensOf is) i ∙ same-high 
 
 -- a text whose tokens are rendered items is accepted where the items, their texts apart, are right
 pub items-accepted : (is : List Item) (s : Bytes) → TagForm s (tokensOf is) → (SomeHigh (views (apart is)) → ⊥) → UsxTree (views (apart is)) → Demand (views (apart is))
-    → answerOf s ≡ Accepted (startsIn 3 (views (apart is))) (startsIn 4 (views (apart is)))
-unfolding verdictOf
+    → answerOf (foldVerdict s) ≡ accepted (startsIn el.chapter (views (apart is))) (startsIn el.verse (views (apart is)))
+unfolding verdictOf answerOf
 items-accepted is s f low one d =
-    by-tokens s (tokensOf is) f ∙ rw (high, ap oneTree trunk ∙ t, ap pairedOff pairs ∙ milestones-decide vs .1 m, ap (λ (p : Pairs). p .chapters) pairs ∙ n .0, ap (λ (p : Pairs). p .verses) pairs ∙ n .1)
+    ap answerOf (by-tokens s (tokensOf is) f) ∙ rw (high, ap oneTree trunk ∙ t, ap pairedOff pairs ∙ milestones-decide vs .1 m, ap (λ (p : Pairs). p .chapters) pairs ∙ n .0, ap (λ (p : Pairs). p .verses) pairs ∙ n .1)
   where
     vs : List View
     vs = views (apart is)
@@ -114,7 +176,7 @@ items-accepted is s f low one d =
     l = is-low vs low
 
     t : oneTree (folds atStart vs .trunk) ≡ true
-    t = tree-decides vs l .1 (usx-exact vs .1 one)
+    t = tree-decides vs .1 (usx-exact vs .1 one)
 
     m : Milestones vs
     m = demand-exact vs .1 d
@@ -133,15 +195,3 @@ items-accepted is s f low one d =
 
     pairs : folds atStart (views (tokensOf is)) .pairs ≡ folds atStart vs .pairs
     pairs = pairs-of atStart (views (tokensOf is)) ∙ same-pairs (atStart .pairs) is ∙ sym (pairs-of atStart vs)
-
--- and so is what pairing makes of any events that are one tree of small height without it
-pub paired-accepted : (is : List Item) (f : Frame) (es : List Event) (s : Bytes) → apart is ≡ whole f es → TagForm s (tokensOf is) → PlainFrame f → PlainEvents es
-    → (SomeHigh (views (bones f es)) → ⊥) → UsxTree (views (bones f es)) → answerOf s ≡ Accepted (chaptersIn es) (versesIn es)
-paired-accepted is f es s e form h g low one =
-    let n = whole-counts f es h g in
-    items-accepted is s form
-    (subst (λ (ts : List Token). SomeHigh (views ts) → ⊥) (sym e) (whole-low f es low one))
-    (subst (λ (ts : List Token). UsxTree (views ts)) (sym e) (whole-tree f es low one))
-    (subst (λ (ts : List Token). Demand (views ts)) (sym e) (whole-milestones f es h g))
-    ∙ ap (λ (ts : List Token). Accepted (startsIn 3 (views ts)) (startsIn 4 (views ts))) e
-    ∙ ap (λ (k : ℕ). Accepted k (startsIn 4 (views (whole f es)))) (n .0) ∙ ap (Accepted (chaptersIn es)) (n .1)

@@ -1,11 +1,11 @@
 -- Laws of attributes and tokens: what one step of the code reads.
 use mathlib.Core.Path.{_≡_, sym, ap, _∙_, subst}
-use mathlib.Core.Bool.{Bool, true, false}
 use mathlib.Core.List.{List}
 use Prim.Native.Nat.{ℕ, _+_, _-_, _≤_}
 use native.Mathlib.Omega.{arith}
 use lib.ListN.{length, take, drop, length-drop}
 use lib.Seq.{drop-drop}
+use mathlib.Core.Bool.{Bool, true, false}
 use Rattle.parts.specs.Bytes.{Bytes, b, same}
 use Rattle.tags.specs.Form.{Pair, Row, pairAt, pairLen, pairOf, morePairs, pairsFrom, headAt, tailAt, ended, tagged, headed, next}
 use Rattle.tags.specs.declared.Found.{Found}
@@ -16,9 +16,11 @@ use Rattle.tags.specs.declared.Tail.{Tail}
 use Rattle.tags.specs.declared.Tail.the-variants.{Open, Empty, Neither}
 use Rattle.tags.proofs.Laws.{pair-fits, pairs-by}
 use Rattle.tags.proofs.Tokens.{Within, head-within, tailLen, tail-fits}
-use Rattle.checker.specs.Rules.{Mark, bare, notedBy, noted, markOn, words, opened, closed, single, view}
-use Rattle.checker.specs.Check.{markIn, bytesOf, viewIn, sight, brief, sightIn}
+use Rattle.checker.specs.View.{Mark, bare, keyOf, notedBy, noted, markOn, words, opened, closed, single, view}
+use Rattle.checker.specs.Code.{markIn, bytesOf, viewIn, sight, brief, sightIn}
 use Rattle.checker.specs.declared.Part.{Part}
+use Rattle.checker.specs.declared.IdKey.{IdKey}
+use Rattle.checker.specs.declared.IdKey.the-variants.{Eid, Sid, Another}
 use Rattle.checker.specs.declared.Form.{Form}
 use Rattle.checker.specs.declared.Form.the-variants.{Bare, Plain, Start, End, Other}
 use Rattle.checker.specs.declared.Tag.the-variants.{Words, Opened, Closed, Single}
@@ -56,58 +58,72 @@ module _ (x : List ℕ) (i : ℕ) {p : Found} (e : p ≡ pairAt (drop i x)) wher
       let none : pairsFrom (drop i x) ≡ morePairs pairsFrom (drop i x) Nothing = pairs-by (drop i x) Nothing (sym e ∙ is) in
       (sym (ap (λ (a : Row). a .rest) none) ∙ er, sym (ap (λ (a : Row). markOn (markIn x f) (a .list)) none) ∙ em)
 
--- one more attribute, by the form and the two tests
-module _ (v : Part) {f : Form} (e s : Bool) (x : List ℕ) where
-  pub formed-bare-end : f ≡ Bare → e ≡ true → markIn x (End v) ≡ notedBy (markIn x f) e s (bytesOf x v)
+-- one more attribute, by the form and the key
+module _ (v : Part) {f : Form} (k : IdKey) (x : List ℕ) where
+  pub formed-bare-end : f ≡ Bare → k ≡ Eid → markIn x (End v) ≡ notedBy (markIn x f) k (bytesOf x v)
   unfolding markIn notedBy
   formed-bare-end i h = rw (i, h)
 
-  pub formed-bare-start : f ≡ Bare → e ≡ false → s ≡ true → markIn x (Start v) ≡ notedBy (markIn x f) e s (bytesOf x v)
+  pub formed-bare-start : f ≡ Bare → k ≡ Sid → markIn x (Start v) ≡ notedBy (markIn x f) k (bytesOf x v)
   unfolding markIn notedBy
-  formed-bare-start i h l = rw (i, h, l)
+  formed-bare-start i h = rw (i, h)
 
-  pub formed-bare-plain : f ≡ Bare → e ≡ false → s ≡ false → markIn x Plain ≡ notedBy (markIn x f) e s (bytesOf x v)
+  pub formed-bare-plain : f ≡ Bare → k ≡ Another → markIn x Plain ≡ notedBy (markIn x f) k (bytesOf x v)
   unfolding markIn notedBy
-  formed-bare-plain i h l = rw (i, h, l)
+  formed-bare-plain i h = rw (i, h)
 
-  pub formed-plain-end : f ≡ Plain → e ≡ true → markIn x Other ≡ notedBy (markIn x f) e s (bytesOf x v)
+  pub formed-plain-end : f ≡ Plain → k ≡ Eid → markIn x Other ≡ notedBy (markIn x f) k (bytesOf x v)
   unfolding markIn notedBy
   formed-plain-end i h = rw (i, h)
 
-  pub formed-plain-start : f ≡ Plain → e ≡ false → s ≡ true → markIn x (Start v) ≡ notedBy (markIn x f) e s (bytesOf x v)
+  pub formed-plain-start : f ≡ Plain → k ≡ Sid → markIn x (Start v) ≡ notedBy (markIn x f) k (bytesOf x v)
   unfolding markIn notedBy
-  formed-plain-start i h l = rw (i, h, l)
+  formed-plain-start i h = rw (i, h)
 
-  pub formed-plain : f ≡ Plain → e ≡ false → s ≡ false → markIn x Plain ≡ notedBy (markIn x f) e s (bytesOf x v)
+  pub formed-plain : f ≡ Plain → k ≡ Another → markIn x Plain ≡ notedBy (markIn x f) k (bytesOf x v)
   unfolding markIn notedBy
-  formed-plain i h l = rw (i, h, l)
+  formed-plain i h = rw (i, h)
 
-  pub formed-start-end : (p : Part) → f ≡ Start p → e ≡ true → markIn x Other ≡ notedBy (markIn x f) e s (bytesOf x v)
+  pub formed-start-end : (p : Part) → f ≡ Start p → k ≡ Eid → markIn x Other ≡ notedBy (markIn x f) k (bytesOf x v)
   unfolding markIn notedBy
   formed-start-end p i h = rw (i, h)
 
-  pub formed-start-start : (p : Part) → f ≡ Start p → e ≡ false → s ≡ true → markIn x Other ≡ notedBy (markIn x f) e s (bytesOf x v)
+  pub formed-start-start : (p : Part) → f ≡ Start p → k ≡ Sid → markIn x Other ≡ notedBy (markIn x f) k (bytesOf x v)
   unfolding markIn notedBy
-  formed-start-start p i h l = rw (i, h, l)
+  formed-start-start p i h = rw (i, h)
 
-  pub formed-start : (p : Part) → f ≡ Start p → e ≡ false → s ≡ false → markIn x (Start p) ≡ notedBy (markIn x f) e s (bytesOf x v)
+  pub formed-start : (p : Part) → f ≡ Start p → k ≡ Another → markIn x (Start p) ≡ notedBy (markIn x f) k (bytesOf x v)
   unfolding markIn notedBy
-  formed-start p i h l = rw (i, h, l)
+  formed-start p i h = rw (i, h)
 
-  pub formed-end : (p : Part) → f ≡ End p → markIn x Other ≡ notedBy (markIn x f) e s (bytesOf x v)
+  pub formed-end : (p : Part) → f ≡ End p → markIn x Other ≡ notedBy (markIn x f) k (bytesOf x v)
   unfolding markIn notedBy
   formed-end p i = rw i
 
-  pub formed-other : f ≡ Other → markIn x Other ≡ notedBy (markIn x f) e s (bytesOf x v)
+  pub formed-other : f ≡ Other → markIn x Other ≡ notedBy (markIn x f) k (bytesOf x v)
   unfolding markIn notedBy
   formed-other i = rw i
 
 pub ruleset formed-laws = (formed-bare-end, formed-bare-start, formed-bare-plain, formed-plain-end, formed-plain-start, formed-plain, formed-start-end, formed-start-start, formed-start, formed-end, formed-other)
 
-pub with-attr : {e s : Bool} (m : Mark) {n : Mark} (key v : List ℕ) → e ≡ same key (b "eid") → s ≡ same key (b "sid") → n ≡ notedBy m e s v
-    → n ≡ noted m (record { key = key; value = v })
+pub with-attr : {k : IdKey} (m : Mark) {n : Mark} (key v : List ℕ) → k ≡ keyOf key → n ≡ notedBy m k v → n ≡ noted m (record { key = key; value = v })
 unfolding noted
-with-attr m key v ee es h = rw (← ee, ← es) h
+with-attr m key v e h = rw (← e) h
+
+-- the key by two tests
+module _ (key : Bytes) {e : Bool} (ee : e ≡ same key (b "eid")) where
+  pub key-eid : e ≡ true → Eid ≡ keyOf key
+  unfolding keyOf
+  key-eid h = rw (← ee, h)
+
+  module _ {s : Bool} (es : s ≡ same key (b "sid")) (h : e ≡ false) where
+    pub key-sid : s ≡ true → Sid ≡ keyOf key
+    unfolding keyOf
+    key-sid l = rw (← ee, h, ← es, l)
+
+    pub key-another : s ≡ false → Another ≡ keyOf key
+    unfolding keyOf
+    key-another l = rw (← ee, h, ← es, l)
 
 -- ---- tokens
 

@@ -7,7 +7,6 @@ pub mod Tags
 pub mod Demands
 pub mod Usx
 pub mod Answers
-pub mod Accepts
 pub mod Example
 pub mod Joined
 pub mod Places

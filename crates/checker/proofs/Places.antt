@@ -1,6 +1,6 @@
 -- Laws of the search for the place where the first rule broke.
 use mathlib.Core.Path.{_≡_, refl, sym, ap, _∙_}
-use mathlib.Core.Bool.{Bool, true, false, cond}
+use mathlib.Core.Bool.{Bool, true, false, cond, _||_}
 use mathlib.Core.List.{List, [], _∷_}
 use Prim.Native.Nat.{ℕ, zero, suc, _+_, _-_, _≤_, _<_}
 use native.Mathlib.Omega.{arith}
@@ -11,14 +11,17 @@ use native.Mathlib.Numerals.{add-one}
 use Rattle.parts.specs.Bytes.{Bytes, begins, part}
 use Rattle.tags.specs.Form.{Read, bad, got, next, opening}
 use Rattle.tags.proofs.Tokens.{Shorter, next-shorter}
-use Rattle.checker.specs.Rules.{view}
-use Rattle.checker.specs.Check.{Run, stepOn, atStart, viewIn, brief, sightIn, stackOf, heldIn, runIn, stateAtStart}
-use Rattle.checker.specs.Place.{isBroken, moreBroken, brokenAt, brokenFrom, placeOf, lineEnd, lineEnds, lineOf}
+use Rattle.checker.specs.View.{View, view}
+use Rattle.checker.specs.Steps.{Pairs}
+use Rattle.checker.specs.Check.{Run, stepOn, atStart, Alike}
+use Rattle.checker.specs.Code.{viewIn, brief, sightIn, stackOf, heldIn, runIn, stateAtStart, room, Stepped}
+use Rattle.checker.specs.Place.{isBroken, moreBroken, brokenAt, brokenFrom, brokenPlace, lineEnd, lineEnds, lineOf}
 use Rattle.checker.specs.declared.Tag.{Tag}
 use Rattle.checker.specs.declared.Next.the-variants.{Bad, Token as TokenV}
 use Rattle.checker.specs.declared.State.{State}
 use Rattle.checker.specs.declared.Verdict.{Verdict}
-use Rattle.checker.proofs.Whole.{Going, going-start, going-turn, got-one}
+use Rattle.checker.specs.declared.Verdict.the-variants.{Accepted, NotTags, TooHigh, NoTree, BadMarks}
+use Rattle.checker.proofs.Whole.{alike-step, Going, going-start, going-turn, got-one}
 
 -- ---- more fuel changes nothing
 
@@ -48,6 +51,35 @@ broken-by v r s = broken-enough (length s) (suc (length s)) v r s (omega arith) 
     go bad q = refl
     go (got t z) q = ap (cond (isBroken v (stepOn r (view t))) s) (broken-enough (length s) (length z) v (stepOn r (view t)) z (omega arith) (omega arith))
 
+-- ---- runs that differ in a tree which is nothing to the answer
+
+alike-broken : (v : Verdict) {p q : Run} → Alike p q → isBroken v p ≡ isBroken v q
+unfolding isBroken
+alike-broken (Accepted c n) a = refl
+alike-broken NotTags a = refl
+alike-broken TooHigh a = a .high
+alike-broken NoTree {p} {q} a = go (q .high) refl
+  where
+    go : (x : Bool) → q .high ≡ x → (p .high || p .trunk .broken) ≡ (q .high || q .trunk .broken)
+    go true e = rw (a .high, e)
+    go false e = rw (a .high, a .trunk e)
+alike-broken BadMarks a = ap (λ (p : Pairs). p .amiss) (a .pairs)
+
+alike-at : (n : ℕ) (v : Verdict) {p q : Run} (s : Bytes) → Alike p q → brokenAt n v p s ≡ brokenAt n v q s
+unfolding brokenAt
+alike-at zero v s a = refl
+alike-at (suc n) v {p} {q} s a = go (next s) (λ u l. alike-at n v l (alike-step a u))
+  where
+    go : (l : Read) → ((u : View) (l : Bytes) → brokenAt n v (stepOn p u) l ≡ brokenAt n v (stepOn q u) l) → moreBroken (brokenAt n v) v p s l ≡ moreBroken (brokenAt n v) v q s l
+    go bad more = refl
+    go (got t l) more =
+        ap (λ (z : Bool). cond z s (brokenAt n v (stepOn p (view t)) l)) (alike-broken v (alike-step a (view t)))
+        ∙ ap (cond (isBroken v (stepOn q (view t))) s) (more (view t) l)
+
+alike-from : (v : Verdict) {p q : Run} (s : Bytes) → Alike p q → brokenFrom v p s ≡ brokenFrom v q s
+unfolding brokenFrom
+alike-from v s a = alike-at (length s) v s a
+
 -- ---- the loop
 
 -- at a place of the text: what is left breaks the rule where the whole does
@@ -55,7 +87,7 @@ pub record Looking (v : Verdict) (x a : List ℕ) (s : State) (at : ℕ) : Type 
   pub going : Going x a s at
   pub more : brokenFrom v (runIn x s a) (drop at x) ≡ brokenFrom v atStart x
 
-pub look-start : (v : Verdict) (x a : List ℕ) (s : State) → length a ≡ 160 → s ≡ stateAtStart → Looking v x a s 0
+pub look-start : (v : Verdict) (x a : List ℕ) (s : State) → length a ≡ room → s ≡ stateAtStart → Looking v x a s 0
 unfolding heldIn stackOf
 look-start v x a s l e = record { going = going-start x a s l e; more = rw e }
 
@@ -75,15 +107,16 @@ module _ (v : Verdict) (x : List ℕ) (at : ℕ) (h : at < length x) where
       go (got t l) i = absurd (let no-way : _≡_ {A = ℕ} 0 1 = cc in omega arith)
 
   module _ (tag : Tag) (e : ℕ) (is : sightIn x (TokenV tag e) ≡ brief (next (drop at x))) (a a′ : List ℕ) (s s′ : State)
-      (el : length a′ ≡ length a) (er : runIn x s′ a′ ≡ stepOn (runIn x s a) (viewIn x tag)) {u : Bool} (eu : u ≡ isBroken v (runIn x s′ a′)) where
+      (el : length a′ ≡ length a) (st : Stepped x s a tag s′ a′) {u : Bool} (eu : u ≡ isBroken v (runIn x s′ a′)) where
     turned : brokenFrom v (runIn x s a) (drop at x) ≡ cond u (drop at x) (brokenFrom v (runIn x s′ a′) (drop e x))
     turned =
         let one = got-one x at h tag e is in
-        let st : stepOn (runIn x s a) (view (one .0)) ≡ runIn x s′ a′ = ap (stepOn (runIn x s a)) (one .2) ∙ sym er in
+        let r : Run = stepOn (runIn x s a) (viewIn x tag) in
         broken-by v (runIn x s a) (drop at x)
         ∙ ap (moreBroken (brokenFrom v) v (runIn x s a) (drop at x)) (one .1)
-        ∙ ap (λ (r : Run). cond (isBroken v r) (drop at x) (brokenFrom v r (drop e x))) st
-        ∙ ap (λ (z : Bool). cond z (drop at x) (brokenFrom v (runIn x s′ a′) (drop e x))) (sym eu)
+        ∙ ap (λ (w : View). cond (isBroken v (stepOn (runIn x s a) w)) (drop at x) (brokenFrom v (stepOn (runIn x s a) w) (drop e x))) (one .2)
+        ∙ ap (cond (isBroken v r) (drop at x)) (sym (alike-from v (drop e x) (st .alike)))
+        ∙ ap (λ (z : Bool). cond z (drop at x) (brokenFrom v (runIn x s′ a′) (drop e x))) (sym (eu ∙ alike-broken v (st .alike)))
 
     pub look-up : u ≡ true → Looking v x a s at → at ≡ length x - length (brokenFrom v atStart x)
     look-up up g =
@@ -92,7 +125,7 @@ module _ (v : Verdict) (x : List ℕ) (at : ℕ) (h : at < length x) where
     pub look-turn : u ≡ false → Looking v x a s at → Looking v x a′ s′ e
     look-turn down g =
         record {
-          going = going-turn x at h tag e is a a′ s s′ el er (g .going);
+          going = going-turn x at h tag e is a a′ s s′ el st (g .going);
           more = sym (turned ∙ ap (λ (z : Bool). cond z (drop at x) (brokenFrom v (runIn x s′ a′) (drop e x))) down) ∙ g .more;
         }
 
@@ -105,12 +138,12 @@ look-end v x a s at h g =
 -- ---- the place
 
 module _ (v : Verdict) (x : List ℕ) {t : Bool} (e : t ≡ begins opening x) where
-  pub place-front : t ≡ false → 0 ≡ placeOf v x
-  unfolding placeOf
+  pub place-front : t ≡ false → 0 ≡ brokenPlace v x
+  unfolding brokenPlace
   place-front h = rw (← e, h)
 
-  pub place-found : {n : ℕ} → t ≡ true → n ≡ length x - length (brokenFrom v atStart x) → n ≡ placeOf v x
-  unfolding placeOf
+  pub place-found : {n : ℕ} → t ≡ true → n ≡ length x - length (brokenFrom v atStart x) → n ≡ brokenPlace v x
+  unfolding brokenPlace
   place-found h z = rw (← e, h) z
 
 -- ---- lines

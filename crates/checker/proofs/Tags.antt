@@ -1,6 +1,6 @@
 -- What the attributes make a chapter or verse tag, in document 01's words.
 use mathlib.Core.Path.{_≡_, refl, sym, ap, _∙_}
-use mathlib.Core.Bool.{Bool, true, false}
+use mathlib.Core.Bool.{Bool, true, false, cond}
 use mathlib.Core.List.{List, [], _∷_, _++_}
 use mathlib.Core.Logic.{_↔_}
 use Prim.Native.Nat.{ℕ}
@@ -8,8 +8,14 @@ use native.Mathlib.Omega.{arith}
 use Rattle.parts.specs.Bytes.{Bytes, b, same}
 use Rattle.parts.proofs.Laws.{same-true, same-refl}
 use Rattle.tags.specs.Form.{Pair}
-use Rattle.checker.specs.Rules.{Mark, bare, plain, other, start, ends, notedBy, noted, markOn}
+use Rattle.checker.specs.View.{Mark, bare, plain, other, start, ends, keyOf, notedBy, noted, markOn}
+use Rattle.checker.specs.declared.IdKey.{IdKey}
+use Rattle.checker.specs.declared.IdKey.the-variants.{Eid, Sid, Another}
 use Rattle.checker.specs.Words.{No, none, more, IsEnd, IsStart}
+
+-- a key by two tests
+abbrev by : Bool → Bool → IdKey
+by x y = cond x Eid (cond y Sid Another)
 
 key-not : (a : Pair) (k : Bytes) → same (a .key) k ≡ false → a .key ≡ k → ⊥
 key-not a k e i = let no-way : _≡_ {A = ℕ} 0 1 = cc (sym e ∙ ap (λ (z : Bytes). same z k) i ∙ same-refl k) in omega arith
@@ -22,18 +28,18 @@ key-other a k h = go (same (a .key) k) refl
     go true e = absurd (h (same-true (a .key) k e))
 
 other-stays : (ps : List Pair) → markOn other ps ≡ other
-unfolding markOn noted notedBy
+unfolding markOn noted notedBy keyOf
 other-stays [] = refl
 other-stays (a ∷ ps) = other-stays ps
 
 -- ---- behind a start
 
 start-says : (j i : Bytes) (ps : List Pair) → markOn (start j) ps ≡ start i → (j ≡ i) × No (b "sid") ps × No (b "eid") ps
-unfolding markOn noted notedBy
+unfolding markOn noted notedBy keyOf
 start-says j i [] e = let k : j ≡ i = cc in (k, none, none)
 start-says j i (a ∷ ps) e = go (same (a .key) (b "eid")) refl (same (a .key) (b "sid")) refl e (start-says j i ps)
   where
-    go : (x : Bool) → same (a .key) (b "eid") ≡ x → (y : Bool) → same (a .key) (b "sid") ≡ y → markOn (notedBy (start j) x y (a .value)) ps ≡ start i
+    go : (x : Bool) → same (a .key) (b "eid") ≡ x → (y : Bool) → same (a .key) (b "sid") ≡ y → markOn (notedBy (start j) (by x y) (a .value)) ps ≡ start i
         → (markOn (start j) ps ≡ start i → (j ≡ i) × No (b "sid") ps × No (b "eid") ps) → (j ≡ i) × No (b "sid") (a ∷ ps) × No (b "eid") (a ∷ ps)
     go true p y q e f = absurd (let no-way : _≡_ {A = ℕ} 0 1 = cc (other-stays ps) in omega arith)
     go false p true q e f = absurd (let no-way : _≡_ {A = ℕ} 0 1 = cc (other-stays ps) in omega arith)
@@ -42,7 +48,7 @@ start-says j i (a ∷ ps) e = go (same (a .key) (b "eid")) refl (same (a .key) (
         (w .0, more (key-not a (b "sid") q) (w .1), more (key-not a (b "eid") p) (w .2))
 
 start-keeps : (i : Bytes) (ps : List Pair) → No (b "sid") ps → No (b "eid") ps → markOn (start i) ps ≡ start i
-unfolding markOn noted notedBy
+unfolding markOn noted notedBy keyOf
 start-keeps i [] none none = refl
 start-keeps i (a ∷ ps) (more s ss) (more e es) = rw (key-other a (b "eid") e, key-other a (b "sid") s) (start-keeps i ps ss es)
 
@@ -71,66 +77,66 @@ one-more a i ps p q w =
     }
 
 plain-start : (i : Bytes) (ps : List Pair) → markOn plain ps ≡ start i → IsStart ps i
-unfolding markOn noted notedBy
+unfolding markOn noted notedBy keyOf
 plain-start i [] e = absurd (let no-way : _≡_ {A = ℕ} 0 1 = cc in omega arith)
 plain-start i (a ∷ ps) e = go (same (a .key) (b "eid")) refl (same (a .key) (b "sid")) refl e (plain-start i ps)
   where
-    go : (x : Bool) → same (a .key) (b "eid") ≡ x → (y : Bool) → same (a .key) (b "sid") ≡ y → markOn (notedBy plain x y (a .value)) ps ≡ start i
+    go : (x : Bool) → same (a .key) (b "eid") ≡ x → (y : Bool) → same (a .key) (b "sid") ≡ y → markOn (notedBy plain (by x y) (a .value)) ps ≡ start i
         → (markOn plain ps ≡ start i → IsStart ps i) → IsStart (a ∷ ps) i
     go true p y q e f = absurd (let no-way : _≡_ {A = ℕ} 0 1 = cc (other-stays ps) in omega arith)
     go false p true q e f = sid-first a i ps q e
     go false p false q e f = one-more a i ps p q (f e)
 
 end-says : (j : Bytes) (ps : List Pair) (m : Mark) → markOn (ends j) ps ≡ m → (m ≡ other → ⊥) → (ps ≡ []) × (ends j ≡ m)
-unfolding markOn noted notedBy
+unfolding markOn noted notedBy keyOf
 end-says j [] m e h = (refl, e)
 end-says j (a ∷ ps) m e h = absurd (h (sym e ∙ other-stays ps))
 
 start-no-end : (i j : Bytes) (ps : List Pair) → markOn (start j) ps ≡ ends i → ⊥
-unfolding markOn noted notedBy
+unfolding markOn noted notedBy keyOf
 start-no-end i j [] e = let no-way : _≡_ {A = ℕ} 0 1 = cc in omega arith
 start-no-end i j (a ∷ ps) e = go (same (a .key) (b "eid")) (same (a .key) (b "sid")) e (start-no-end i j ps)
   where
-    go : (x y : Bool) → markOn (notedBy (start j) x y (a .value)) ps ≡ ends i → (markOn (start j) ps ≡ ends i → ⊥) → ⊥
+    go : (x y : Bool) → markOn (notedBy (start j) (by x y) (a .value)) ps ≡ ends i → (markOn (start j) ps ≡ ends i → ⊥) → ⊥
     go true y e f = let no-way : _≡_ {A = ℕ} 0 1 = cc (other-stays ps) in omega arith
     go false true e f = let no-way : _≡_ {A = ℕ} 0 1 = cc (other-stays ps) in omega arith
     go false false e f = f e
 
 plain-no-end : (i : Bytes) (ps : List Pair) → markOn plain ps ≡ ends i → ⊥
-unfolding markOn noted notedBy
+unfolding markOn noted notedBy keyOf
 plain-no-end i [] e = let no-way : _≡_ {A = ℕ} 0 1 = cc in omega arith
 plain-no-end i (a ∷ ps) e = go (same (a .key) (b "eid")) (same (a .key) (b "sid")) e (plain-no-end i ps)
   where
-    go : (x y : Bool) → markOn (notedBy plain x y (a .value)) ps ≡ ends i → (markOn plain ps ≡ ends i → ⊥) → ⊥
+    go : (x y : Bool) → markOn (notedBy plain (by x y) (a .value)) ps ≡ ends i → (markOn plain ps ≡ ends i → ⊥) → ⊥
     go true y e f = let no-way : _≡_ {A = ℕ} 0 1 = cc (other-stays ps) in omega arith
     go false true e f = start-no-end i (a .value) ps e
     go false false e f = f e
 
 quiet-plain : (a : Pair) → (a .key ≡ b "sid" → ⊥) → (a .key ≡ b "eid" → ⊥) → noted plain a ≡ plain
-unfolding noted notedBy
+unfolding noted notedBy keyOf
 quiet-plain a s e = rw (key-other a (b "eid") e, key-other a (b "sid") s)
 
 quiet-bare : (a : Pair) → (a .key ≡ b "sid" → ⊥) → (a .key ≡ b "eid" → ⊥) → noted bare a ≡ plain
-unfolding noted notedBy
+unfolding noted notedBy keyOf
 quiet-bare a s e = rw (key-other a (b "eid") e, key-other a (b "sid") s)
 
 plain-keeps : (i : Bytes) (c z : List Pair) → No (b "sid") c → No (b "eid") c → No (b "sid") z → No (b "eid") z
     → markOn plain (c ++ (record { key = b "sid"; value = i } ∷ z)) ≡ start i
-unfolding markOn noted notedBy same
+unfolding markOn noted notedBy keyOf same
 plain-keeps i [] z none none s e = start-keeps i z s e
 plain-keeps i (a ∷ c) z (more s ss) (more e es) sz ez =
     ap (λ (m : Mark). markOn m (c ++ (record { key = b "sid"; value = i } ∷ z))) (quiet-plain a s e) ∙ plain-keeps i c z ss es sz ez
 
 -- a start: exactly where it has one `sid` and no `eid`
 pub start-exact : (ps : List Pair) (i : Bytes) → (markOn bare ps ≡ start i) ↔ IsStart ps i
-unfolding markOn noted notedBy same
+unfolding markOn noted notedBy keyOf same
 start-exact ps i = (to ps, from)
   where
     to : (ps : List Pair) → markOn bare ps ≡ start i → IsStart ps i
     to [] e = absurd (let no-way : _≡_ {A = ℕ} 0 1 = cc in omega arith)
     to (a ∷ ps) e = go (same (a .key) (b "eid")) refl (same (a .key) (b "sid")) refl e
       where
-        go : (x : Bool) → same (a .key) (b "eid") ≡ x → (y : Bool) → same (a .key) (b "sid") ≡ y → markOn (notedBy bare x y (a .value)) ps ≡ start i → IsStart (a ∷ ps) i
+        go : (x : Bool) → same (a .key) (b "eid") ≡ x → (y : Bool) → same (a .key) (b "sid") ≡ y → markOn (notedBy bare (by x y) (a .value)) ps ≡ start i → IsStart (a ∷ ps) i
         go true p y q e =
             let w = end-says (a .value) ps (start i) e (λ h. let no-way : _≡_ {A = ℕ} 0 1 = cc in omega arith) in
             absurd (let no-way : _≡_ {A = ℕ} 0 1 = cc in omega arith)
@@ -148,14 +154,14 @@ start-exact ps i = (to ps, from)
 
 -- an end: exactly where `eid` is its one attribute
 pub end-exact : (ps : List Pair) (i : Bytes) → (markOn bare ps ≡ ends i) ↔ IsEnd ps i
-unfolding markOn noted notedBy same
+unfolding markOn noted notedBy keyOf same
 end-exact ps i = (to ps, from)
   where
     to : (ps : List Pair) → markOn bare ps ≡ ends i → IsEnd ps i
     to [] e = absurd (let no-way : _≡_ {A = ℕ} 0 1 = cc in omega arith)
     to (a ∷ ps) e = go (same (a .key) (b "eid")) refl (same (a .key) (b "sid")) e
       where
-        go : (x : Bool) → same (a .key) (b "eid") ≡ x → (y : Bool) → markOn (notedBy bare x y (a .value)) ps ≡ ends i → IsEnd (a ∷ ps) i
+        go : (x : Bool) → same (a .key) (b "eid") ≡ x → (y : Bool) → markOn (notedBy bare (by x y) (a .value)) ps ≡ ends i → IsEnd (a ∷ ps) i
         go true p y e =
             let w = end-says (a .value) ps (ends i) e (λ h. let no-way : _≡_ {A = ℕ} 0 1 = cc in omega arith) in
             let k : a .key ≡ b "eid" = same-true (a .key) (b "eid") p in

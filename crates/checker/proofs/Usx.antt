@@ -7,9 +7,9 @@ use Prim.Native.Nat.{ℕ, suc, _+_, _≤_}
 use native.Mathlib.Omega.{arith}
 use lib.Dec.{eqb}
 use borrow.Author.Tests.{eqb-true}
-use Rattle.checker.specs.Rules.{Mark, View, words, opened, closed, single}
-use Rattle.checker.specs.Meaning.{stillOpen, opensUsx, closesUsx, usxOpened, usxClosed, Grows, g-words, g-open, g-close, g-single, OneTree}
-use Rattle.checker.specs.Words.{usxTags, UsxTree}
+use Rattle.checker.specs.View.{Mark, View, words, opened, closed, single}
+use Rattle.checker.specs.Words.{stillOpen, usxTags, UsxTree}
+use Rattle.checker.specs.Meaning.{opensUsx, closesUsx, usxOpened, usxClosed, Grows, g-words, g-open, g-close, g-single, OneTree}
 use Rattle.checker.proofs.Decides.{never}
 
 other-tag {ℓ} : {A : Type ℓ} {v w : View} → v ≡ w → (v ≡ w → _≡_ {A = ℕ} 0 1) → A

@@ -1,26 +1,31 @@
 -- Laws of the walk over the whole text.
 use mathlib.Core.Path.{_≡_, refl, sym, ap, _∙_, subst}
-use mathlib.Core.Bool.{Bool, true, false, cond}
-use mathlib.Core.List.{List, _∷_}
+use mathlib.Core.Bool.{Bool, true, false, cond, _||_}
+use mathlib.Core.List.{List, [], _∷_}
 use mathlib.Core.Option.{Option, some, none}
 use Prim.Native.Nat.{ℕ, suc, _+_, _-_, _≤_, _<_}
 use native.Mathlib.Omega.{arith}
 use lib.ListN.{length, drop, getD, length-drop, drop-of-length-le}
 use lib.Seq.{drop-cons}
 use lib.Dec.{eqb}
+use lib.IntN.{ℤ, pos}
 use lib.Signed.{mag}
 use Rattle.parts.specs.Bytes.{begins}
 use Rattle.parts.proofs.Laws.{begins-fits}
 use Rattle.tags.specs.Form.{Token, Read, bad, got, next, onto, moreTokens, tokensAt, tokensFrom, opening, closing, tokens}
 use Rattle.tags.proofs.Tokens.{Shorter, next-shorter, tokens-by}
-use Rattle.checker.specs.Rules.{View, words, opened, closed, single, view, rise, grow, Turned, begun, ended, wrong, turn, Pairs, missed, chapterTo, verseTo, isShut, isMilestone, pairUp}
-use Rattle.checker.specs.Check.{Run, stepOn, foldOn, atStart, verdictOf, settle, answerOf, viewIn, sight, brief, sightIn, stackOf, heldIn, runIn, stateAtStart}
+use Rattle.checker.specs.View.{View, words, opened, closed, single, view}
+use Rattle.checker.specs.Steps.{rise, Trunk, grow, Turned, begun, ended, wrong, turn, Pairs, missed, chapterTo, verseTo, isShut, isMilestone, pairUp}
+use Rattle.checker.specs.Check.{Run, stepOn, foldOn, atStart, verdictOf, settle, foldVerdict, Alike}
+use Rattle.checker.specs.Code.{viewIn, sight, brief, sightIn, stackOf, heldIn, runIn, stateAtStart, room, trunkOf, Told, Stepped}
 use Rattle.checker.specs.declared.Tag.{Tag}
 use Rattle.checker.specs.declared.Next.the-variants.{Bad, Token as TokenV}
 use Rattle.checker.specs.declared.State.{State}
 use Rattle.checker.specs.declared.Verdict.{Verdict}
 use Rattle.checker.specs.declared.Verdict.the-variants.{NotTags}
-use Rattle.checker.proofs.Folds.{mag-rise, stack-length, grow-depth}
+use Rattle.checker.proofs.Decides.{never}
+use Rattle.checker.proofs.Folds.{mag-rise, stack-length, or-false}
+use Rattle.checker.proofs.Trees.{grow-stays, height-grown}
 
 -- ---- counts rise by one at most
 
@@ -55,26 +60,78 @@ pair-count p (single n m) = go (eqb n 3) (isShut (p .verse)) (eqb n 4)
     go false y true = verse-count p (turn (p .verse) m)
     go false y false = omega arith
 
--- ---- the loop
-
 settle-onto : (r : Run) (t : Token) (o : Option (List Token)) → settle r (onto t o) ≡ settle (stepOn r (view t)) o
 unfolding settle foldOn
 settle-onto r t none = refl
 settle-onto r t (some ts) = refl
 
--- at a place of the text: what is left to read makes the answer of the whole, and nothing has grown past the place
+-- ---- runs that differ in a tree which is nothing to the answer
+
+pub alike-step : {p q : Run} → Alike p q → (v : View) → Alike (stepOn p v) (stepOn q v)
+unfolding stepOn
+alike-step a v =
+    record {
+      height = ap (λ (h : ℤ). rise h v) (a .height);
+      high = rw (a .height, a .high);
+      trunk = λ e. ap (λ (t : Trunk). grow t v) (a .trunk (or-false _ _ e .0));
+      pairs = ap (λ (p : Pairs). pairUp p v) (a .pairs);
+    }
+
+alike-verdict : {p q : Run} → Alike p q → verdictOf p ≡ verdictOf q
+unfolding verdictOf
+alike-verdict {p} {q} a = go (q .high) refl
+  where
+    go : (x : Bool) → q .high ≡ x → verdictOf p ≡ verdictOf q
+    go true e = rw (a .high, e)
+    go false e = rw (a .high, a .trunk e, a .pairs)
+
+alike-fold : {p q : Run} → Alike p q → (ts : List Token) → verdictOf (foldOn p ts) ≡ verdictOf (foldOn q ts)
+unfolding foldOn
+alike-fold a [] = alike-verdict a
+alike-fold a (t ∷ ts) = alike-fold (alike-step a (view t)) ts
+
+alike-settle : {p q : Run} → Alike p q → (o : Option (List Token)) → settle p o ≡ settle q o
+unfolding settle
+alike-settle a none = refl
+alike-settle a (some ts) = alike-fold a ts
+
+-- ---- the loop
+
+-- at a place of the text: what is left to read makes the verdict of the whole, and nothing has grown past the place
 pub record Going (x a : List ℕ) (s : State) (at : ℕ) : Type 0 where
-  pub long : length a ≡ 160
+  pub long : length a ≡ room
   pub low : mag (s .height) ≤ at
-  pub deep : s .tree .depth ≤ 160
+  pub deep : s .tree .depth ≤ room
+  pub told : Told s
   pub few : s .marks .chapters ≤ at
   pub little : s .marks .verses ≤ at
   pub same : settle (runIn x s a) (tokensFrom (drop at x)) ≡ settle atStart (tokensFrom x)
 
-pub going-start : (x a : List ℕ) (s : State) → length a ≡ 160 → s ≡ stateAtStart → Going x a s 0
+pub going-start : (x a : List ℕ) (s : State) → length a ≡ room → s ≡ stateAtStart → Going x a s 0
 unfolding heldIn stackOf
 going-start x a s l e =
-    rw e (record { long = l; low = omega arith; deep = omega arith; few = omega arith; little = omega arith; same = refl })
+    rw e (record { long = l; low = omega arith; deep = omega arith; told = λ h w. refl; few = omega arith; little = omega arith; same = refl })
+
+-- the height still tells how many elements are open
+told-on : (x : List ℕ) (s : State) (a : List ℕ) (tag : Tag) (s′ : State) (a′ : List ℕ) → Alike (runIn x s′ a′) (stepOn (runIn x s a) (viewIn x tag)) → Told s → Told s′
+unfolding stepOn
+told-on x s a tag s′ a′ g told h w =
+    let t : Trunk = runIn x s a .trunk in
+    let v : View = viewIn x tag in
+    let low = or-false (s .high) _ (sym (g .high) ∙ h) in
+    let same : trunkOf (s′ .tree) a′ ≡ grow t v = g .trunk (sym (g .high) ∙ h) in
+    let whole : grow t v .broken ≡ false = ap (λ (z : Trunk). z .broken) (sym same) ∙ w in
+    let was : s .tree .broken ≡ false = unbroken t v whole in
+    let here : s .height ≡ pos (length (t .stack)) = told (low .0) was ∙ ap pos (sym (stack-length a (s .tree .depth))) in
+    g .height ∙ height-grown (s .height) t v here was whole
+    ∙ ap (λ (z : Trunk). pos (length (z .stack))) (sym same) ∙ ap pos (stack-length a′ (s′ .tree .depth))
+  where
+    unbroken : (t : Trunk) (v : View) → grow t v .broken ≡ false → t .broken ≡ false
+    unbroken t v e = go (t .broken) refl
+      where
+        go : (z : Bool) → t .broken ≡ z → t .broken ≡ false
+        go false i = i
+        go true i = never (sym e ∙ grow-stays t v i)
 
 module _ (x : List ℕ) (at : ℕ) (h : at < length x) where
   here : drop at x ≡ getD x at 0 ∷ drop (suc at) x
@@ -109,25 +166,24 @@ module _ (x : List ℕ) (at : ℕ) (h : at < length x) where
         let less : length (drop e x) < length (drop at x) = subst (Shorter (length (drop at x))) (got-one .1) (next-shorter (drop at x)) in
         omega (arith, length-drop e x, length-drop at x)
 
-    pub going-turn : (a a′ : List ℕ) (s s′ : State) → length a′ ≡ length a
-        → runIn x s′ a′ ≡ stepOn (runIn x s a) (viewIn x tag) → Going x a s at → Going x a′ s′ e
+    pub going-turn : (a a′ : List ℕ) (s s′ : State) → length a′ ≡ length a → Stepped x s a tag s′ a′ → Going x a s at → Going x a′ s′ e
     unfolding stepOn
-    going-turn a a′ s s′ el er g =
+    going-turn a a′ s s′ el st g =
         let on : at < e = going-on in
-        let eh : s′ .height ≡ rise (s .height) (viewIn x tag) = ap (λ (r : Run). r .height) er in
-        let ed : stackOf a′ (s′ .tree .depth) ≡ grow (runIn x s a .trunk) (viewIn x tag) .stack = ap (λ (r : Run). r .trunk .stack) er in
-        let ec : s′ .marks .chapters ≡ pairUp (runIn x s a .pairs) (viewIn x tag) .chapters = ap (λ (r : Run). r .pairs .chapters) er in
-        let ev : s′ .marks .verses ≡ pairUp (runIn x s a .pairs) (viewIn x tag) .verses = ap (λ (r : Run). r .pairs .verses) er in
+        let eh : s′ .height ≡ rise (s .height) (viewIn x tag) = st .alike .height in
+        let ec : s′ .marks .chapters ≡ pairUp (runIn x s a .pairs) (viewIn x tag) .chapters = ap (λ (p : Pairs). p .chapters) (st .alike .pairs) in
+        let ev : s′ .marks .verses ≡ pairUp (runIn x s a .pairs) (viewIn x tag) .verses = ap (λ (p : Pairs). p .verses) (st .alike .pairs) in
         let t : Token = got-one .0 in
-        let deeper : length (grow (runIn x s a .trunk) (viewIn x tag) .stack) ≤ 160 = grow-depth (runIn x s a .trunk) (rw stack-length (g .deep)) (viewIn x tag) in
         record {
           long = el ∙ g .long;
           low = omega (arith, ap mag eh, mag-rise (s .height) (viewIn x tag), g .low);
-          deep = omega (arith, ap length ed, stack-length a′ (s′ .tree .depth));
+          deep = st .deep;
+          told = told-on x s a tag s′ a′ (st .alike) (g .told);
           few = omega (arith, ec, pair-count (runIn x s a .pairs) (viewIn x tag) .0, g .few);
           little = omega (arith, ev, pair-count (runIn x s a .pairs) (viewIn x tag) .1, g .little);
           same =
-              ap (λ (r : Run). settle r (tokensFrom (drop e x))) (er ∙ ap (stepOn (runIn x s a)) (sym (got-one .2)))
+              alike-settle (st .alike) (tokensFrom (drop e x))
+              ∙ ap (λ (v : View). settle (stepOn (runIn x s a) v) (tokensFrom (drop e x))) (sym (got-one .2))
               ∙ sym (settle-onto (runIn x s a) t (tokensFrom (drop e x)))
               ∙ sym (ap (settle (runIn x s a)) (left ∙ ap (moreTokens tokensFrom (getD x at 0 ∷ drop (suc at) x)) (got-one .1)))
               ∙ g .same;
@@ -140,8 +196,8 @@ going-end x a s at h e g = e ∙ sym (ap (λ (z : List ℕ). settle (runIn x s a
 -- ---- the opening and the end
 
 module _ (x : List ℕ) {t : Bool} (e : t ≡ begins opening x) where
-  pub not-opened : t ≡ false → NotTags ≡ answerOf x
-  unfolding answerOf tokens settle
+  pub not-opened : t ≡ false → NotTags ≡ foldVerdict x
+  unfolding foldVerdict tokens settle
   not-opened h = rw (← e, h)
 
   module _ (h : t ≡ true) where
@@ -149,10 +205,10 @@ module _ (x : List ℕ) {t : Bool} (e : t ≡ begins opening x) where
     opening-in = omega (arith, begins-fits opening x (sym e ∙ h))
 
     module _ {r : List ℕ} (er : r ≡ drop (length x - 6) x) {u : Bool} (f : u ≡ begins closing r) where
-      pub not-closed : u ≡ false → NotTags ≡ answerOf x
-      unfolding answerOf tokens settle
+      pub not-closed : u ≡ false → NotTags ≡ foldVerdict x
+      unfolding foldVerdict tokens settle
       not-closed l = rw (← e, h, ← er, ← f, l)
 
-      pub in-form : {a : Verdict} → u ≡ true → a ≡ settle atStart (tokensFrom x) → a ≡ answerOf x
-      unfolding answerOf tokens
+      pub in-form : {a : Verdict} → u ≡ true → a ≡ settle atStart (tokensFrom x) → a ≡ foldVerdict x
+      unfolding foldVerdict tokens
       in-form l z = rw (← e, h, ← er, ← f, l) z

@@ -1,6 +1,8 @@
-pub mod Rules
-pub mod Check
-pub mod Meaning
+pub mod View
+pub mod Answer
 pub mod Words
-pub mod Pairing
+pub mod Steps
+pub mod Meaning
+pub mod Check
+pub mod Code
 pub mod Place

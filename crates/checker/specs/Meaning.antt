@@ -1,36 +1,13 @@
--- What a right text is, as the rules say it: at every place of the list of tokens, with what stands before it.
+-- The rules of milestones and of the tree once more, by what stands open before each tag: between the folds and the rules of Words.
 use mathlib.Core.Path.{_≡_}
 use mathlib.Core.Bool.{Bool, true, false, cond}
 use mathlib.Core.List.{List, [], _∷_, _++_}
-use Prim.Native.Nat.{ℕ, suc}
+use Prim.Native.Nat.{ℕ}
 use lib.Dec.{eqb}
-use lib.IntN.{ℤ, pos, _-ℤ_}
-use lib.Signed.{ltZ}
-use Rattle.checker.specs.Rules.{Mark, start, ends, bare, plain, other, View, words, opened, closed, single, Held, shut, held}
+use Rattle.checker.specs.View.{Mark, start, ends, bare, plain, other, View, words, opened, closed, single}
+use Rattle.checker.specs.Words.{stillOpen}
+use Rattle.checker.specs.Steps.{Held, shut, held}
 use Rattle.tags.specs.Element as el
-
--- ---- heights
-
-unfoldable pub openings : List View → ℕ
-openings [] = 0
-openings (words ∷ vs) = openings vs
-openings (opened n ∷ vs) = suc (openings vs)
-openings (closed n ∷ vs) = openings vs
-openings (single n m ∷ vs) = openings vs
-
-unfoldable pub closings : List View → ℕ
-closings [] = 0
-closings (words ∷ vs) = closings vs
-closings (opened n ∷ vs) = closings vs
-closings (closed n ∷ vs) = suc (closings vs)
-closings (single n m ∷ vs) = closings vs
-
--- the height behind a row: opening tags less closing tags
-abbrev pub heightOf : List View → ℤ
-heightOf vs = pos (openings vs) -ℤ pos (closings vs)
-
-abbrev pub SomeHigh : List View → Type 0
-SomeHigh vs = (a : List View) × (z : List View) × (vs ≡ a ++ z) × (ltZ (pos 160) (heightOf a) ≡ true)
 
 -- ---- milestones
 
@@ -61,6 +38,7 @@ pub data Fits (chapter verse : Held) : View → Type 0 where
   verse-start : {i : List ℕ} → verse ≡ shut → Fits chapter verse (single el.verse (start i))
   verse-end : {i : List ℕ} → verse ≡ held i → Fits chapter verse (single el.verse (ends i))
 
+-- every tag fits behind those before it, and nothing is open at the end: exactly `Demand`
 pub record Milestones (vs : List View) : Type 0 where
   pub places : (a : List View) (v : View) (z : List View) → vs ≡ a ++ v ∷ z → Fits (openBehind el.chapter shut a) (openBehind el.verse shut a) v
   pub chapter : openBehind el.chapter shut vs ≡ shut
@@ -68,35 +46,26 @@ pub record Milestones (vs : List View) : Type 0 where
 
 -- ---- one tree
 
--- the elements still open behind a row, innermost first
-unfoldable pub still : List ℕ → View → List ℕ
-still st words = st
-still st (opened n) = n ∷ st
-still [] (closed n) = []
-still (m ∷ st) (closed n) = st
-still st (single n m) = st
-
-unfoldable pub stillOpen : List ℕ → List View → List ℕ
-stillOpen st [] = st
-stillOpen st (v ∷ vs) = stillOpen (still st v) vs
-
--- whether usx was opened before or is now; closed
+-- whether usx was opened before or is now
 unfoldable pub opensUsx : Bool → View → Bool
 opensUsx u words = u
 opensUsx u (opened n) = cond (eqb n el.usx) true u
 opensUsx u (closed n) = u
 opensUsx u (single n m) = u
 
+-- whether usx was closed before or is now
 unfoldable pub closesUsx : Bool → View → Bool
 closesUsx d words = d
 closesUsx d (opened n) = d
 closesUsx d (closed n) = cond (eqb n el.usx) true d
 closesUsx d (single n m) = d
 
+-- whether usx was opened before a row or in it
 unfoldable pub usxOpened : Bool → List View → Bool
 usxOpened u [] = u
 usxOpened u (v ∷ vs) = usxOpened (opensUsx u v) vs
 
+-- whether usx was closed before a row or in it
 unfoldable pub usxClosed : Bool → List View → Bool
 usxClosed d [] = d
 usxClosed d (v ∷ vs) = usxClosed (closesUsx d v) vs
@@ -108,6 +77,7 @@ pub data Grows (st : List ℕ) (seen : Bool) : View → Type 0 where
   g-close : {n : ℕ} {ms : List ℕ} → st ≡ n ∷ ms → Grows st seen (closed n)
   g-single : {n : ℕ} {m : Mark} → (n ≡ el.usx → ⊥) → Grows st seen (single n m)
 
+-- every tag grows the tree, none stands behind the close of usx, usx was opened, and nothing is open at the end: exactly `UsxTree`
 pub record OneTree (vs : List View) : Type 0 where
   pub places : (a : List View) (v : View) (z : List View) → vs ≡ a ++ v ∷ z → (usxClosed false a ≡ false) × Grows (stillOpen [] a) (usxOpened false a) v
   pub opened : usxOpened false vs ≡ true

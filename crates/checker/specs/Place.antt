@@ -1,22 +1,22 @@
 -- Where a text breaks its first rule, for people: the bytes before that place, and its line.
 use Prim.Native.Nat.{ℕ, zero, suc, _+_, _-_}
 use mathlib.Core.List.{[], _∷_}
-use mathlib.Core.Bool.{Bool, false, cond}
+use mathlib.Core.Bool.{Bool, false, cond, _||_}
 use lib.ListN.{length}
 use lib.Dec.{eqb}
 use Rattle.parts.specs.Bytes.{Bytes, begins, part}
 use Rattle.tags.specs.Form.{Read, bad, got, next, opening}
-use Rattle.checker.specs.Rules.{view}
+use Rattle.checker.specs.View.{view}
 use Rattle.checker.specs.Check.{Run, stepOn, atStart}
 use Rattle.checker.specs.declared.Verdict.{Verdict}
 use Rattle.checker.specs.declared.Verdict.the-variants.{Accepted, NotTags, TooHigh, NoTree, BadMarks}
 
--- whether the rule of an answer is broken behind a row of tokens; that of 11 is a matter of reading them
+-- whether the rule of an answer is broken behind a row of tokens, where 13 comes behind 12; that of 11 is a matter of reading them
 unfoldable pub isBroken : Verdict → Run → Bool
 isBroken (Accepted c v) r = false
 isBroken NotTags r = false
 isBroken TooHigh r = r .high
-isBroken NoTree r = r .trunk .broken
+isBroken NoTree r = r .high || r .trunk .broken
 isBroken BadMarks r = r .pairs .amiss
 
 -- all from here, if the token at the front cannot be read or breaks the rule; else go on behind it
@@ -34,12 +34,14 @@ unfoldable pub brokenFrom : Verdict → Run → Bytes → Bytes
 brokenFrom v r s = brokenAt (length s) v r s
 
 -- the bytes before the place: none where the text does not open as it must, all where only its end breaks the rule
-unfoldable pub placeOf : Verdict → Bytes → ℕ
-placeOf v s = cond (begins opening s) (length s - length (brokenFrom v atStart s)) 0
+unfoldable pub brokenPlace : Verdict → Bytes → ℕ
+brokenPlace v s = cond (begins opening s) (length s - length (brokenFrom v atStart s)) 0
 
+-- whether a byte ends a line, as a number
 unfoldable pub lineEnd : ℕ → ℕ
 lineEnd c = cond (eqb c 10) 1 0
 
+-- how many lines end in a text
 unfoldable pub lineEnds : Bytes → ℕ
 lineEnds [] = 0
 lineEnds (c ∷ s) = lineEnd c + lineEnds s

@@ -2,20 +2,25 @@
 ghost use mathlib.Core.Path.{_≡_};
 ghost use Prim.Native.Nat.{ℕ, _+_, _-_, _≤_, _<_, _^_};
 ghost use mathlib.Core.List.{List};
-ghost use mathlib.Core.Bool.{_||_};
+ghost use mathlib.Core.Bool.{false, _||_};
 ghost use lib.ListN.{length, drop};
 ghost use lib.IntN.{pos, _+ℤ_, _-ℤ_};
 ghost use lib.Signed.{mag, ltZ};
 ghost use mir.Syntax.{w64};
 ghost use mir.Val.{SFits};
 ghost use Rattle.tags.specs.Form.{pairsFrom, tagged, next, tokensFrom};
-ghost use Rattle.checker.specs.Rules.{bare, notedBy, noted, markOn, single as singleV, rise, broke, push, pop, grow, turn, missed, chapterTo, verseTo, isShut, isHeld, isMilestone, pairUp};
-ghost use Rattle.checker.specs.Check.{bytesOf, markIn, viewIn, brief, sightIn, stackOf, trunkOf, heldIn, turnIn, pairsIn, runIn, stepOn, atStart, stateAtStart, oneTree, pairedOff, verdictOf, settle, answerOf};
-ghost use Rattle.checker.specs.Place.{isBroken, brokenFrom, placeOf, lineEnd, lineEnds, lineOf};
+ghost use Rattle.checker.specs.View.{keyOf, bare, notedBy, noted, markOn, single as singleV};
+ghost use Rattle.checker.specs.Answer.{answerOf};
+ghost use Rattle.checker.specs.Words.{highest, Judged};
+ghost use Rattle.checker.specs.Steps.{rise, broke, push, pop, grow, turn, missed, chapterTo, verseTo, isShut, isHeld, isMilestone, pairUp};
+ghost use Rattle.checker.specs.Check.{atStart, oneTree, pairedOff, verdictOf, settle, foldVerdict};
+ghost use Rattle.checker.specs.Code.{bytesOf, markIn, viewIn, brief, sightIn, room, stackOf, trunkOf, heldIn, turnIn, pairsIn, runIn, stateAtStart, Told, TellsNext, Stepped};
+ghost use Rattle.checker.specs.Place.{isBroken, brokenFrom, brokenPlace, lineEnd, lineEnds, lineOf};
 use parts::begins_with;
 use parts::from;
 use parts::part;
 use parts::same;
+use tags::Element;
 use tags::Found;
 use tags::Head;
 use tags::Tail;
@@ -23,10 +28,23 @@ use tags::head_at;
 use tags::pair_at;
 use tags::tail_at;
 
+// The greatest height that a text may have.
+const HIGHEST: i64 = 160;
+
+// Room for the elements that are open at any height up to that.
+const ROOM: usize = 160;
+
 // A part of the text.
 struct Part {
     start: usize,
     len: usize,
+}
+
+// The keys that make a tag a start or an end, and any other.
+enum IdKey {
+    Eid,
+    Sid,
+    Another,
 }
 
 // What the attributes of a chapter or verse tag make it.
@@ -108,29 +126,38 @@ fn part_of(s: &[u8], p: Part) -> &[u8]
     part(s, p.start, p.len)
 }
 
+fn key_of(key: &[u8]) -> IdKey
+    ensures { λ r. ⌜ r ≡ keyOf (now (key .entry)) ⌝ }
+{
+    if same(key, b"eid") {
+        return IdKey::Eid;
+    }
+    if same(key, b"sid") {
+        return IdKey::Sid;
+    }
+    IdKey::Another
+}
+
 // The form with one more attribute.
-fn formed(form: Form, eid: bool, sid: bool, value: Part) -> Form
-    ensures { λ r. ⌜ ((s : List ℕ) → markIn s r ≡ notedBy (markIn s form) eid sid (bytesOf s value)) ⌝ }
+fn formed(form: Form, key: IdKey, value: Part) -> Form
+    ensures { λ r. ⌜ ((s : List ℕ) → markIn s r ≡ notedBy (markIn s form) key (bytesOf s value)) ⌝ }
 {
     match form {
-        Form::Bare => {
-            if eid {
-                return Form::End(value);
-            }
-            if sid { Form::Start(value) } else { Form::Plain }
-        }
-        Form::Plain => {
-            if eid {
-                return Form::Other;
-            }
-            if sid { Form::Start(value) } else { Form::Plain }
-        }
-        Form::Start(p) => {
-            if eid {
-                return Form::Other;
-            }
-            if sid { Form::Other } else { Form::Start(p) }
-        }
+        Form::Bare => match key {
+            IdKey::Eid => Form::End(value),
+            IdKey::Sid => Form::Start(value),
+            IdKey::Another => Form::Plain,
+        },
+        Form::Plain => match key {
+            IdKey::Eid => Form::Other,
+            IdKey::Sid => Form::Start(value),
+            IdKey::Another => Form::Plain,
+        },
+        Form::Start(p) => match key {
+            IdKey::Eid => Form::Other,
+            IdKey::Sid => Form::Other,
+            IdKey::Another => Form::Start(p),
+        },
         Form::End(_) => Form::Other,
         Form::Other => Form::Other,
     }
@@ -139,9 +166,7 @@ fn formed(form: Form, eid: bool, sid: bool, value: Part) -> Form
 fn with_attr(form: Form, key: &[u8], value: Part) -> Form
     ensures { λ r. ⌜ ((s : List ℕ) → markIn s r ≡ noted (markIn s form) (record { key = now (key .entry); value = bytesOf s value })) ⌝ }
 {
-    let eid = same(key, b"eid");
-    let sid = same(key, b"sid");
-    formed(form, eid, sid, value)
+    formed(form, key_of(key), value)
 }
 
 // The attributes from a place on: what they make the tag, and where they end.
@@ -209,9 +234,16 @@ fn down(h: i64) -> i64
 }
 
 fn over(h: i64) -> bool
-    ensures { λ r. ⌜ r ≡ ltZ (pos 160) h ⌝ }
+    ensures { λ r. ⌜ r ≡ ltZ (pos highest) h ⌝ }
 {
-    h > 160
+    h > HIGHEST
+}
+
+// A height below zero: a closing tag with nothing open.
+fn under(h: i64) -> bool
+    ensures { λ r. ⌜ r ≡ ltZ h (pos 0) ⌝ }
+{
+    h < 0
 }
 
 fn level(h: i64, tag: Tag) -> i64
@@ -227,7 +259,7 @@ fn level(h: i64, tag: Tag) -> i64
 }
 
 fn is_high(high: bool, h: i64) -> bool
-    ensures { λ r. ⌜ r ≡ (high || ltZ (pos 160) h) ⌝ }
+    ensures { λ r. ⌜ r ≡ (high || ltZ (pos highest) h) ⌝ }
 {
     if high {
         return true;
@@ -249,36 +281,32 @@ fn broken(t: Tree) -> Tree
 }
 
 fn pushed(t: Tree, stack: &mut [u8], n: u8, seen: bool) -> Tree
-    requires { ⌜ length (now stack) ≡ 160 ⌝ }
+    requires { ⌜ t .depth < length (now stack) ⌝ }
     ensures { λ r. ⌜ trunkOf r (now (stack .exit)) ≡ push (trunkOf t (now (stack .entry))) n seen ⌝ }
 {
     let d = t.depth;
-    if d < stack.len() {
-        stack[d] = n;
-        Tree {
-            depth: d + 1,
-            seen,
-            done: t.done,
-            broken: t.broken,
-        }
-    } else {
-        broken(t)
+    stack[d] = n;
+    Tree {
+        depth: d + 1,
+        seen,
+        done: t.done,
+        broken: t.broken,
     }
 }
 
-fn popped(t: Tree, stack: &[u8], n: u8) -> Tree
-    requires { ⌜ t .depth ≤ length (now stack) ⌝ }
+fn popped(t: Tree, stack: &[u8], n: u8, height: i64) -> Tree
+    requires { ⌜ (t .depth ≤ length (now stack)) × (height ≡ pos (t .depth) -ℤ pos 1) ⌝ }
     ensures { λ r. ⌜ trunkOf r (now (stack .entry)) ≡ pop (trunkOf t (now (stack .entry))) n (stackOf (now (stack .entry)) (t .depth)) ⌝ }
 {
-    let d = t.depth;
-    if d == 0 {
+    if under(height) {
         return broken(t);
     }
-    if stack[d - 1] == n {
+    let d = t.depth - 1;
+    if stack[d] == n {
         Tree {
-            depth: d - 1,
+            depth: d,
             seen: t.seen,
-            done: n == 1,
+            done: n == Element::USX,
             broken: t.broken,
         }
     } else {
@@ -286,17 +314,21 @@ fn popped(t: Tree, stack: &[u8], n: u8) -> Tree
     }
 }
 
-fn grown(t: Tree, stack: &mut [u8], tag: Tag) -> Tree
-    requires { ⌜ (length (now stack) ≡ 160) × (t .depth ≤ 160) ⌝ }
+// The height behind the tag is that of the elements open then.
+fn grown(t: Tree, stack: &mut [u8], tag: Tag, height: i64) -> Tree
+    requires { ⌜ (length (now stack) ≡ room) × (t .depth ≤ room) × TellsNext t tag height × (ltZ (pos highest) height ≡ false) ⌝ }
     ensures { λ r. ⌜ ((s : List ℕ) → trunkOf r (now (stack .exit)) ≡ grow (trunkOf t (now (stack .entry))) (viewIn s tag)) ⌝ }
 {
+    if t.broken {
+        return t;
+    }
     if t.done {
         return broken(t);
     }
     match tag {
         Tag::Words => t,
         Tag::Opened(n) => {
-            if n == 1 {
+            if n == Element::USX {
                 if t.seen {
                     return broken(t);
                 }
@@ -304,14 +336,26 @@ fn grown(t: Tree, stack: &mut [u8], tag: Tag) -> Tree
             }
             pushed(t, stack, n, t.seen)
         }
-        Tag::Closed(n) => popped(t, stack, n),
+        Tag::Closed(n) => popped(t, stack, n, height),
         Tag::Single(n, _) => {
-            if n == 1 {
+            if n == Element::USX {
                 return broken(t);
             }
             t
         }
     }
+}
+
+// Once a height was over 160 the tree is nothing to the answer.
+fn rooted(t: Tree, stack: &mut [u8], tag: Tag, height: i64, high: bool) -> Tree
+    requires { ⌜ (length (now stack) ≡ room) × (t .depth ≤ room) × (high ≡ false → TellsNext t tag height × (ltZ (pos highest) height ≡ false)) ⌝ }
+    ensures same { λ r. ⌜ (high ≡ false → (s : List ℕ) → trunkOf r (now (stack .exit)) ≡ grow (trunkOf t (now (stack .entry))) (viewIn s tag)) ⌝ }
+    ensures deep { λ r. ⌜ r .depth ≤ room ⌝ }
+{
+    if high {
+        return t;
+    }
+    grown(t, stack, tag, height)
 }
 
 // ---- milestones
@@ -420,10 +464,10 @@ fn is_shut(open: Open) -> bool
 fn is_milestone(n: u8) -> bool
     ensures { λ r. ⌜ r ≡ isMilestone n ⌝ }
 {
-    if n == 3 {
+    if n == Element::CHAPTER {
         return true;
     }
-    n == 4
+    n == Element::VERSE
 }
 
 fn single(text: &[u8], m: Marks, n: u8, form: Form) -> Marks
@@ -432,13 +476,13 @@ fn single(text: &[u8], m: Marks, n: u8, form: Form) -> Marks
 {
     let chapter = m.chapter;
     let verse = m.verse;
-    if n == 3 {
+    if n == Element::CHAPTER {
         if is_shut(verse) {
             return chapter_to(m, turned(text, chapter, form));
         }
         return amiss(m);
     }
-    if n == 4 {
+    if n == Element::VERSE {
         return verse_to(m, turned(text, verse, form));
     }
     m
@@ -491,14 +535,14 @@ fn at_start() -> State
 }
 
 fn step(text: &[u8], s: State, stack: &mut [u8], tag: Tag) -> State
-    requires { ⌜ (length (now stack) ≡ 160) × (mag (s .height) + 1 < 2 ^ 63) × (s .tree .depth ≤ 160) × (s .marks .chapters + 1 < 2 ^ 64) × (s .marks .verses + 1 < 2 ^ 64) ⌝ }
-    ensures { λ r. ⌜ runIn (now (text .entry)) r (now (stack .exit)) ≡ stepOn (runIn (now (text .entry)) s (now (stack .entry))) (viewIn (now (text .entry)) tag) ⌝ }
+    requires { ⌜ (length (now stack) ≡ room) × (mag (s .height) + 1 < 2 ^ 63) × (s .tree .depth ≤ room) × (s .marks .chapters + 1 < 2 ^ 64) × (s .marks .verses + 1 < 2 ^ 64) × Told s ⌝ }
+    ensures { λ r. ⌜ Stepped (now (text .entry)) s (now (stack .entry)) tag r (now (stack .exit)) ⌝ }
 {
     let t = s.tree;
     let m = s.marks;
     let height = level(s.height, tag);
     let high = is_high(s.high, height);
-    let tree = grown(t, stack, tag);
+    let tree = rooted(t, stack, tag, height, high);
     let marks = paired(text, m, tag);
     State {
         height,
@@ -558,7 +602,7 @@ fn is_paired(m: Marks) -> bool
 fn walk(text: &[u8]) -> Verdict
     ensures { λ r. ⌜ r ≡ settle atStart (tokensFrom (now (text .entry))) ⌝ }
 {
-    let mut stack = [0u8; 160];
+    let mut stack = [0u8; ROOM];
     let mut s = at_start();
     let mut at = 0;
     while at < text.len() {
@@ -575,8 +619,9 @@ fn walk(text: &[u8]) -> Verdict
     judged(s, &stack)
 }
 
+// The answer to a text, by document 01's rules.
 pub fn check(text: &[u8]) -> Verdict
-    ensures { λ r. ⌜ r ≡ answerOf (now (text .entry)) ⌝ }
+    ensures { λ r. ⌜ Judged (now (text .entry)) (answerOf r) ⌝ }
 {
     if begins_with(text, b"<usx version=\"3.0\">") {
         let n = text.len();
@@ -602,7 +647,7 @@ fn is_broken(answer: Verdict, s: State) -> bool
         } => false,
         Verdict::NotTags => false,
         Verdict::TooHigh => s.high,
-        Verdict::NoTree => t.broken,
+        Verdict::NoTree => s.high || t.broken,
         Verdict::BadMarks => m.wrong,
     }
 }
@@ -611,7 +656,7 @@ fn is_broken(answer: Verdict, s: State) -> bool
 fn broken_at(text: &[u8], answer: Verdict) -> usize
     ensures { λ r. ⌜ r ≡ length (now (text .entry)) - length (brokenFrom answer atStart (now (text .entry))) ⌝ }
 {
-    let mut stack = [0u8; 160];
+    let mut stack = [0u8; ROOM];
     let mut s = at_start();
     let mut at = 0;
     while at < text.len() {
@@ -633,7 +678,7 @@ fn broken_at(text: &[u8], answer: Verdict) -> usize
 
 // How many bytes stand before the place where a text breaks the rule of its answer.
 pub fn place(text: &[u8], answer: Verdict) -> usize
-    ensures { λ r. ⌜ r ≡ placeOf answer (now (text .entry)) ⌝ }
+    ensures { λ r. ⌜ r ≡ brokenPlace answer (now (text .entry)) ⌝ }
 {
     if begins_with(text, b"<usx version=\"3.0\">") {
         return broken_at(text, answer);

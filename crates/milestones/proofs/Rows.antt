@@ -3,9 +3,10 @@ use mathlib.Core.Path.{_≡_, subst}
 use mathlib.Core.List.{List, [], _∷_, _++_}
 use Prim.Native.Nat.{ℕ}
 use native.Mathlib.Omega.{arith}
-use Rattle.checker.specs.Rules.{View, Held, shut}
-use Rattle.checker.specs.Meaning.{since, openBehind, Fits, Milestones}
+use Rattle.checker.specs.View.{View}
 use Rattle.checker.specs.Words.{Demand}
+use Rattle.checker.specs.Steps.{Held, shut}
+use Rattle.checker.specs.Meaning.{since, openBehind, Fits, Milestones}
 use Rattle.checker.proofs.Demands.{demand-exact}
 
 -- every tag fits behind those before it, and nothing stays open

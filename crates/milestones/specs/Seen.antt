@@ -1,21 +1,22 @@
--- How the checker's rules see the items of the text: a tag with its keys and values as they are, before any escape.
+-- How the checker's rules would see the items of the text before any escape: each tag with its keys and values as they are.
 use Prim.Native.Nat.{ℕ, suc}
 use mathlib.Core.List.{List, [], _∷_, _++_}
 use mathlib.Core.Option.{Option, none, some}
 use Rattle.parts.specs.Bytes.{Bytes}
 use Rattle.tags.specs.Form.{Pair, Token, text as textToken, opens, closes, empty as emptyToken}
 use Rattle.tags.specs.Items.{Attr, Item, start, empty, close, text, line, newLine}
-use Rattle.checker.specs.Rules.{start as starts, View, single, view}
+use Rattle.checker.specs.View.{start as starts, View, single, view}
 use Rattle.checker.specs.Words.{Kind}
 use Rattle.events.specs.Event.{Event, item, chapter, verse, book}
 use Rattle.events.specs.Pairing.{State}
 use Rattle.tags.specs.Element as el
 
--- "identifiers are compared as bytes"
+-- attributes before the escapes: "identifiers are compared as bytes", here those that the walk gives
 unfoldable pub pairs : List Attr → List Pair
 pairs [] = []
 pairs (a ∷ qs) = record { key = a .key; value = a .value } ∷ pairs qs
 
+-- an item as a token, before the escapes
 unfoldable pub tokenOf : Item → Token
 tokenOf (start n qs) = opens n (pairs qs)
 tokenOf (empty n qs) = emptyToken n (pairs qs)
@@ -23,6 +24,7 @@ tokenOf (close n) = closes n
 tokenOf (text t) = textToken t
 tokenOf (line d) = textToken (newLine d)
 
+-- items as the rules see them, before the escapes
 unfoldable pub seen : List Item → List View
 seen [] = []
 seen (i ∷ is) = view (tokenOf i) ∷ seen is
@@ -54,6 +56,7 @@ PlainEvents (chapter n alt published ∷ es) = PlainEvents es
 PlainEvents (verse label alt published ∷ es) = PlainEvents es
 PlainEvents (book code rest ∷ es) = PlainEvents es
 
+-- how many chapters stand among the events
 unfoldable pub chaptersIn : List Event → ℕ
 chaptersIn [] = 0
 chaptersIn (item i ∷ es) = chaptersIn es
@@ -61,6 +64,7 @@ chaptersIn (chapter n alt published ∷ es) = suc (chaptersIn es)
 chaptersIn (verse label alt published ∷ es) = chaptersIn es
 chaptersIn (book code rest ∷ es) = chaptersIn es
 
+-- how many verses stand among the events
 unfoldable pub versesIn : List Event → ℕ
 versesIn [] = 0
 versesIn (item i ∷ es) = versesIn es

@@ -13,7 +13,7 @@ use borrow.Author.Tests.{ltb-true, eq-eqb}
 use Rattle.parts.specs.Bytes.{Bytes, b, begins}
 use Rattle.parts.proofs.Laws.{and-true, begins-fits, begins-split}
 use Rattle.tags.specs.Names.{names, nameOf, IsName, which, elementAt}
-use Rattle.tags.specs.Form.{plain, escape, ok, run, Row, pairAt, pairLen, pairOf, morePairs, pairsAt, pairsFrom, Token, text, opens, closes, empty, Read, bad, got, closeHead, openHead, textHead, headAt, tailAt, ended, tagged, headed, next, onto, moreTokens, tokensAt, tokensFrom, opening, closing, tokens}
+use Rattle.tags.specs.Form.{plain, escapeAt, ok, run, Row, pairAt, pairLen, pairOf, morePairs, pairsAt, pairsFrom, Token, text, opens, closes, empty, Read, bad, got, closeHead, openHead, textHead, headAt, tailAt, ended, tagged, headed, next, onto, moreTokens, tokensAt, tokensFrom, opening, closing, tokens}
 use Rattle.tags.specs.Write.{writePair, writePairs, write, writeAll, Clean, CleanPair, CleanPairs, none as no-pair, more, Tagged, Legal, nil, a-text, an-open, a-close, an-empty, TagForm}
 use Rattle.tags.specs.declared.Class.{Class}
 use Rattle.tags.specs.declared.Class.the-variants.{Text, Value, Key}
@@ -31,7 +31,7 @@ never e = absurd (let no-way : _≡_ {A = ℕ} 0 1 = cc in omega arith)
 
 -- ---- runs
 
--- an escape stands in a run as a whole
+-- an escapeAt stands in a run as a whole
 abbrev Long : Class → Bytes → Bytes → Type 0
 Long c w s = begins w s ≡ true → length w ≤ run (ok c) s
 
@@ -39,31 +39,31 @@ long : (c : Class) (w s : Bytes) → ((r : Bytes) → length w ≤ run (ok c) (w
 long c w s f e = subst (λ (z : Bytes). length w ≤ run (ok c) z) (sym (begins-split w s e)) (f (drop (length w) s))
 
 lt-text : (s : Bytes) → Long Text (b "&lt;") s
-unfolding run ok plain escape begins
+unfolding run ok plain escapeAt begins
 lt-text s = long Text (b "&lt;") s (λ r. omega arith)
 
 gt-text : (s : Bytes) → Long Text (b "&gt;") s
-unfolding run ok plain escape begins
+unfolding run ok plain escapeAt begins
 gt-text s = long Text (b "&gt;") s (λ r. omega arith)
 
 amp-text : (s : Bytes) → Long Text (b "&amp;") s
-unfolding run ok plain escape begins
+unfolding run ok plain escapeAt begins
 amp-text s = long Text (b "&amp;") s (λ r. omega arith)
 
 lt-value : (s : Bytes) → Long Value (b "&lt;") s
-unfolding run ok plain escape begins
+unfolding run ok plain escapeAt begins
 lt-value s = long Value (b "&lt;") s (λ r. omega arith)
 
 gt-value : (s : Bytes) → Long Value (b "&gt;") s
-unfolding run ok plain escape begins
+unfolding run ok plain escapeAt begins
 gt-value s = long Value (b "&gt;") s (λ r. omega arith)
 
 amp-value : (s : Bytes) → Long Value (b "&amp;") s
-unfolding run ok plain escape begins
+unfolding run ok plain escapeAt begins
 amp-value s = long Value (b "&amp;") s (λ r. omega arith)
 
 quot-value : (s : Bytes) → Long Value (b "&quot;") s
-unfolding run ok plain escape begins
+unfolding run ok plain escapeAt begins
 quot-value s = long Value (b "&quot;") s (λ r. omega arith)
 
 -- a word within the first places is a word of what is cut off there
@@ -88,7 +88,7 @@ module _ (x : ℕ) (s : Bytes) where
       go false i h = never i
 
   ok-cut : (c : Class) → ok c (x ∷ s) ≡ true → ok c (x ∷ take (run (ok c) s) s) ≡ true
-  unfolding ok escape
+  unfolding ok escapeAt
   ok-cut Text o = go (plain x) o
     where
       z : Bytes
@@ -97,7 +97,7 @@ module _ (x : ℕ) (s : Bytes) where
       cut : (w : Bytes) → Long Text w (x ∷ s) → begins w (x ∷ s) ≡ true → begins w (x ∷ z) ≡ true
       cut w = word-cut Text w o
 
-      go : (y : Bool) → cond y true (escape (x ∷ s)) ≡ true → cond y true (escape (x ∷ z)) ≡ true
+      go : (y : Bool) → cond y true (escapeAt (x ∷ s)) ≡ true → cond y true (escapeAt (x ∷ z)) ≡ true
       go true e = refl
       go false e = or-more _ _ _ _ (cut _ (lt-text _)) (or-more _ _ _ _ (cut _ (gt-text _)) (cut _ (amp-text _))) e
   ok-cut Value o = go (plain x) o
@@ -108,8 +108,8 @@ module _ (x : ℕ) (s : Bytes) where
       cut : (w : Bytes) → Long Value w (x ∷ s) → begins w (x ∷ s) ≡ true → begins w (x ∷ z) ≡ true
       cut w = word-cut Value w o
 
-      go : (y : Bool) → cond y (not (eqb x 34)) (escape (x ∷ s) || begins (b "&quot;") (x ∷ s)) ≡ true
-          → cond y (not (eqb x 34)) (escape (x ∷ z) || begins (b "&quot;") (x ∷ z)) ≡ true
+      go : (y : Bool) → cond y (not (eqb x 34)) (escapeAt (x ∷ s) || begins (b "&quot;") (x ∷ s)) ≡ true
+          → cond y (not (eqb x 34)) (escapeAt (x ∷ z) || begins (b "&quot;") (x ∷ z)) ≡ true
       go true e = e
       go false e =
           or-more _ _ _ _ (or-more _ _ _ _ (cut _ (lt-value _)) (or-more _ _ _ _ (cut _ (gt-value _)) (cut _ (amp-value _))))

@@ -12,7 +12,7 @@ use borrow.Author.Tests.{lt-ltb, le-ltb, ltb-true}
 use Rattle.parts.specs.Bytes.{Bytes, b, begins}
 use Rattle.parts.proofs.Laws.{and-true, begins-fits}
 use Rattle.tags.specs.Names.{names, which, elementAt}
-use Rattle.tags.specs.Form.{plain, escape, keyByte, ok, run, pairAt, pairLen, morePairs, pairsAt, pairsFrom, closeHead, openHead, textHead, headAt, tailAt}
+use Rattle.tags.specs.Form.{plain, escapeAt, keyByte, ok, run, pairAt, pairLen, morePairs, pairsAt, pairsFrom, closeHead, openHead, textHead, headAt, tailAt}
 use Rattle.tags.specs.declared.Class.{Class}
 use Rattle.tags.specs.declared.Class.the-variants.{Text, Value, Key}
 use Rattle.tags.specs.declared.Named.{Named}
@@ -92,17 +92,17 @@ which-fits k (w ∷ ws) s n l e = go (begins w s) refl e (which-fits (suc k) ws 
 
 -- ---- what may stand
 
-pub escape-lt : (s : Bytes) {t : Bool} → t ≡ begins (b "&lt;") s → t ≡ true → true ≡ escape s
-unfolding escape
+pub escape-lt : (s : Bytes) {t : Bool} → t ≡ begins (b "&lt;") s → t ≡ true → true ≡ escapeAt s
+unfolding escapeAt
 escape-lt s e h = rw (← e, h)
 
 module _ (s : Bytes) {t : Bool} (e : t ≡ begins (b "&lt;") s) (h : t ≡ false) {u : Bool} (f : u ≡ begins (b "&gt;") s) where
-  pub escape-gt : u ≡ true → true ≡ escape s
-  unfolding escape
+  pub escape-gt : u ≡ true → true ≡ escapeAt s
+  unfolding escapeAt
   escape-gt l = rw (← e, h, ← f, l)
 
-  pub escape-amp : u ≡ false → {r : Bool} → r ≡ begins (b "&amp;") s → r ≡ escape s
-  unfolding escape
+  pub escape-amp : u ≡ false → {r : Bool} → r ≡ begins (b "&amp;") s → r ≡ escapeAt s
+  unfolding escapeAt
   escape-amp l g = rw (← e, h, ← f, l) g
 
 module _ (s : Bytes) {c : Class} {x : ℕ} {t : Bool} (e : x ≡ getD s 0 0) (p : t ≡ plain x) where
@@ -110,7 +110,7 @@ module _ (s : Bytes) {c : Class} {x : ℕ} {t : Bool} (e : x ≡ getD s 0 0) (p 
   unfolding ok
   text-plain i h = rw (i, ← e, ← p, h)
 
-  pub text-escape : c ≡ Text → t ≡ false → {r : Bool} → r ≡ escape s → r ≡ ok c s
+  pub text-escape : c ≡ Text → t ≡ false → {r : Bool} → r ≡ escapeAt s → r ≡ ok c s
   unfolding ok
   text-escape i h f = rw (i, ← e, ← p, h) f
 
@@ -118,11 +118,11 @@ module _ (s : Bytes) {c : Class} {x : ℕ} {t : Bool} (e : x ≡ getD s 0 0) (p 
   unfolding ok
   value-plain i h = rw (i, ← e, ← p, h)
 
-  pub value-escape : c ≡ Value → t ≡ false → {u : Bool} → u ≡ escape s → u ≡ true → true ≡ ok c s
+  pub value-escape : c ≡ Value → t ≡ false → {u : Bool} → u ≡ escapeAt s → u ≡ true → true ≡ ok c s
   unfolding ok
   value-escape i h f l = rw (i, ← e, ← p, h, ← f, l)
 
-  pub value-quote : c ≡ Value → t ≡ false → {u r : Bool} → u ≡ escape s → u ≡ false → r ≡ begins (b "&quot;") s → r ≡ ok c s
+  pub value-quote : c ≡ Value → t ≡ false → {u r : Bool} → u ≡ escapeAt s → u ≡ false → r ≡ begins (b "&quot;") s → r ≡ ok c s
   unfolding ok
   value-quote i h f l g = rw (i, ← e, ← p, h, ← f, l) g
 

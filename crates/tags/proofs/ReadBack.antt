@@ -12,7 +12,7 @@ use borrow.Author.Tests.{lt-ltb, eqb-true}
 use Rattle.parts.specs.Bytes.{Bytes, b, begins}
 use Rattle.parts.proofs.Laws.{and-true}
 use Rattle.tags.specs.Names.{nameOf, IsName, which, elementAt}
-use Rattle.tags.specs.Form.{plain, keyByte, escape, ok, run, Pair, pairAt, pairLen, pairOf, pairsFrom, Token, text, opens, closes, empty, got, closeHead, openHead, textHead, headAt, tailAt, ended, tagged, headed, next, moreTokens, tokensFrom}
+use Rattle.tags.specs.Form.{plain, keyByte, escapeAt, ok, run, Pair, pairAt, pairLen, pairOf, pairsFrom, Token, text, opens, closes, empty, got, closeHead, openHead, textHead, headAt, tailAt, ended, tagged, headed, next, moreTokens, tokensFrom}
 use Rattle.tags.specs.Write.{writePair, writePairs, write, writeAll, Clean, CleanPair, CleanPairs, none as no-pair, more, Tagged, Legal, nil, a-text, an-open, a-close, an-empty}
 use Rattle.tags.specs.declared.Class.{Class}
 use Rattle.tags.specs.declared.Class.the-variants.{Text, Value, Key}
@@ -36,8 +36,8 @@ or-more true y x′ y′ f g e = rw (f refl)
 or-more false y true y′ f g e = refl
 or-more false y false y′ f g e = g e
 
-escape-more : (s r : Bytes) → escape s ≡ true → escape (s ++ r) ≡ true
-unfolding escape
+escape-more : (s r : Bytes) → escapeAt s ≡ true → escapeAt (s ++ r) ≡ true
+unfolding escapeAt
 escape-more s r = or-more _ _ _ _ (begins-more _ s r) (or-more _ _ _ _ (begins-more _ s r) (begins-more _ s r))
 
 -- what may stand may stand in front of anything
@@ -45,13 +45,13 @@ pub ok-more : (c : Class) (x : ℕ) (s r : Bytes) → ok c (x ∷ s) ≡ true �
 unfolding ok
 ok-more Text x s r = go (plain x)
   where
-    go : (z : Bool) → cond z true (escape (x ∷ s)) ≡ true → cond z true (escape (x ∷ (s ++ r))) ≡ true
+    go : (z : Bool) → cond z true (escapeAt (x ∷ s)) ≡ true → cond z true (escapeAt (x ∷ (s ++ r))) ≡ true
     go true e = refl
     go false e = escape-more (x ∷ s) r e
 ok-more Value x s r = go (plain x)
   where
-    go : (z : Bool) → cond z (not (eqb x 34)) (escape (x ∷ s) || begins (b "&quot;") (x ∷ s)) ≡ true
-        → cond z (not (eqb x 34)) (escape (x ∷ (s ++ r)) || begins (b "&quot;") (x ∷ (s ++ r))) ≡ true
+    go : (z : Bool) → cond z (not (eqb x 34)) (escapeAt (x ∷ s) || begins (b "&quot;") (x ∷ s)) ≡ true
+        → cond z (not (eqb x 34)) (escapeAt (x ∷ (s ++ r)) || begins (b "&quot;") (x ∷ (s ++ r))) ≡ true
     go true e = e
     go false e = or-more _ _ _ _ (escape-more (x ∷ s) r) (begins-more _ (x ∷ s) r) e
 ok-more Key x s r = λ e. e
@@ -110,7 +110,7 @@ pairs-write (a ∷ ps) r (more h hs) e =
 -- ---- tokens
 
 stop-text : (r : Bytes) → run (ok Text) (60 ∷ r) ≡ 0
-unfolding run ok plain escape begins
+unfolding run ok plain escapeAt begins
 stop-text r = refl
 
 -- behind a tag no pair stands
@@ -172,7 +172,7 @@ unfolding write tagged tailAt ended begins
 next-empty n ps r h hs = open-head n (writePairs ps (b " />" ++ r)) h ∙ rw (pairs-write ps (b " />" ++ r) hs (shut-empty r))
 
 first-ok : (x : ℕ) (s : Bytes) → ok Text (x ∷ s) ≡ true → eqb 60 x ≡ false
-unfolding ok plain escape begins
+unfolding ok plain escapeAt begins
 first-ok x s e = go (eqb 60 x) refl
   where
     go : (t : Bool) → eqb 60 x ≡ t → eqb 60 x ≡ false

@@ -10,7 +10,7 @@ use lib.Dec.{eqb}
 use Rattle.parts.specs.Bytes.{Bytes, b, begins}
 use Rattle.chars.specs.Escape.{escaped, escape, special}
 use Rattle.tags.specs.Names.{nameOf, IsName}
-use Rattle.tags.specs.Form.{plain, keyByte, escape as escapeAt, ok, run, Token, text as textToken, opens, closes, empty as emptyToken, tokensFrom, closing}
+use Rattle.tags.specs.Form.{plain, keyByte, escapeAt, ok, run, Token, text as textToken, opens, closes, empty as emptyToken, tokensFrom, closing}
 use Rattle.tags.specs.Write.{writePair, writePairs, write, writeAll, Clean, CleanPairs, none as no-pair, more as more-pairs, Legal, nil as no-token, a-text as text-legal, an-open, a-close as close-legal, an-empty as empty-legal, TagForm}
 use Rattle.tags.specs.Items.{Attr, Item, start, empty, close, text, line, valueOf, attrBytes, attrsBytes, newLine, bytesOf, render, join, pairsOf, tokensOf, LegalAttr, LegalAttrs, none, more, LegalItems, nil, a-start, an-empty, a-close, a-text, a-line, framed}
 use Rattle.tags.specs.declared.Class.{Class}

@@ -27,20 +27,24 @@ pub data Item : Type 0 where
 
 -- ---- bytes
 
+-- a value as it is written
 unfoldable pub valueOf : Attr → Bytes
 valueOf a = cond (a .raw) (a .value) (escape true (a .value))
 
+-- ` key="value"`
 unfoldable pub attrBytes : Attr → Bytes
 attrBytes a = b " " ++ (a .key ++ (b "=\"" ++ (valueOf a ++ b "\"")))
 
+-- attributes in a row
 unfoldable pub attrsBytes : List Attr → Bytes
 attrsBytes [] = []
 attrsBytes (a ∷ qs) = attrBytes a ++ attrsBytes qs
 
--- blocks start on a new line, two spaces a level
+-- "blocks start on a new line, two spaces a level"
 unfoldable pub newLine : ℕ → Bytes
 newLine d = 10 ∷ replicate (2 * d) 32
 
+-- an item as it is written
 unfoldable pub bytesOf : Item → Bytes
 bytesOf (start n qs) = b "<" ++ (nameOf n ++ (attrsBytes qs ++ b ">"))
 bytesOf (empty n qs) = b "<" ++ (nameOf n ++ (attrsBytes qs ++ b " />"))
@@ -48,6 +52,7 @@ bytesOf (close n) = b "</" ++ (nameOf n ++ b ">")
 bytesOf (text t) = escape false t
 bytesOf (line d) = newLine d
 
+-- items as they are written, one behind the other
 unfoldable pub render : List Item → Bytes
 render [] = []
 render (i ∷ is) = bytesOf i ++ render is
@@ -63,11 +68,12 @@ join (x ∷ s) (opens n ps ∷ ts) = textToken (x ∷ s) ∷ opens n ps ∷ ts
 join (x ∷ s) (closes n ∷ ts) = textToken (x ∷ s) ∷ closes n ∷ ts
 join (x ∷ s) (emptyToken n ps ∷ ts) = textToken (x ∷ s) ∷ emptyToken n ps ∷ ts
 
+-- attributes as they stand in the text
 unfoldable pub pairsOf : List Attr → List Pair
 pairsOf [] = []
 pairsOf (a ∷ qs) = record { key = a .key; value = valueOf a } ∷ pairsOf qs
 
--- neighbouring texts and lines are one text
+-- the tokens of items: neighbouring texts and lines are one text
 unfoldable pub tokensOf : List Item → List Token
 tokensOf [] = []
 tokensOf (start n qs ∷ is) = opens n (pairsOf qs) ∷ tokensOf is
@@ -75,6 +81,15 @@ tokensOf (empty n qs ∷ is) = emptyToken n (pairsOf qs) ∷ tokensOf is
 tokensOf (close n ∷ is) = closes n ∷ tokensOf is
 tokensOf (text t ∷ is) = join (escape false t) (tokensOf is)
 tokensOf (line d ∷ is) = join (newLine d) (tokensOf is)
+
+-- the tokens of items with neighbouring texts and lines apart
+unfoldable pub apart : List Item → List Token
+apart [] = []
+apart (start n qs ∷ is) = opens n (pairsOf qs) ∷ apart is
+apart (empty n qs ∷ is) = emptyToken n (pairsOf qs) ∷ apart is
+apart (close n ∷ is) = closes n ∷ apart is
+apart (text t ∷ is) = textToken t ∷ apart is
+apart (line d ∷ is) = textToken (newLine d) ∷ apart is
 
 -- ---- what may be rendered
 
@@ -84,10 +99,12 @@ pub record LegalAttr (a : Attr) : Type 0 where
   pub key : Clean Key (a .key)
   pub value : a .raw ≡ true → Clean Value (a .value)
 
+-- each of a row is legal
 pub data LegalAttrs : List Attr → Type 0 where
   none : LegalAttrs []
   more : {a : Attr} {qs : List Attr} → LegalAttr a → LegalAttrs qs → LegalAttrs (a ∷ qs)
 
+-- elements have one of the sixteen names, and legal attributes
 pub data LegalItems : List Item → Type 0 where
   nil : LegalItems []
   a-start : {n : ℕ} {qs : List Attr} {is : List Item} → IsName n → LegalAttrs qs → LegalItems is → LegalItems (start n qs ∷ is)

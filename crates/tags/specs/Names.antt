@@ -7,6 +7,7 @@ use Rattle.parts.specs.Bytes.{Bytes, b, begins}
 use Rattle.tags.specs.declared.Named.{Named}
 use Rattle.tags.specs.declared.Named.the-variants.{Name, Unnamed}
 
+-- the names, in order
 abbrev pub names : List Bytes
 names =
     b "usx"
@@ -27,9 +28,11 @@ names =
     ∷ b "ref"
     ∷ []
 
+-- the name of an element, and nothing for another number
 unfoldable pub nameOf : ℕ → Bytes
 nameOf n = getD ([] ∷ names) n []
 
+-- the number of an element
 pub record IsName (n : ℕ) : Type 0 where
   pub one : 1 ≤ n
   pub sixteen : n ≤ 16
@@ -39,5 +42,6 @@ unfoldable pub which : ℕ → List Bytes → Bytes → Named
 which k [] s = Unnamed
 which k (w ∷ ws) s = cond (begins w s) (Name k (length w)) (which (suc k) ws s)
 
+-- the element whose name a text begins with
 unfoldable pub elementAt : Bytes → Named
 elementAt s = which 1 names s

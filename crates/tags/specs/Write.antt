@@ -9,9 +9,11 @@ use Rattle.tags.specs.Form.{ok, run, Pair, Token, text, opens, closes, e
 use Rattle.tags.specs.declared.Class.{Class}
 use Rattle.tags.specs.declared.Class.the-variants.{Text, Value, Key}
 
+-- ` key="value"` in front of a text
 unfoldable pub writePair : Pair → Bytes → Bytes
 writePair a r = b " " ++ (a .key ++ (b "=\"" ++ (a .value ++ (b "\"" ++ r))))
 
+-- attributes in a row in front of a text
 unfoldable pub writePairs : List Pair → Bytes → Bytes
 writePairs [] r = r
 writePairs (a ∷ ps) r = writePair a (writePairs ps r)
@@ -23,6 +25,7 @@ write (opens n ps) r = b "<" ++ (nameOf n ++ writePairs ps (b ">" ++ r))
 write (closes n) r = b "</" ++ (nameOf n ++ (b ">" ++ r))
 write (empty n ps) r = b "<" ++ (nameOf n ++ writePairs ps (b " />" ++ r))
 
+-- tokens one behind the other
 unfoldable pub writeAll : List Token → Bytes
 writeAll [] = []
 writeAll (t ∷ ts) = write t (writeAll ts)
@@ -33,11 +36,13 @@ writeAll (t ∷ ts) = write t (writeAll ts)
 abbrev pub Clean : Class → Bytes → Type 0
 Clean c s = run (ok c) s ≡ length s
 
+-- "a key is one or more bytes", and key and value are clean
 pub record CleanPair (a : Pair) : Type 0 where
   pub some : 0 < length (a .key)
   pub key : Clean Key (a .key)
   pub value : Clean Value (a .value)
 
+-- each of a row is clean
 pub data CleanPairs : List Pair → Type 0 where
   none : CleanPairs []
   more : {a : Pair} {ps : List Pair} → CleanPair a → CleanPairs ps → CleanPairs (a ∷ ps)

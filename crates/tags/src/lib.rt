@@ -1,8 +1,11 @@
 // The tag form: what stands at the front of a text, by lengths, where no byte is copied.
+mod elements;
+
 ghost use mathlib.Core.Path.{_≡_};
 ghost use lib.ListN.{drop, getD};
 ghost use Rattle.tags.specs.Names.{names, which, elementAt};
-ghost use Rattle.tags.specs.Form.{plain, keyByte, escape, ok, run, pairAt, closeHead, openHead, headAt, tailAt};
+ghost use Rattle.tags.specs.Form.{plain, keyByte, escapeAt, ok, run, pairAt, closeHead, openHead, headAt, tailAt};
+pub use elements::Element;
 use parts::begins_with;
 use parts::from;
 
@@ -67,7 +70,7 @@ fn is_key_byte(c: u8) -> bool
 }
 
 fn is_escape(s: &[u8]) -> bool
-    ensures { λ r. ⌜ r ≡ escape (now (s .entry)) ⌝ }
+    ensures { λ r. ⌜ r ≡ escapeAt (now (s .entry)) ⌝ }
 {
     if begins_with(s, b"&lt;") {
         return true;
@@ -135,16 +138,16 @@ fn element(s: &[u8]) -> Named
     ensures { λ r. ⌜ r ≡ elementAt (now (s .entry)) ⌝ }
 {
     if begins_with(s, b"usx") {
-        return Named::Name(1, 3);
+        return Named::Name(Element::USX, 3);
     }
     if begins_with(s, b"book") {
-        return Named::Name(2, 4);
+        return Named::Name(Element::BOOK, 4);
     }
     if begins_with(s, b"chapter") {
-        return Named::Name(3, 7);
+        return Named::Name(Element::CHAPTER, 7);
     }
     if begins_with(s, b"verse") {
-        return Named::Name(4, 5);
+        return Named::Name(Element::VERSE, 5);
     }
     from_para(s)
 }
@@ -153,16 +156,16 @@ fn from_para(s: &[u8]) -> Named
     ensures { λ r. ⌜ r ≡ which 5 (drop 4 names) (now (s .entry)) ⌝ }
 {
     if begins_with(s, b"para") {
-        return Named::Name(5, 4);
+        return Named::Name(Element::PARA, 4);
     }
     if begins_with(s, b"char") {
-        return Named::Name(6, 4);
+        return Named::Name(Element::CHAR, 4);
     }
     if begins_with(s, b"note") {
-        return Named::Name(7, 4);
+        return Named::Name(Element::NOTE, 4);
     }
     if begins_with(s, b"ms") {
-        return Named::Name(8, 2);
+        return Named::Name(Element::MS, 2);
     }
     from_figure(s)
 }
@@ -171,16 +174,16 @@ fn from_figure(s: &[u8]) -> Named
     ensures { λ r. ⌜ r ≡ which 9 (drop 8 names) (now (s .entry)) ⌝ }
 {
     if begins_with(s, b"figure") {
-        return Named::Name(9, 6);
+        return Named::Name(Element::FIGURE, 6);
     }
     if begins_with(s, b"table") {
-        return Named::Name(10, 5);
+        return Named::Name(Element::TABLE, 5);
     }
     if begins_with(s, b"row") {
-        return Named::Name(11, 3);
+        return Named::Name(Element::ROW, 3);
     }
     if begins_with(s, b"cell") {
-        return Named::Name(12, 4);
+        return Named::Name(Element::CELL, 4);
     }
     from_sidebar(s)
 }
@@ -189,16 +192,16 @@ fn from_sidebar(s: &[u8]) -> Named
     ensures { λ r. ⌜ r ≡ which 13 (drop 12 names) (now (s .entry)) ⌝ }
 {
     if begins_with(s, b"sidebar") {
-        return Named::Name(13, 7);
+        return Named::Name(Element::SIDEBAR, 7);
     }
     if begins_with(s, b"periph") {
-        return Named::Name(14, 6);
+        return Named::Name(Element::PERIPH, 6);
     }
     if begins_with(s, b"optbreak") {
-        return Named::Name(15, 8);
+        return Named::Name(Element::OPTBREAK, 8);
     }
     if begins_with(s, b"ref") {
-        return Named::Name(16, 3);
+        return Named::Name(Element::REF, 3);
     }
     Named::Unnamed
 }

@@ -1,6 +1,6 @@
 use Rattle.checker.proofs.Laws.{attrs-in, attrs-rest, attrs-mark, attrs-end}
-use Rattle.checker.specs.Check.{markIn}
-use Rattle.checker.specs.Rules.{bare, markOn}
+use Rattle.checker.specs.View.{bare, markOn}
+use Rattle.checker.specs.Code.{markIn}
 use Rattle.tags.specs.Form.{pairAt, pairsFrom}
 use borrow.Author.Needs.{needs}
 use lib.ListN.{length, drop}

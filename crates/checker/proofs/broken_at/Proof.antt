@@ -36,7 +36,10 @@ slice-aggregate-step : tie.Need-slice-aggregate-step Inv-loop μ-loop
 slice-aggregate-step c = sym (c .before .before .before .before .before .before .loop .inv .going .long)
 
 step-requires : tie.Need-step-requires Inv-loop μ-loop
-step-requires c κs = omega (arith, c .before .before .before .before .before .before .loop .inv .going, c .before .before .before .before .before .before .before .before .before .good)
+step-requires c κs =
+    let inv = c .before .before .before .before .before .before .loop .inv .going in
+    let good = c .before .before .before .before .before .before .before .before .before .good in
+    (inv .long, omega (arith, inv .low, good), inv .deep, omega (arith, inv .few, good), omega (arith, inv .little, good), inv .told)
 
 is-broken-requires : tie.Need-is-broken-requires Inv-loop μ-loop
 is-broken-requires c κs = search needs

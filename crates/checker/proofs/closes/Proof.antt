@@ -1,5 +1,5 @@
-use Rattle.checker.specs.Check.{heldIn}
-use Rattle.checker.specs.Rules.{isHeld}
+use Rattle.checker.specs.Steps.{isHeld}
+use Rattle.checker.specs.Code.{heldIn}
 use borrow.Author.Needs.{needs}
 use Rattle.checker.proofs.closes.Statement.{statement}
 use Rattle.checker.proofs.closes.Tie as tie

@@ -32,11 +32,15 @@ returns-3 c = λ x a. rw (c .enum-told3 .given .1)
 
 returns-4 : tie.Need-returns-4
 unfolding isBroken
-returns-4 c = λ x a. rw (c .enum-told4 .given .1)
+returns-4 c = λ x a. rw (c .before .enum-told4 .given .1, c .if1 .taken)
 
 returns-5 : tie.Need-returns-5
 unfolding isBroken
-returns-5 c = λ x a. rw (c .enum-told5 .given .1)
+returns-5 c = λ x a. rw (c .before .enum-told4 .given .1, c .if1 .left)
+
+returns-6 : tie.Need-returns-6
+unfolding isBroken
+returns-6 c = λ x a. rw (c .enum-told5 .given .1)
 
 pub is-broken-spec : {M : Type 1} → statement M
 is-broken-spec =
@@ -51,4 +55,5 @@ is-broken-spec =
     returns-2
     returns-3
     returns-4
-    returns-5)
+    returns-5
+    returns-6)

@@ -35,7 +35,10 @@ slice-aggregate-step : tie.Need-slice-aggregate-step Inv-loop μ-loop
 slice-aggregate-step c = sym (c .before .before .before .before .before .before .loop .inv .long)
 
 step-requires : tie.Need-step-requires Inv-loop μ-loop
-step-requires c κs = omega (arith, c .before .before .before .before .before .before .before .before .before .good)
+step-requires c κs =
+    let inv = c .before .before .before .before .before .before .loop .inv in
+    let good = c .before .before .before .before .before .before .before .before .before .good in
+    (inv .long, omega (arith, inv .low, good), inv .deep, omega (arith, inv .few, good), omega (arith, inv .little, good), inv .told)
 
 loop-less : tie.Need-loop-less Inv-loop μ-loop
 loop-less c = omega (arith, going-on _ _ (c .before .before .before .before .before .before .before .loop-test .taken) _ _ (rw (c .before .before .before .before .tag .given .1) at (c .before .before .before .before .before .before .next-at .ensures)))

@@ -1,55 +1,16 @@
--- What is asked of the tokens: heights, one tree, milestones, each as a fold.
+-- What the checker's state does at each token, as a fold over any row of tags; the rules themselves are those of Words.
 use Prim.Native.Nat.{ℕ, _+_}
 use mathlib.Core.List.{List, [], _∷_}
 use mathlib.Core.Bool.{Bool, true, false, cond, _||_}
-use lib.ListN.{length}
-use lib.Dec.{eqb, ltb}
+use lib.Dec.{eqb}
 use lib.IntN.{ℤ, pos, _+ℤ_, _-ℤ_}
-use Rattle.parts.specs.Bytes.{b, same}
-use Rattle.tags.specs.Form.{Pair, Token, text, opens, closes, empty}
+use Rattle.parts.specs.Bytes.{Bytes, same}
 use Rattle.tags.specs.Element as el
-
--- ---- what the rules see of a token
-
--- by its attributes: no attribute, none that counts, a start, an end, anything else
-pub data Mark : Type 0 where
-  bare plain other : Mark
-  start ends : List ℕ → Mark
-
--- one more attribute: whether its key is eid, whether it is sid, its value
-unfoldable pub notedBy : Mark → Bool → Bool → List ℕ → Mark
-notedBy bare true s v = ends v
-notedBy bare false true v = start v
-notedBy bare false false v = plain
-notedBy plain true s v = other
-notedBy plain false true v = start v
-notedBy plain false false v = plain
-notedBy (start i) true s v = other
-notedBy (start i) false true v = other
-notedBy (start i) false false v = start i
-notedBy (ends i) e s v = other
-notedBy other e s v = other
-
-unfoldable pub noted : Mark → Pair → Mark
-noted m a = notedBy m (same (a .key) (b "eid")) (same (a .key) (b "sid")) (a .value)
-
-unfoldable pub markOn : Mark → List Pair → Mark
-markOn m [] = m
-markOn m (a ∷ ps) = markOn (noted m a) ps
-
-pub data View : Type 0 where
-  words : View
-  opened closed : ℕ → View
-  single : ℕ → Mark → View
-
-unfoldable pub view : Token → View
-view (text t) = words
-view (opens n ps) = opened n
-view (closes n) = closed n
-view (empty n ps) = single n (markOn bare ps)
+use Rattle.checker.specs.View.{Mark, bare, plain, other, start, ends, View, words, opened, closed, single}
 
 -- ---- heights
 
+-- the height behind one tag more
 unfoldable pub rise : ℤ → View → ℤ
 rise h words = h
 rise h (opened n) = h +ℤ pos 1
@@ -58,44 +19,50 @@ rise h (single n m) = h
 
 -- ---- one tree
 
--- the elements still open, innermost first; whether usx was opened, and closed
+-- the elements still open, innermost first; whether usx was opened, and closed; whether the tree is none
 pub record Trunk : Type 0 where
   pub stack : List ℕ
   pub seen : Bool
   pub done : Bool
   pub broken : Bool
 
+-- the tree is none
 unfoldable pub broke : Trunk → Trunk
 broke t = record { stack = t .stack; seen = t .seen; done = t .done; broken = true }
 
+-- one element more is open
 unfoldable pub push : Trunk → ℕ → Bool → Trunk
-push t n u =
-    cond (ltb (length (t .stack)) 160) (record { stack = n ∷ t .stack; seen = u; done = t .done; broken = t .broken })
-    (broke t)
+push t n u = record { stack = n ∷ t .stack; seen = u; done = t .done; broken = t .broken }
 
+-- the innermost element is closed, where it is the one that the tag names
 unfoldable pub pop : Trunk → ℕ → List ℕ → Trunk
 pop t n [] = broke t
 pop t n (m ∷ ms) = cond (eqb m n) (record { stack = ms; seen = t .seen; done = eqb n el.usx; broken = t .broken }) (broke t)
 
+-- one tag more while usx is not closed
 unfoldable pub growIn : Trunk → View → Trunk
 growIn t words = t
 growIn t (opened n) = cond (eqb n el.usx) (cond (t .seen) (broke t) (push t n true)) (push t n (t .seen))
 growIn t (closed n) = pop t n (t .stack)
 growIn t (single n m) = cond (eqb n el.usx) (broke t) t
 
+-- one tag more: what is broken stays so, and nothing follows the close of usx
 unfoldable pub grow : Trunk → View → Trunk
-grow t v = cond (t .done) (broke t) (growIn t v)
+grow t v = cond (t .broken) t (cond (t .done) (broke t) (growIn t v))
 
 -- ---- milestones
 
+-- the chapter or verse that is open, by its identifier
 pub data Held : Type 0 where
   shut : Held
-  held : List ℕ → Held
+  held : Bytes → Held
 
+-- what a chapter or verse tag does: it begins one, ends the open one, or is wrong
 pub data Turned : Type 0 where
-  begun : List ℕ → Turned
+  begun : Bytes → Turned
   ended wrong : Turned
 
+-- what a tag does where this is open of its kind
 unfoldable pub turn : Held → Mark → Turned
 turn h bare = wrong
 turn h plain = wrong
@@ -105,6 +72,7 @@ turn (held j) (start i) = wrong
 turn shut (ends i) = wrong
 turn (held j) (ends i) = cond (same j i) ended wrong
 
+-- the open chapter and verse, how many began, and whether something went amiss
 pub record Pairs : Type 0 where
   pub chapter : Held
   pub verse : Held
@@ -112,31 +80,37 @@ pub record Pairs : Type 0 where
   pub verses : ℕ
   pub amiss : Bool
 
+-- something went amiss
 unfoldable pub missed : Pairs → Pairs
 missed p = record { chapter = p .chapter; verse = p .verse; chapters = p .chapters; verses = p .verses; amiss = true }
 
+-- a chapter tag did this
 unfoldable pub chapterTo : Pairs → Turned → Pairs
 chapterTo p (begun i) = record { chapter = held i; verse = p .verse; chapters = p .chapters + 1; verses = p .verses; amiss = p .amiss }
 chapterTo p ended = record { chapter = shut; verse = p .verse; chapters = p .chapters; verses = p .verses; amiss = p .amiss }
 chapterTo p wrong = missed p
 
+-- a verse tag did this
 unfoldable pub verseTo : Pairs → Turned → Pairs
 verseTo p (begun i) = record { chapter = p .chapter; verse = held i; chapters = p .chapters; verses = p .verses + 1; amiss = p .amiss }
 verseTo p ended = record { chapter = p .chapter; verse = shut; chapters = p .chapters; verses = p .verses; amiss = p .amiss }
 verseTo p wrong = missed p
 
+-- whether none is open
 unfoldable pub isShut : Held → Bool
 isShut shut = true
 isShut (held i) = false
 
 -- whether an end of that identifier belongs to what is open
-unfoldable pub isHeld : Held → List ℕ → Bool
+unfoldable pub isHeld : Held → Bytes → Bool
 isHeld shut i = false
 isHeld (held j) i = same j i
 
+-- whether an element is chapter or verse
 unfoldable pub isMilestone : ℕ → Bool
 isMilestone n = eqb n el.chapter || eqb n el.verse
 
+-- one tag more: a chapter or verse tag ends in ` />`, and a chapter's finds no verse open
 unfoldable pub pairUp : Pairs → View → Pairs
 pairUp p words = p
 pairUp p (opened n) = cond (isMilestone n) (missed p) p
