@@ -80,12 +80,17 @@ pub fn length_of(s: &[u8]) -> usize
 }
 
 impl Sections {
+    pub const FORMAT: usize = 1;
+
+    // How long the header is.
+    pub const HEADER: u32 = 36;
+
     // The counts that a file's header gives.
     pub fn of(file: &[u8]) -> Self
         ensures { λ r. ⌜ r ≡ sectionsOf (now (file .entry)) ⌝ }
     {
         Sections {
-            head: 36,
+            head: Sections::HEADER,
             nodes: number::le32(parts::from(file, 4)),
             entries: number::le32(parts::from(file, 12)),
             names: number::le32(parts::from(file, 20)),
@@ -178,8 +183,8 @@ pub fn node_at(file: &[u8], tape: Sections, at: u32) -> Node
         Node::of(parts::from(file, node_place(tape, at)))
     } else {
         Node {
-            kind: Kind { code: Kind::ERROR },
-            flags: Flags { bits: 0 },
+            kind: Kind::new(Kind::ERROR),
+            flags: Flags::new(0),
             marker: 65535,
             link: 0,
             start: 0,
@@ -199,12 +204,8 @@ pub fn entry_at(file: &[u8], tape: Sections, at: u32) -> Entry
         Entry {
             start: 0,
             len: 0,
-            category: Category {
-                code: Category::OTHER,
-            },
-            element: Element {
-                code: Element::OTHER,
-            },
+            category: Category::new(Category::OTHER),
+            element: Element::new(Element::OTHER),
         }
     }
 }
@@ -331,13 +332,13 @@ impl Cursor {
     pub fn is_synthetic(self, file: &[u8], tape: Sections) -> bool
         ensures { λ r. ⌜ r ≡ isSynthetic (tapeIn tape (now (file .entry))) (self .at) ⌝ }
     {
-        self.flags(file, tape).bits % 2 == 1
+        self.flags(file, tape).bits / Flags::SYNTHETIC % 2 == 1
     }
 
     pub fn is_nested(self, file: &[u8], tape: Sections) -> bool
         ensures { λ r. ⌜ r ≡ isNested (tapeIn tape (now (file .entry))) (self .at) ⌝ }
     {
-        self.flags(file, tape).bits / 2 % 2 == 1
+        self.flags(file, tape).bits / Flags::NESTED % 2 == 1
     }
 
     // The number of a Chapter or Verse; 0 for other kinds.
@@ -434,9 +435,7 @@ impl Cursor {
         ensures { λ r. ⌜ r ≡ matchingClose (tapeIn tape (now (file .entry))) (self .at) ⌝ }
     {
         if self.kind(file, tape).code == Kind::MARKER_OPEN {
-            Step::At(Cursor {
-                at: self.link(file, tape),
-            })
+            Step::At(Cursor::new(self.link(file, tape)))
         } else {
             Step::Done
         }
@@ -506,7 +505,7 @@ fn child_before(nodes: u32, at: u32, link: u32) -> Step
         return Step::Done;
     }
     if next < nodes {
-        Step::At(Cursor { at: next })
+        Step::At(Cursor::new(next))
     } else {
         Step::Done
     }
@@ -526,7 +525,7 @@ fn past(file: &[u8], tape: Sections, at: u32, last: u32) -> Step
     if tape.nodes <= next {
         return Step::Done;
     }
-    let c = Cursor { at: next };
+    let c = Cursor::new(next);
     if c.kind(file, tape).is_close() {
         Step::Done
     } else {
