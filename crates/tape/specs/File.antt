@@ -1,5 +1,5 @@
 -- The tape file: any bytes make a tape. Outside it stands a default.
-use Prim.Native.Nat.{ℕ, zero, suc, _+_, _*_}
+use Prim.Native.Nat.{ℕ, zero, suc, _+_, _*_, min}
 use mathlib.Core.List.{List, [], _∷_}
 use mathlib.Core.Bool.{Bool, cond, _&&_, _||_}
 use lib.ListN.{length, getD, drop}
@@ -138,9 +138,17 @@ kindAt t k = nodeAt t k .kind .code
 unfoldable pub textAt : Tape → ℕ → Bytes
 textAt t k = part (t .source) (nodeAt t k .start) (nodeAt t k .len)
 
+-- where a node's text starts in the file: in the source, at the node's start, as far as the source reaches
+unfoldable pub textStart : Sections → Bytes → ℕ → ℕ
+textStart c file k = sourceAt c + min (nodeAt (tapeIn c file) k .start) (length (tapeIn c file .source))
+
 -- the name of an entry
 unfoldable pub entryName : Tape → Entry → Bytes
 entryName t e = part (t .names) (e .start) (e .len)
+
+-- where an entry's name starts in the file: in the names, at the entry's start, as far as the names reach
+unfoldable pub entryStart : Sections → Bytes → Entry → ℕ
+entryStart c file e = namesAt c + min (e .start) (length (tapeIn c file .names))
 
 -- whether a node is synthetic
 unfoldable pub isSynthetic : Tape → ℕ → Bool
@@ -183,3 +191,8 @@ baseLen Unknown = 0
 unfoldable pub nameOf : Tape → Info → Bytes
 nameOf t (Known e) = entryName t e
 nameOf t Unknown = []
+
+-- where the name of a node's entry starts in the file; nothing stands at the file's start
+unfoldable pub nameOfStart : Sections → Bytes → Info → ℕ
+nameOfStart c file (Known e) = entryStart c file e
+nameOfStart c file Unknown = 0

@@ -13,10 +13,11 @@ pub use number::long;
 pub use number::short;
 ghost use mathlib.Core.Path.{_≡_};
 ghost use Prim.Native.Nat.{_+_, _*_, _≤_, _<_, _^_};
-ghost use lib.ListN.{drop};
+ghost use lib.ListN.{length, drop};
 ghost use Rattle.parts.specs.Bytes.{part, same};
-ghost use Rattle.tape.specs.File.{le32 as le32Of, nodeOf, entryOf, sectionsOf, entriesAt, namesAt, sourceAt, tapeIn, nodeAt, entryAt, kindAt, textAt, entryName, isSynthetic, isNested, bearsMarker, infoAt, numberAt, categoryOf, elementOf, baseLen, nameOf};
-ghost use Rattle.tape.specs.Name.{markerName, entryIs};
+ghost use Rattle.parts.specs.Place.{VeryPart};
+ghost use Rattle.tape.specs.File.{le32 as le32Of, nodeOf, entryOf, sectionsOf, entriesAt, namesAt, sourceAt, tapeIn, nodeAt, entryAt, kindAt, textAt, textStart, entryName, entryStart, isSynthetic, isNested, bearsMarker, infoAt, numberAt, categoryOf, elementOf, baseLen, nameOf, nameOfStart};
+ghost use Rattle.tape.specs.Name.{markerName, markerStart, markerLen, entryIs};
 ghost use Rattle.tape.specs.Tree.{isClose, holds, matchingClose, childBefore, firstChild, lastOf, siblingPast, nextSibling, found};
 
 // A node of the tape.
@@ -212,21 +213,24 @@ pub fn entry_at(file: &[u8], tape: Sections, at: u32) -> Entry
 
 // The name bytes of a file.
 pub fn names(file: &[u8], tape: Sections) -> &[u8]
-    ensures { λ r. ⌜ now r ≡ tapeIn tape (now (file .entry)) .names ⌝ }
+    ensures bytes { λ r. ⌜ now r ≡ tapeIn tape (now (file .entry)) .names ⌝ }
+    ensures place { λ r. ⌜ VeryPart (file .entry) r (namesAt tape) (tape .names) ⌝ }
 {
     parts::part(file, tape.names_at(), long(tape.names))
 }
 
 // The source bytes of a file.
 pub fn source(file: &[u8], tape: Sections) -> &[u8]
-    ensures { λ r. ⌜ now r ≡ tapeIn tape (now (file .entry)) .source ⌝ }
+    ensures bytes { λ r. ⌜ now r ≡ tapeIn tape (now (file .entry)) .source ⌝ }
+    ensures place { λ r. ⌜ VeryPart (file .entry) r (sourceAt tape) (tape .source) ⌝ }
 {
     parts::part(file, tape.source_at(), long(tape.source))
 }
 
 // The name of an entry.
 pub fn entry_name(file: &[u8], tape: Sections, e: Entry) -> &[u8]
-    ensures { λ r. ⌜ now r ≡ entryName (tapeIn tape (now (file .entry))) e ⌝ }
+    ensures bytes { λ r. ⌜ now r ≡ entryName (tapeIn tape (now (file .entry))) e ⌝ }
+    ensures place { λ r. ⌜ VeryPart (file .entry) r (entryStart tape (now (file .entry)) e) (length (entryName (tapeIn tape (now (file .entry))) e)) ⌝ }
 {
     parts::part(names(file, tape), long(e.start), short(e.len))
 }
@@ -414,7 +418,8 @@ impl Cursor {
 
     // The name of the node's entry; nothing where it is unknown.
     pub fn entry_name(self, file: &[u8], tape: Sections) -> &[u8]
-        ensures { λ r. ⌜ now r ≡ nameOf (tapeIn tape (now (file .entry))) (infoAt (tapeIn tape (now (file .entry))) (self .at)) ⌝ }
+        ensures bytes { λ r. ⌜ now r ≡ nameOf (tapeIn tape (now (file .entry))) (infoAt (tapeIn tape (now (file .entry))) (self .at)) ⌝ }
+        ensures place { λ r. ⌜ VeryPart (file .entry) r (nameOfStart tape (now (file .entry)) (infoAt (tapeIn tape (now (file .entry))) (self .at))) (length (nameOf (tapeIn tape (now (file .entry))) (infoAt (tapeIn tape (now (file .entry))) (self .at)))) ⌝ }
     {
         match self.marker_info(file, tape) {
             Info::Known(e) => entry_name(file, tape, e),
@@ -424,7 +429,8 @@ impl Cursor {
 
     // The node's span of the source.
     pub fn text(self, file: &[u8], tape: Sections) -> &[u8]
-        ensures { λ r. ⌜ now r ≡ textAt (tapeIn tape (now (file .entry))) (self .at) ⌝ }
+        ensures bytes { λ r. ⌜ now r ≡ textAt (tapeIn tape (now (file .entry))) (self .at) ⌝ }
+        ensures place { λ r. ⌜ VeryPart (file .entry) r (textStart tape (now (file .entry)) (self .at)) (length (textAt (tapeIn tape (now (file .entry))) (self .at))) ⌝ }
     {
         let start = long(self.start(file, tape));
         parts::part(source(file, tape), start, long(self.len(file, tape)))
@@ -468,9 +474,10 @@ impl Cursor {
         }
     }
 
-    // The marker name: the part of the node's text between an optional `\`, an optional `+`, and white space, `*`, `|`, `\` or the end.
+    // The marker name: the very part of the file between an optional `\`, an optional `+`, and white space, `*`, `|`, `\` or the node's end.
     pub fn marker_name(self, file: &[u8], tape: Sections) -> &[u8]
-        ensures { λ r. ⌜ now r ≡ markerName (tapeIn tape (now (file .entry))) (self .at) ⌝ }
+        ensures bytes { λ r. ⌜ now r ≡ markerName (tapeIn tape (now (file .entry))) (self .at) ⌝ }
+        ensures place { λ r. ⌜ VeryPart (file .entry) r (markerStart tape (now (file .entry)) (self .at)) (markerLen (tapeIn tape (now (file .entry))) (self .at)) ⌝ }
     {
         name::name_in(self.text(file, tape))
     }
