@@ -18,6 +18,7 @@ use Rattle.tape.specs.File.{tapeIn, nodeAt, textAt, infoAt, baseLen}
 use Rattle.tape.specs.Name.{bare, nameLen, nameIn, markerName}
 use Rattle.tape.specs.declared.Node.{Node}
 use Rattle.tape.specs.declared.Sections.{Sections}
+use Rattle.tape.specs.declared.Cursor.{Cursor}
 use Rattle.tape.proofs.Laws.{node-count}
 use Rattle.tape.proofs.NameRule.{name-of}
 use Rattle.places.specs.Seek.{Right, solidAt, toWord}
@@ -51,8 +52,14 @@ name-long : (s : Bytes) → length (nameIn s) ≡ nameLen (bare s)
 unfolding nameIn nameLen
 name-long s = refl
 
-module _ (c : Sections) (file : Bytes) (k : ℕ) {base : ℕ} (base-is : base ≡ baseLen (infoAt (tapeIn c file) k)) where
-  module _ {text name : Bytes} {b : Bool} (et : text ≡ textAt (tapeIn c file) k) (en : name ≡ bare text) (ec : b ≡ isBoundary name base) where
+module _ (c : Sections) (file : Bytes) (k : ℕ) {z : Cursor} {base : ℕ} (ez : z .at ≡ k) (base-at : base ≡ baseLen (infoAt (tapeIn c file) (z .at))) where
+  base-is : base ≡ baseLen (infoAt (tapeIn c file) k)
+  base-is = rw ez at base-at
+
+  module _ {text name : Bytes} {b : Bool} (text-at : text ≡ textAt (tapeIn c file) (z .at)) (en : name ≡ bare text) (ec : b ≡ isBoundary name base) where
+    et : text ≡ textAt (tapeIn c file) k
+    et = rw ez at text-at
+
     name-is : name ≡ bare (textAt (tapeIn c file) k)
     name-is = en ∙ ap bare et
 
@@ -130,15 +137,15 @@ module _ (c : Sections) (file : Bytes) (k : ℕ) {base : ℕ} (base-is : base �
           → (Right Gap s gaps → a ≤ length s → r ≡ ltb (a + toWord false (characters (drop a s))) (a + e))
           → (r ≡ true) ↔ GoodLabel (tapeIn c file) k
       word-is {e} {r} h ee f = (
-        λ q l. absurd (clash q (single .1 (rw text-at at (l .single)))),
+        λ q l. absurd (clash q (single .1 (rw text-here at (l .single)))),
         λ w. not-false r (yes w),
       )
         where
           longer : base < length (markerName (tapeIn c file) k)
           longer = ltb-true _ _ (sym asked ∙ h)
 
-          text-at : textAt (tapeIn c file) k ≡ part s a len
-          text-at = sym et ∙ text-is
+          text-here : textAt (tapeIn c file) k ≡ part s a len
+          text-here = sym et ∙ text-is
 
           e-is : e ≡ len
           e-is = ee ∙ ap (λ (m : Node). m .len) er
@@ -159,7 +166,7 @@ module _ (c : Sections) (file : Bytes) (k : ℕ) {base : ℕ} (base-is : base �
               go true q = refl
               go false q =
                   let l : LabelCut (tapeIn c file) k =
-                  record { single = rw text-at (single .0 q); longer = omega (arith, longer, base-is) } in
+                  record { single = rw text-here (single .0 q); longer = omega (arith, longer, base-is) } in
                   absurd (clash (w l) (cut-is l ∙ cb))
 
     module _ {s : Bytes} {n : Node} {a : ℕ} {enders gaps : List ℕ} {p : Bool} (cb : b ≡ false) (cl : base < length name) (es : s ≡ tapeIn c file .source)

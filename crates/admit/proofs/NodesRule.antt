@@ -13,6 +13,7 @@ use Rattle.tape.specs.File.{Tape, tapeIn, nodeAt, kindAt, infoAt, elementOf}
 use Rattle.tape.specs.declared.Node.{Node}
 use Rattle.tape.specs.declared.kinds.Element.{Element}
 use Rattle.tape.specs.declared.Sections.{Sections}
+use Rattle.tape.specs.declared.Cursor.{Cursor}
 use Rattle.tape.proofs.Laws.{node-count}
 use Rattle.nest.proofs.Tape.{no-is, yes-is, clash}
 use Rattle.admit.specs.Rules.{GoodNode, GoodNodes}
@@ -60,8 +61,8 @@ module _ (s : Bytes) (n : Node) {a l : ℕ} (ea : a ≡ n .start) (el : l ≡ n 
 
 -- ---- entries
 
-pub plain-is : (t : Tape) (k : ℕ) {e : Element} → e .code ≡ elementOf (infoAt t k) → (eqb (e .code) 0 ≡ true) ↔ (elementOf (infoAt t k) ≡ 0)
-plain-is t k {e} h = eq-is (e .code) 0 (λ z. sym h ∙ z) (λ z. h ∙ z)
+pub plain-is : (t : Tape) (k : ℕ) {c : Cursor} {e : Element} → c .at ≡ k → e .code ≡ elementOf (infoAt t (c .at)) → (eqb (e .code) 0 ≡ true) ↔ (elementOf (infoAt t k) ≡ 0)
+plain-is t k {e = e} ec h = let h = rw ec at h in eq-is (e .code) 0 (λ z. sym h ∙ z) (λ z. h ∙ z)
 
 -- ---- a node
 

@@ -14,7 +14,9 @@ use Rattle.tape.specs.declared.Sections.{Sections}
 use Rattle.places.specs.Seek.{Right}
 use Rattle.places.specs.declared.Test.the-variants.{Ender, Gap}
 use Rattle.admit.specs.Rules.{GoodEntry, LabelCut}
+use Rattle.admit.specs.Limits as limits
 use Rattle.tape.specs.Kind as kinds
+use Rattle.tape.specs.Flag as flags
 use Rattle.tape.specs.Element as elements
 
 -- 1: the offsets of a header are those of these counts
@@ -26,7 +28,7 @@ pub record Offsets (file : Bytes) (c : Sections) : Type 0 where
 
 -- 4: a byte that can stand in a name
 abbrev pub GoodByte : ℕ → Type 0
-GoodByte x = (33 ≤ x) × (x ≤ 126)
+GoodByte x = (limits.lowestNameByte ≤ x) × (x ≤ limits.highestNameByte)
 
 -- 4: every name byte is good
 abbrev pub GoodBytes : Bytes → Type 0
@@ -38,8 +40,8 @@ GoodEntries t = (i : ℕ) → i < length (t .entries) → GoodEntry t (entryAt t
 
 -- 5: kind, flags, and Root at index 0 alone
 pub record GoodShape (n : Node) (k : ℕ) : Type 0 where
-  pub kind : n .kind .code ≤ 8
-  pub flags : n .flags .bits ≤ 3
+  pub kind : n .kind .code ≤ kinds.error
+  pub flags : n .flags .bits ≤ flags.all
   pub root : (n .kind .code ≡ kinds.root) ↔ (k ≡ 0)
 
 -- 5: a span lies in the source, with both ends between characters
@@ -50,14 +52,15 @@ pub record GoodSpan (source : Bytes) (n : Node) : Type 0 where
 
 -- 5: what is asked of a node but for its label
 pub record SoundNode (t : Tape) (k : ℕ) : Type 0 where
-  pub kind : kindAt t k ≤ 8
-  pub flags : nodeAt t k .flags .bits ≤ 3
+  pub kind : kindAt t k ≤ kinds.error
+  pub flags : nodeAt t k .flags .bits ≤ flags.all
   pub root : (kindAt t k ≡ kinds.root) ↔ (k ≡ 0)
   pub inside : nodeAt t k .start + nodeAt t k .len ≤ length (t .source)
   pub start : isBoundary (t .source) (nodeAt t k .start) ≡ true
   pub end : isBoundary (t .source) (nodeAt t k .start + nodeAt t k .len) ≡ true
   pub plain : (kindAt t k ≡ kinds.chapter) ⊎ (kindAt t k ≡ kinds.verse) → elementOf (infoAt t k) ≡ elements.other
 
+-- 5: every node is sound, the labels apart
 abbrev pub SoundNodes : Tape → Type 0
 SoundNodes t = (k : ℕ) → k < length (t .nodes) → SoundNode t k
 
@@ -69,6 +72,7 @@ GoodLabel t k = LabelCut t k → isBoundary (markerName t k) (baseLen (infoAt t 
 abbrev pub GoodVerse : Tape → ℕ → Type 0
 GoodVerse t k = kindAt t k ≡ kinds.verse → GoodLabel t k
 
+-- 5: every label of a Verse is good
 abbrev pub GoodVerses : Tape → Type 0
 GoodVerses t = (k : ℕ) → k < length (t .nodes) → GoodVerse t k
 

@@ -9,35 +9,41 @@ use Rattle.admit.specs.Rules.{LaidOut, Small, Utf8, GoodNames, GoodNodes
 use Rattle.admit.specs.declared.Admitted.{Admitted}
 use Rattle.admit.specs.declared.Admitted.the-variants.{Tape, Refused}
 
--- the rules that a file keeps up to a number; a refusal is the first that it breaks
+-- a file keeps the rule of 1
 pub record Kept₁ (file : Bytes) : Type 0 where
   pub laid : LaidOut file
 
+-- a file keeps the rules of 1 and 2
 pub record Kept₂ (file : Bytes) : Type 0 where
   pub kept : Kept₁ file
   pub small : Small file
 
+-- a file keeps the rules of 1 to 3
 pub record Kept₃ (file : Bytes) : Type 0 where
   pub kept : Kept₂ file
   pub utf8 : Utf8 (tapeOf file)
 
+-- a file keeps the rules of 1 to 4
 pub record Kept₄ (file : Bytes) : Type 0 where
   pub kept : Kept₃ file
   pub names : GoodNames (tapeOf file)
 
+-- a file keeps the rules of 1 to 5
 pub record Kept₅ (file : Bytes) : Type 0 where
   pub kept : Kept₄ file
   pub nodes : GoodNodes (tapeOf file)
 
+-- a file keeps the rules of 1 to 6
 pub record Kept₆ (file : Bytes) : Type 0 where
   pub kept : Kept₅ file
   pub shallow : TooDeep (tapeOf file .nodes) → ⊥
 
+-- a file keeps every rule
 pub record Kept₇ (file : Bytes) : Type 0 where
   pub kept : Kept₆ file
   pub nested : Nested (tapeOf file .nodes)
 
--- the lowest number that applies
+-- the lowest number that applies: the rule of each lower number is kept, and its own is broken
 pub data Refusal (file : Bytes) : ℕ → Type 0 where
   none : Kept₇ file → Refusal file 0
   first : (LaidOut file → ⊥) → Refusal file 1

@@ -10,6 +10,15 @@ ghost use Rattle.admit.specs.Pieces.{Offsets};
 use tape::Sections;
 use tape::long;
 
+// The most that a tape holds: nodes, entries, name bytes, source bytes.
+const MOST_NODES: u32 = 262144;
+
+const MOST_ENTRIES: u32 = 1024;
+
+const MOST_NAMES: u32 = 16384;
+
+const MOST_SOURCE: u32 = 4194304;
+
 // The number that stands at a place of the header.
 fn word_at(file: &[u8], at: usize) -> usize
     ensures { λ r. ⌜ r ≡ le32 (drop at (now (file .entry))) ⌝ }
@@ -37,10 +46,10 @@ fn offsets(file: &[u8], t: Sections) -> bool
 pub fn laid_out(file: &[u8]) -> bool
     ensures { λ r. ⌜ (r ≡ true) ↔ LaidOut (now (file .entry)) ⌝ }
 {
-    if file.len() < 36 {
+    if file.len() < Sections::HEADER as usize {
         return false;
     }
-    if tape::length_of(file) != 1 {
+    if tape::length_of(file) != Sections::FORMAT {
         return false;
     }
     let t = Sections::of(file);
@@ -62,14 +71,14 @@ pub fn small(file: &[u8]) -> bool
     if t.nodes == 0 {
         return false;
     }
-    if 262144 < t.nodes {
+    if MOST_NODES < t.nodes {
         return false;
     }
-    if 1024 < t.entries {
+    if MOST_ENTRIES < t.entries {
         return false;
     }
-    if 16384 < t.names {
+    if MOST_NAMES < t.names {
         return false;
     }
-    t.source <= 4194304
+    t.source <= MOST_SOURCE
 }

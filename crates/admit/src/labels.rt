@@ -16,7 +16,7 @@ fn is_clear(file: &[u8], t: Sections, k: u32) -> bool
 {
     let n = tape::node_at(file, t, k);
     if n.kind.code == Kind::VERSE {
-        let c = Cursor { at: k };
+        let c = Cursor::new(k);
         let base = c.base_len(file, t);
         return chars::is_boundary(tape::bare(c.text(file, t)), base);
     }
@@ -41,7 +41,7 @@ fn all_clear(file: &[u8], t: Sections) -> bool
 fn good_label(file: &[u8], t: Sections, k: u32, enders: &[u32], gaps: &[u32]) -> bool
     ensures { λ r. ⌜ (Tables (tapeIn t (now (file .entry)) .source) (now (enders .entry)) (now (gaps .entry)) → SoundNode (tapeIn t (now (file .entry))) k → (r ≡ true) ↔ GoodLabel (tapeIn t (now (file .entry))) k) ⌝ }
 {
-    let c = Cursor { at: k };
+    let c = Cursor::new(k);
     let base = c.base_len(file, t);
     let text = c.text(file, t);
     let name = tape::bare(text);

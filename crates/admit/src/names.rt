@@ -5,18 +5,25 @@ ghost use mathlib.Core.Logic.{_↔_};
 ghost use Rattle.tape.specs.File.{tapeIn, entryAt};
 ghost use Rattle.admit.specs.Rules.{GoodEntry, GoodNames};
 ghost use Rattle.admit.specs.Pieces.{GoodByte, GoodBytes, GoodEntries};
+use tape::Category;
+use tape::Element;
 use tape::Sections;
 use tape::long;
 use tape::short;
+
+// The bytes of names: visible ASCII.
+const LOWEST: u8 = 0x21;
+
+const HIGHEST: u8 = 0x7E;
 
 // Whether a byte can stand in a name.
 fn good_byte(x: u8) -> bool
     ensures { λ r. ⌜ (r ≡ true) ↔ GoodByte x ⌝ }
 {
-    if x < 0x21 {
+    if x < LOWEST {
         return false;
     }
-    x <= 0x7E
+    x <= HIGHEST
 }
 
 fn good_bytes(s: &[u8]) -> bool
@@ -41,10 +48,10 @@ fn good_entry(file: &[u8], t: Sections, i: u32) -> bool
     if names.len() < long(e.start) + short(e.len) {
         return false;
     }
-    if 7 < e.category.code {
+    if Category::OTHER < e.category.code {
         return false;
     }
-    e.element.code <= 3
+    e.element.code <= Element::ROW
 }
 
 fn good_entries(file: &[u8], t: Sections) -> bool

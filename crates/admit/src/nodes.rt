@@ -5,8 +5,11 @@ ghost use mathlib.Core.Logic.{_↔_};
 ghost use Rattle.tape.specs.File.{tapeIn, infoAt, elementOf};
 ghost use Rattle.admit.specs.Rules.{GoodNodes};
 ghost use Rattle.admit.specs.Pieces.{GoodShape, GoodSpan, SoundNode, SoundNodes};
+ghost use Rattle.tape.specs.Element as elements;
 use crate::labels::good_labels;
 use tape::Cursor;
+use tape::Element;
+use tape::Flags;
 use tape::Kind;
 use tape::Node;
 use tape::Sections;
@@ -19,7 +22,7 @@ fn good_shape(n: Node, k: u32) -> bool
     if Kind::ERROR < n.kind.code {
         return false;
     }
-    if 3 < n.flags.bits {
+    if Flags::ALL < n.flags.bits {
         return false;
     }
     if n.kind.code == Kind::ROOT {
@@ -45,10 +48,9 @@ fn good_span(source: &[u8], n: Node) -> bool
 
 // Whether a node's entry stands for no element of its own.
 fn is_plain(file: &[u8], t: Sections, k: u32) -> bool
-    ensures { λ r. ⌜ (r ≡ true) ↔ elementOf (infoAt (tapeIn t (now (file .entry))) k) ≡ 0 ⌝ }
+    ensures { λ r. ⌜ (r ≡ true) ↔ elementOf (infoAt (tapeIn t (now (file .entry))) k) ≡ elements.other ⌝ }
 {
-    let c = Cursor { at: k };
-    c.element(file, t).code == 0
+    Cursor::new(k).element(file, t).code == Element::OTHER
 }
 
 // What is asked of a node but for its label.

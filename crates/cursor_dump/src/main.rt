@@ -99,7 +99,7 @@ fn dump(out: &mut [u8], file: &[u8]) {
     let t = Sections::of(file);
     let mut at: u32 = 0;
     while at < t.nodes {
-        let n = line(out, file, t, Cursor { at });
+        let n = line(out, file, t, Cursor::new(at));
         io::write_all(STDOUT_FILENO, parts::part(out, 0, n));
         at += 1;
     }

@@ -1,8 +1,10 @@
 // Parts of a lent slice, and what stands in one.
 ghost use mathlib.Core.Path.{_≡_};
 ghost use mathlib.Core.List.{[], _∷_};
-ghost use lib.ListN.{getD, drop};
+ghost use Prim.Native.Nat.{_-_};
+ghost use lib.ListN.{length, getD, drop};
 ghost use Rattle.parts.specs.Bytes.{part as partOf, same as isSame, begins, find};
+ghost use Rattle.parts.specs.Place.{VeryPart};
 
 // The byte at a place, and 0 past the end.
 pub fn byte_at(s: &[u8], i: usize) -> u8
@@ -13,7 +15,8 @@ pub fn byte_at(s: &[u8], i: usize) -> u8
 
 // What stands from a place on.
 pub fn from(s: &[u8], at: usize) -> &[u8]
-    ensures { λ r. ⌜ now r ≡ drop at (now (s .entry)) ⌝ }
+    ensures bytes { λ r. ⌜ now r ≡ drop at (now (s .entry)) ⌝ }
+    ensures place { λ r. ⌜ VeryPart (s .entry) r at (length (now (s .entry)) - at) ⌝ }
 {
     let n = s.len();
     if at < n { &s[at..] } else { &s[n..] }
@@ -21,7 +24,8 @@ pub fn from(s: &[u8], at: usize) -> &[u8]
 
 // The part that starts at a place and is so long, as far as the slice reaches.
 pub fn part(s: &[u8], start: usize, len: usize) -> &[u8]
-    ensures { λ r. ⌜ now r ≡ partOf (now (s .entry)) start len ⌝ }
+    ensures bytes { λ r. ⌜ now r ≡ partOf (now (s .entry)) start len ⌝ }
+    ensures place { λ r. ⌜ VeryPart (s .entry) r start len ⌝ }
 {
     let r = from(s, start);
     if len < r.len() { &r[..len] } else { r }

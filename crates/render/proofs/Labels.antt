@@ -18,11 +18,11 @@ use Rattle.words.specs.declared.Set.the-variants.{Unicode}
 use Rattle.words.specs.declared.Part.{Part}
 use Rattle.words.proofs.Places.{endOf, next-in, nth-bytes, nth-len}
 use Rattle.tape.specs.File.{Tape, nodeAt, textAt, infoAt, baseLen}
-use Rattle.tape.specs.Name.{strip, bare, nameLen, nameIn, markerName}
+use Rattle.tape.specs.Name.{strip, bare, nameLen, nameIn, markerName, nameStart}
 use Rattle.tape.specs.declared.Node.{Node}
 use Rattle.tape.proofs.Laws.{text-of}
 use Rattle.tape.proofs.NameRule.{name-of}
-use Rattle.render.specs.Label.{secondOr, labelOf, inSource, nameStart, wordPart, nameRest, labelPart, IsLabel}
+use Rattle.render.specs.Label.{secondOr, labelOf, inSource, wordPart, nameRest, labelPart, IsLabel}
 
 -- ---- words
 

@@ -14,6 +14,7 @@ use Rattle.tape.specs.Tree.{isClose}
 use Rattle.tape.specs.Name.{markerName}
 use Rattle.tape.specs.declared.kinds.Kind.{Kind}
 use Rattle.tape.specs.declared.Node.{Node}
+use Rattle.tape.specs.declared.Cursor.{Cursor}
 use Rattle.tape.specs.declared.Entry.{Entry}
 use Rattle.tape.specs.declared.Info.{Info}
 use Rattle.tape.specs.declared.Info.the-variants.{Known, Unknown}
@@ -94,12 +95,12 @@ module _ (t : Tape) (k : ℕ) {n : Node} (e : n ≡ nodeAt t k) where
   unfolding unknownShape shapeBy
   shape-known x h ei ex = rw (eq-eqb (kindAt t k) 3 (sym (kind-of t k e) ∙ h), ← ei, ex)
 
-  pub shape-unknown : {i : Info} {z : Kind} {r : Shape} → n .kind .code ≡ 3 → i ≡ infoAt t k → i ≡ Unknown → z .code ≡ kindAt t (n .link)
-      → r ≡ closedBy (z .code) → r ≡ unknownShape t k
+  pub shape-unknown : {i : Info} {c : Cursor} {z : Kind} {r : Shape} → n .kind .code ≡ 3 → i ≡ infoAt t k → i ≡ Unknown → c .at ≡ n .link
+      → z .code ≡ kindAt t (c .at) → r ≡ closedBy (z .code) → r ≡ unknownShape t k
   unfolding unknownShape shapeBy
-  shape-unknown h ei ex ez er =
+  shape-unknown h ei ex ec ez er =
       rw (eq-eqb (kindAt t k) 3 (sym (kind-of t k e) ∙ h), ← ei, ex)
-      (er ∙ ap closedBy (ez ∙ ap (λ (m : Node). kindAt t (m .link)) e))
+      (er ∙ ap closedBy (ez ∙ ap (kindAt t) ec ∙ ap (λ (m : Node). kindAt t (m .link)) e))
 
 -- ---- a node whose kind is read
 

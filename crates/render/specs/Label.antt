@@ -10,7 +10,7 @@ use Rattle.words.specs.Words.{words, nthWord}
 use Rattle.words.specs.declared.Set.the-variants.{Unicode}
 use Rattle.words.specs.declared.Part.{Part}
 use Rattle.tape.specs.File.{Tape, nodeAt, textAt, infoAt, baseLen}
-use Rattle.tape.specs.Name.{bare, markerName}
+use Rattle.tape.specs.Name.{nameStart, markerName}
 
 -- the second of some words, or something else
 unfoldable pub secondOr : Bytes → List Bytes → Bytes
@@ -27,10 +27,6 @@ labelOf t k = secondOr (drop (baseLen (infoAt t k)) (markerName t k)) (words Uni
 -- a part of a node's text as a part of the source
 unfoldable pub inSource : Tape → ℕ → Part → Part
 inSource t k p = record { start = nodeAt t k .start + p .start; len = p .len }
-
--- where a marker name starts in its text: behind the optional `\` and `+`
-unfoldable pub nameStart : Bytes → ℕ
-nameStart s = length s - length (bare s)
 
 -- the word of a node's text that so many others precede, as a part of the source; of length 0 where there is none
 unfoldable pub wordPart : Tape → ℕ → ℕ → Part

@@ -43,7 +43,7 @@ pub fn unknown_shape(file: &[u8], tape: Sections, c: Cursor) -> Shape
     match c.marker_info(file, tape) {
         Info::Known(_) => Shape::Other,
         Info::Unknown => {
-            let close = Cursor { at: n.link };
+            let close = Cursor::new(n.link);
             closed_by(close.kind(file, tape).code)
         }
     }

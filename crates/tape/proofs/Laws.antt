@@ -2,7 +2,7 @@
 use mathlib.Core.Path.{_≡_, refl, sym, ap, _∙_}
 use mathlib.Core.Bool.{Bool, true, false, _||_}
 use mathlib.Core.List.{[]}
-use Prim.Native.Nat.{ℕ, zero, suc, _+_, _*_, _/_, _%_, _≤_, _<_}
+use Prim.Native.Nat.{ℕ, zero, suc, _+_, _*_, _≤_, _<_}
 use native.Mathlib.Nat.{mul-zero, mul-suc, add-comm}
 use native.Mathlib.Omega.{arith}
 use lib.ListN.{length, getD, drop, List·getD-eq-default}
@@ -19,10 +19,12 @@ use Rattle.tape.specs.declared.kinds.Element.{Element}
 use Rattle.tape.specs.declared.Node.{Node}
 use Rattle.tape.specs.declared.Entry.{Entry}
 use Rattle.tape.specs.declared.Sections.{Sections}
+use Rattle.tape.specs.declared.Cursor.{Cursor}
 use Rattle.tape.specs.declared.Info.{Info}
 use Rattle.tape.specs.declared.Info.the-variants.{Known, Unknown}
 use Rattle.tape.specs.declared.Step.{Step}
 use Rattle.tape.specs.declared.Step.the-variants.{At, Done}
+use Rattle.tape.specs.Flag as flags
 
 -- ---- numbers
 
@@ -129,6 +131,25 @@ unfolding recordsOf
 records-length read size zero s = refl
 records-length read size (suc n) s = ap suc (records-length read size n (drop size s))
 
+-- ---- records that their constructors make
+
+at-of : {s : Cursor} {k : ℕ} → s .at ≡ k → At s ≡ At (record { at = k })
+at-of e = ap (λ (k : ℕ). At (record { at = k })) e
+
+nowhere-of : {z : Kind} {f : Flags} → z .code ≡ 8 → f .bits ≡ 0
+    → _≡_ {A = Node} (record { kind = z; flags = f; marker = 65535; link = 0; start = 0; len = 0 }) nowhere
+nowhere-of {f = f} ez ef = ap (λ (x : ℕ). made x (f .bits)) ez ∙ ap (made 8) ef
+  where
+    made : ℕ → ℕ → Node
+    made x y = record { kind = record { code = x }; flags = record { bits = y }; marker = 65535; link = 0; start = 0; len = 0 }
+
+nameless-of : {g : Category} {z : Element} → g .code ≡ 7 → z .code ≡ 0
+    → _≡_ {A = Entry} (record { start = 0; len = 0; category = g; element = z }) nameless
+nameless-of {z = z} eg ez = ap (λ (x : ℕ). made x (z .code)) eg ∙ ap (made 7) ez
+  where
+    made : ℕ → ℕ → Entry
+    made x y = record { start = 0; len = 0; category = record { code = x }; element = record { code = y } }
+
 -- ---- the record at an index, in the file
 
 module _ (c : Sections) (file : Bytes) (k : ℕ) where
@@ -147,6 +168,10 @@ module _ (c : Sections) (file : Bytes) (k : ℕ) where
   pub node-out : c .nodes ≤ k → nowhere ≡ nodeAt (tapeIn c file) k
   unfolding nodeAt tapeIn
   node-out h = sym (List·getD-eq-default (recordsOf nodeOf 16 (c .nodes) (drop (c .head) file)) nowhere (rw (records-length nodeOf 16 (c .nodes) (drop (c .head) file)) h))
+
+  pub node-outside : {z : Kind} {f : Flags} → c .nodes ≤ k → z .code ≡ 8 → f .bits ≡ 0
+      → _≡_ {A = Node} (record { kind = z; flags = f; marker = 65535; link = 0; start = 0; len = 0 }) (nodeAt (tapeIn c file) k)
+  node-outside h ez ef = rw (← node-out h) (nowhere-of ez ef)
 
   pub kind-out : {z : Kind} → c .nodes ≤ k → z .code ≡ 8 → z .code ≡ kindAt (tapeIn c file) k
   unfolding nowhere
@@ -202,9 +227,10 @@ module _ (c : Sections) (file : Bytes) (k : ℕ) where
   entry-in h ee ea er en =
       en ∙ ap entryOf (er ∙ rw (ee, ea) (sym (drop-drop (8 * k) (entriesAt c) file))) ∙ sym (records-at entryOf 8 (c .entries) (drop (entriesAt c) file) k nameless h)
 
-  pub entry-out : c .entries ≤ k → nameless ≡ entryAt (tapeIn c file) k
+  pub entry-out : {g : Category} {z : Element} → c .entries ≤ k → g .code ≡ 7 → z .code ≡ 0
+      → _≡_ {A = Entry} (record { start = 0; len = 0; category = g; element = z }) (entryAt (tapeIn c file) k)
   unfolding entryAt tapeIn
-  entry-out h = sym (List·getD-eq-default (recordsOf entryOf 8 (c .entries) (drop (entriesAt c) file)) nameless (rw (records-length entryOf 8 (c .entries) (drop (entriesAt c) file)) h))
+  entry-out h eg ez = nameless-of eg ez ∙ sym (List·getD-eq-default (recordsOf entryOf 8 (c .entries) (drop (entriesAt c) file)) nameless (rw (records-length entryOf 8 (c .entries) (drop (entriesAt c) file)) h))
 
 pub node-count : (c : Sections) (file : Bytes) → length (tapeIn c file .nodes) ≡ c .nodes
 unfolding tapeIn
@@ -282,22 +308,22 @@ module _ (t : Tape) (k : ℕ) {n : Node} (e : n ≡ nodeAt t k) where
       rw (either-second (kindAt t k) 6 (eqb (kindAt t k) 7) (λ z. g (kind-of ∙ z)), ne-eqb (kindAt t k) 7 (λ z. h (kind-of ∙ z)))
 
 module _ (t : Tape) (k : ℕ) {z : Flags} (e : z .bits ≡ nodeAt t k .flags .bits) where
-  pub synthetic-of : eqb (z .bits % 2) 1 ≡ isSynthetic t k
+  pub synthetic-of : flags.hasFlag flags.synthetic (z .bits) ≡ isSynthetic t k
   unfolding isSynthetic
-  synthetic-of = ap (λ (b : ℕ). eqb (b % 2) 1) e
+  synthetic-of = ap (flags.hasFlag flags.synthetic) e
 
-  pub nested-of : eqb (z .bits / 2 % 2) 1 ≡ isNested t k
+  pub nested-of : flags.hasFlag flags.nested (z .bits) ≡ isNested t k
   unfolding isNested
-  nested-of = ap (λ (b : ℕ). eqb (b / 2 % 2) 1) e
+  nested-of = ap (flags.hasFlag flags.nested) e
 
 pub text-of : (t : Tape) (k : ℕ) {m l a n : ℕ} {src r : Bytes} → m ≡ nodeAt t k .start → a ≡ m → src ≡ t .source → l ≡ nodeAt t k .len → n ≡ l → r ≡ part src a n → r ≡ textAt t k
 unfolding textAt
 text-of t k em ea es el en er = er ∙ rw (es, ea, em, en, el)
 
 module _ (t : Tape) (k : ℕ) {z : Kind} (ez : z .code ≡ kindAt t k) where
-  pub close-of : z .code ≡ 3 → {l : ℕ} → l ≡ nodeAt t k .link → At (record { at = l }) ≡ matchingClose t k
+  pub close-of : z .code ≡ 3 → {l : ℕ} {s : Cursor} → l ≡ nodeAt t k .link → s .at ≡ l → At s ≡ matchingClose t k
   unfolding matchingClose
-  close-of h el = rw (eq-eqb (kindAt t k) 3 (sym ez ∙ h), el)
+  close-of h el es = rw (eq-eqb (kindAt t k) 3 (sym ez ∙ h)) (at-of (es ∙ el))
 
   pub close-none : (z .code ≡ 3 → ⊥) → Done ≡ matchingClose t k
   unfolding matchingClose
@@ -347,9 +373,9 @@ module _ (nodes k link : ℕ) where
   unfolding childBefore
   before-none h = rw (le-ltb (k + 1) link h)
 
-  pub before-some : k + 1 < link → k + 1 < nodes → At (record { at = k + 1 }) ≡ childBefore nodes k link
+  pub before-some : {s : Cursor} → k + 1 < link → k + 1 < nodes → s .at ≡ k + 1 → At s ≡ childBefore nodes k link
   unfolding childBefore
-  before-some h l = rw (lt-ltb (k + 1) link h, lt-ltb (k + 1) nodes l)
+  before-some h l es = rw (lt-ltb (k + 1) link h, lt-ltb (k + 1) nodes l) (at-of es)
 
   pub before-out : k + 1 < link → nodes ≤ k + 1 → Done ≡ childBefore nodes k link
   unfolding childBefore
@@ -367,15 +393,15 @@ module _ (c : Sections) (file : Bytes) (k last : ℕ) where
   pub past-far : k ≤ last → c .nodes ≤ last → Done ≡ siblingPast (tapeIn c file) k last
   past-far h l = past-out h (omega arith)
 
-  pub past-close : {z : Kind} {x : Bool} → k ≤ last → last + 1 < c .nodes → z .code ≡ kindAt (tapeIn c file) (last + 1) → x ≡ isClose (z .code) → x ≡ true
-      → Done ≡ siblingPast (tapeIn c file) k last
+  pub past-close : {s : Cursor} {z : Kind} {x : Bool} → k ≤ last → last + 1 < c .nodes → s .at ≡ last + 1 → z .code ≡ kindAt (tapeIn c file) (s .at)
+      → x ≡ isClose (z .code) → x ≡ true → Done ≡ siblingPast (tapeIn c file) k last
   unfolding siblingPast
-  past-close h l ek ec x = rw (le-ltb last k h, node-count c file, lt-ltb (last + 1) (c .nodes) l, ← ek, ← ec, x)
+  past-close h l es ek ec x = rw (le-ltb last k h, node-count c file, lt-ltb (last + 1) (c .nodes) l, ← es, ← ek, ← ec, x)
 
-  pub past-some : {z : Kind} {x : Bool} → k ≤ last → last + 1 < c .nodes → z .code ≡ kindAt (tapeIn c file) (last + 1) → x ≡ isClose (z .code) → x ≡ false
-      → At (record { at = last + 1 }) ≡ siblingPast (tapeIn c file) k last
+  pub past-some : {s : Cursor} {z : Kind} {x : Bool} → k ≤ last → last + 1 < c .nodes → s .at ≡ last + 1 → z .code ≡ kindAt (tapeIn c file) (s .at)
+      → x ≡ isClose (z .code) → x ≡ false → At s ≡ siblingPast (tapeIn c file) k last
   unfolding siblingPast
-  past-some h l ek ec x = rw (le-ltb last k h, node-count c file, lt-ltb (last + 1) (c .nodes) l, ← ek, ← ec, x)
+  past-some h l es ek ec x = rw (le-ltb last k h, node-count c file, lt-ltb (last + 1) (c .nodes) l, ← es, ← ek, ← ec, x)
 
 pub next-of : (t : Tape) (k : ℕ) {l : ℕ} {s : Step} → l ≡ lastOf t k → s ≡ siblingPast t k l → s ≡ nextSibling t k
 unfolding nextSibling

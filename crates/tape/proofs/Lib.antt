@@ -1,3 +1,4 @@
 pub mod Laws
 pub mod NameRule
 pub mod Walk
+pub mod Placed

@@ -1,5 +1,5 @@
 -- The tape file: any bytes make a tape. Outside it stands a default.
-use Prim.Native.Nat.{ℕ, zero, suc, _+_, _*_, _/_, _%_}
+use Prim.Native.Nat.{ℕ, zero, suc, _+_, _*_, min}
 use mathlib.Core.List.{List, [], _∷_}
 use mathlib.Core.Bool.{Bool, cond, _&&_, _||_}
 use lib.ListN.{length, getD, drop}
@@ -11,6 +11,7 @@ use Rattle.tape.specs.declared.Sections.{Sections}
 use Rattle.tape.specs.declared.Info.{Info}
 use Rattle.tape.specs.declared.Info.the-variants.{Known, Unknown}
 use Rattle.tape.specs.Kind as kinds
+use Rattle.tape.specs.Flag as flags
 use Rattle.tape.specs.Category as categories
 use Rattle.tape.specs.Element as elements
 
@@ -55,19 +56,22 @@ recordsOf read size (suc n) s = read s ∷ recordsOf read size n (drop size s)
 
 -- ---- the tape
 
+-- a tape: its nodes, entries, name bytes and source bytes
 pub record Tape : Type 0 where
   pub nodes : List Node
   pub entries : List Entry
   pub names : Bytes
   pub source : Bytes
 
--- the sections follow the header in order with no gap: nodes, entries, names, source
+-- the sections follow the header in order with no gap: nodes, entries, names, source; where the entries stand
 abbrev pub entriesAt : Sections → ℕ
 entriesAt c = c .head + 16 * c .nodes
 
+-- where the names stand
 abbrev pub namesAt : Sections → ℕ
 namesAt c = entriesAt c + 8 * c .entries
 
+-- where the source stands
 abbrev pub sourceAt : Sections → ℕ
 sourceAt c = namesAt c + c .names
 
@@ -81,11 +85,15 @@ tapeIn c file =
       source = part file (sourceAt c) (c .source);
     }
 
--- header, nine u32: format; count and offset of nodes, entries, name bytes, source bytes; it is 36 bytes long
+-- how long the header is: nine u32
+abbrev pub headerLen : ℕ
+headerLen = 36
+
+-- the header: format; count and offset of nodes, entries, name bytes, source bytes
 unfoldable pub sectionsOf : Bytes → Sections
 sectionsOf file =
     record {
-      head = 36;
+      head = headerLen;
       nodes = le32 (drop 4 file);
       entries = le32 (drop 12 file);
       names = le32 (drop 20 file);
@@ -114,12 +122,15 @@ nowhere =
 abbrev pub nameless : Entry
 nameless = record { start = 0; len = 0; category = record { code = categories.other }; element = record { code = elements.other } }
 
+-- the node at an index
 unfoldable pub nodeAt : Tape → ℕ → Node
 nodeAt t k = getD (t .nodes) k nowhere
 
+-- the entry at an index
 unfoldable pub entryAt : Tape → ℕ → Entry
 entryAt t i = getD (t .entries) i nameless
 
+-- the kind of the node at an index
 abbrev pub kindAt : Tape → ℕ → ℕ
 kindAt t k = nodeAt t k .kind .code
 
@@ -127,16 +138,25 @@ kindAt t k = nodeAt t k .kind .code
 unfoldable pub textAt : Tape → ℕ → Bytes
 textAt t k = part (t .source) (nodeAt t k .start) (nodeAt t k .len)
 
+-- where a node's text starts in the file: in the source, at the node's start, as far as the source reaches
+unfoldable pub textStart : Sections → Bytes → ℕ → ℕ
+textStart c file k = sourceAt c + min (nodeAt (tapeIn c file) k .start) (length (tapeIn c file .source))
+
 -- the name of an entry
 unfoldable pub entryName : Tape → Entry → Bytes
 entryName t e = part (t .names) (e .start) (e .len)
 
--- flags: 1 synthetic, 2 nested
-unfoldable pub isSynthetic : Tape → ℕ → Bool
-isSynthetic t k = eqb (nodeAt t k .flags .bits % 2) 1
+-- where an entry's name starts in the file: in the names, at the entry's start, as far as the names reach
+unfoldable pub entryStart : Sections → Bytes → Entry → ℕ
+entryStart c file e = namesAt c + min (e .start) (length (tapeIn c file .names))
 
+-- whether a node is synthetic
+unfoldable pub isSynthetic : Tape → ℕ → Bool
+isSynthetic t k = flags.hasFlag flags.synthetic (nodeAt t k .flags .bits)
+
+-- whether a node is nested
 unfoldable pub isNested : Tape → ℕ → Bool
-isNested t k = eqb (nodeAt t k .flags .bits / 2 % 2) 1
+isNested t k = flags.hasFlag flags.nested (nodeAt t k .flags .bits)
 
 -- the kinds whose nodes bear a marker: MarkerOpen, MarkerClose, BlockEnd, Chapter, Verse
 unfoldable pub bearsMarker : ℕ → Bool
@@ -171,3 +191,8 @@ baseLen Unknown = 0
 unfoldable pub nameOf : Tape → Info → Bytes
 nameOf t (Known e) = entryName t e
 nameOf t Unknown = []
+
+-- where the name of a node's entry starts in the file; nothing stands at the file's start
+unfoldable pub nameOfStart : Sections → Bytes → Info → ℕ
+nameOfStart c file (Known e) = entryStart c file e
+nameOfStart c file Unknown = 0

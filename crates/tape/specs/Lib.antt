@@ -1,4 +1,5 @@
 pub mod Kind
+pub mod Flag
 pub mod Category
 pub mod Element
 pub mod File

@@ -1,5 +1,5 @@
 -- Marker names, as they stand in the source, and the names that decide.
-use Prim.Native.Nat.{ℕ}
+use Prim.Native.Nat.{ℕ, _+_, _-_}
 use mathlib.Core.List.{[], _∷_, flatten}
 use mathlib.Core.Bool.{Bool, false, cond, not, _||_}
 use lib.ListN.{length, drop}
@@ -8,7 +8,8 @@ use Rattle.parts.specs.Bytes.{Bytes, same, begins}
 use Rattle.chars.specs.Utf8.{characters, codeOf}
 use Rattle.chars.specs.Space.{isWhite}
 use Rattle.words.specs.Words.{takeWhile}
-use Rattle.tape.specs.File.{Tape, textAt, infoAt, entryName}
+use Rattle.tape.specs.File.{Tape, tapeIn, textAt, textStart, infoAt, entryName}
+use Rattle.tape.specs.declared.Sections.{Sections}
 use Rattle.tape.specs.declared.Info.{Info}
 use Rattle.tape.specs.declared.Info.the-variants.{Known, Unknown}
 
@@ -36,10 +37,23 @@ nameLen s = length (flatten (takeWhile inName (characters s)))
 unfoldable pub nameIn : Bytes → Bytes
 nameIn s = flatten (takeWhile inName (characters (bare s)))
 
+-- where the name starts in a text: behind an optional `\` and an optional `+`
+unfoldable pub nameStart : Bytes → ℕ
+nameStart s = length s - length (bare s)
+
 -- the marker name of a node
 unfoldable pub markerName : Tape → ℕ → Bytes
 markerName t k = nameIn (textAt t k)
 
+-- where the marker name of a node starts in the file: in the node's text, behind an optional `\` and an optional `+`
+unfoldable pub markerStart : Sections → Bytes → ℕ → ℕ
+markerStart c file k = textStart c file k + nameStart (textAt (tapeIn c file) k)
+
+-- how long it is: to the first white space, `*`, `|` or `\`, else to the node's end
+unfoldable pub markerLen : Tape → ℕ → ℕ
+markerLen t k = nameLen (bare (textAt t k))
+
+-- whether an entry has this name; what is unknown has none
 unfoldable pub named : Tape → Bytes → Info → Bool
 named t name (Known e) = same (entryName t e) name
 named t name Unknown = false

@@ -42,6 +42,8 @@ impl Flags {
 
     pub const NESTED: u8 = 2;
 
+    pub const ALL: u8 = 3;
+
     pub fn new(bits: u8) -> Self
         ensures { λ r. ⌜ r .bits ≡ bits ⌝ }
     {

@@ -13,10 +13,11 @@ pub use number::long;
 pub use number::short;
 ghost use mathlib.Core.Path.{_≡_};
 ghost use Prim.Native.Nat.{_+_, _*_, _≤_, _<_, _^_};
-ghost use lib.ListN.{drop};
+ghost use lib.ListN.{length, drop};
 ghost use Rattle.parts.specs.Bytes.{part, same};
-ghost use Rattle.tape.specs.File.{le32 as le32Of, nodeOf, entryOf, sectionsOf, entriesAt, namesAt, sourceAt, tapeIn, nodeAt, entryAt, kindAt, textAt, entryName, isSynthetic, isNested, bearsMarker, infoAt, numberAt, categoryOf, elementOf, baseLen, nameOf};
-ghost use Rattle.tape.specs.Name.{markerName, entryIs};
+ghost use Rattle.parts.specs.Place.{VeryPart};
+ghost use Rattle.tape.specs.File.{le32 as le32Of, nodeOf, entryOf, sectionsOf, entriesAt, namesAt, sourceAt, tapeIn, nodeAt, entryAt, kindAt, textAt, textStart, entryName, entryStart, isSynthetic, isNested, bearsMarker, infoAt, numberAt, categoryOf, elementOf, baseLen, nameOf, nameOfStart};
+ghost use Rattle.tape.specs.Name.{markerName, markerStart, markerLen, entryIs};
 ghost use Rattle.tape.specs.Tree.{isClose, holds, matchingClose, childBefore, firstChild, lastOf, siblingPast, nextSibling, found};
 
 // A node of the tape.
@@ -80,12 +81,17 @@ pub fn length_of(s: &[u8]) -> usize
 }
 
 impl Sections {
+    pub const FORMAT: usize = 1;
+
+    // How long the header is.
+    pub const HEADER: u32 = 36;
+
     // The counts that a file's header gives.
     pub fn of(file: &[u8]) -> Self
         ensures { λ r. ⌜ r ≡ sectionsOf (now (file .entry)) ⌝ }
     {
         Sections {
-            head: 36,
+            head: Sections::HEADER,
             nodes: number::le32(parts::from(file, 4)),
             entries: number::le32(parts::from(file, 12)),
             names: number::le32(parts::from(file, 20)),
@@ -178,8 +184,8 @@ pub fn node_at(file: &[u8], tape: Sections, at: u32) -> Node
         Node::of(parts::from(file, node_place(tape, at)))
     } else {
         Node {
-            kind: Kind { code: Kind::ERROR },
-            flags: Flags { bits: 0 },
+            kind: Kind::new(Kind::ERROR),
+            flags: Flags::new(0),
             marker: 65535,
             link: 0,
             start: 0,
@@ -199,33 +205,32 @@ pub fn entry_at(file: &[u8], tape: Sections, at: u32) -> Entry
         Entry {
             start: 0,
             len: 0,
-            category: Category {
-                code: Category::OTHER,
-            },
-            element: Element {
-                code: Element::OTHER,
-            },
+            category: Category::new(Category::OTHER),
+            element: Element::new(Element::OTHER),
         }
     }
 }
 
 // The name bytes of a file.
 pub fn names(file: &[u8], tape: Sections) -> &[u8]
-    ensures { λ r. ⌜ now r ≡ tapeIn tape (now (file .entry)) .names ⌝ }
+    ensures bytes { λ r. ⌜ now r ≡ tapeIn tape (now (file .entry)) .names ⌝ }
+    ensures place { λ r. ⌜ VeryPart (file .entry) r (namesAt tape) (tape .names) ⌝ }
 {
     parts::part(file, tape.names_at(), long(tape.names))
 }
 
 // The source bytes of a file.
 pub fn source(file: &[u8], tape: Sections) -> &[u8]
-    ensures { λ r. ⌜ now r ≡ tapeIn tape (now (file .entry)) .source ⌝ }
+    ensures bytes { λ r. ⌜ now r ≡ tapeIn tape (now (file .entry)) .source ⌝ }
+    ensures place { λ r. ⌜ VeryPart (file .entry) r (sourceAt tape) (tape .source) ⌝ }
 {
     parts::part(file, tape.source_at(), long(tape.source))
 }
 
 // The name of an entry.
 pub fn entry_name(file: &[u8], tape: Sections, e: Entry) -> &[u8]
-    ensures { λ r. ⌜ now r ≡ entryName (tapeIn tape (now (file .entry))) e ⌝ }
+    ensures bytes { λ r. ⌜ now r ≡ entryName (tapeIn tape (now (file .entry))) e ⌝ }
+    ensures place { λ r. ⌜ VeryPart (file .entry) r (entryStart tape (now (file .entry)) e) (length (entryName (tapeIn tape (now (file .entry))) e)) ⌝ }
 {
     parts::part(names(file, tape), long(e.start), short(e.len))
 }
@@ -331,13 +336,13 @@ impl Cursor {
     pub fn is_synthetic(self, file: &[u8], tape: Sections) -> bool
         ensures { λ r. ⌜ r ≡ isSynthetic (tapeIn tape (now (file .entry))) (self .at) ⌝ }
     {
-        self.flags(file, tape).bits % 2 == 1
+        self.flags(file, tape).bits / Flags::SYNTHETIC % 2 == 1
     }
 
     pub fn is_nested(self, file: &[u8], tape: Sections) -> bool
         ensures { λ r. ⌜ r ≡ isNested (tapeIn tape (now (file .entry))) (self .at) ⌝ }
     {
-        self.flags(file, tape).bits / 2 % 2 == 1
+        self.flags(file, tape).bits / Flags::NESTED % 2 == 1
     }
 
     // The number of a Chapter or Verse; 0 for other kinds.
@@ -413,7 +418,8 @@ impl Cursor {
 
     // The name of the node's entry; nothing where it is unknown.
     pub fn entry_name(self, file: &[u8], tape: Sections) -> &[u8]
-        ensures { λ r. ⌜ now r ≡ nameOf (tapeIn tape (now (file .entry))) (infoAt (tapeIn tape (now (file .entry))) (self .at)) ⌝ }
+        ensures bytes { λ r. ⌜ now r ≡ nameOf (tapeIn tape (now (file .entry))) (infoAt (tapeIn tape (now (file .entry))) (self .at)) ⌝ }
+        ensures place { λ r. ⌜ VeryPart (file .entry) r (nameOfStart tape (now (file .entry)) (infoAt (tapeIn tape (now (file .entry))) (self .at))) (length (nameOf (tapeIn tape (now (file .entry))) (infoAt (tapeIn tape (now (file .entry))) (self .at)))) ⌝ }
     {
         match self.marker_info(file, tape) {
             Info::Known(e) => entry_name(file, tape, e),
@@ -423,7 +429,8 @@ impl Cursor {
 
     // The node's span of the source.
     pub fn text(self, file: &[u8], tape: Sections) -> &[u8]
-        ensures { λ r. ⌜ now r ≡ textAt (tapeIn tape (now (file .entry))) (self .at) ⌝ }
+        ensures bytes { λ r. ⌜ now r ≡ textAt (tapeIn tape (now (file .entry))) (self .at) ⌝ }
+        ensures place { λ r. ⌜ VeryPart (file .entry) r (textStart tape (now (file .entry)) (self .at)) (length (textAt (tapeIn tape (now (file .entry))) (self .at))) ⌝ }
     {
         let start = long(self.start(file, tape));
         parts::part(source(file, tape), start, long(self.len(file, tape)))
@@ -434,9 +441,7 @@ impl Cursor {
         ensures { λ r. ⌜ r ≡ matchingClose (tapeIn tape (now (file .entry))) (self .at) ⌝ }
     {
         if self.kind(file, tape).code == Kind::MARKER_OPEN {
-            Step::At(Cursor {
-                at: self.link(file, tape),
-            })
+            Step::At(Cursor::new(self.link(file, tape)))
         } else {
             Step::Done
         }
@@ -469,9 +474,10 @@ impl Cursor {
         }
     }
 
-    // The marker name: the part of the node's text between an optional `\`, an optional `+`, and white space, `*`, `|`, `\` or the end.
+    // The marker name: the very part of the file between an optional `\`, an optional `+`, and white space, `*`, `|`, `\` or the node's end.
     pub fn marker_name(self, file: &[u8], tape: Sections) -> &[u8]
-        ensures { λ r. ⌜ now r ≡ markerName (tapeIn tape (now (file .entry))) (self .at) ⌝ }
+        ensures bytes { λ r. ⌜ now r ≡ markerName (tapeIn tape (now (file .entry))) (self .at) ⌝ }
+        ensures place { λ r. ⌜ VeryPart (file .entry) r (markerStart tape (now (file .entry)) (self .at)) (markerLen (tapeIn tape (now (file .entry))) (self .at)) ⌝ }
     {
         name::name_in(self.text(file, tape))
     }
@@ -506,7 +512,7 @@ fn child_before(nodes: u32, at: u32, link: u32) -> Step
         return Step::Done;
     }
     if next < nodes {
-        Step::At(Cursor { at: next })
+        Step::At(Cursor::new(next))
     } else {
         Step::Done
     }
@@ -526,7 +532,7 @@ fn past(file: &[u8], tape: Sections, at: u32, last: u32) -> Step
     if tape.nodes <= next {
         return Step::Done;
     }
-    let c = Cursor { at: next };
+    let c = Cursor::new(next);
     if c.kind(file, tape).is_close() {
         Step::Done
     } else {

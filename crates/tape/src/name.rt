@@ -1,12 +1,15 @@
 // The rule of marker names.
 ghost use mathlib.Core.Path.{_≡_};
 ghost use mathlib.Core.Bool.{true, false};
-ghost use Prim.Native.Nat.{_<_};
-ghost use Rattle.tape.specs.Name.{strip as stripped, bare as bareOf, endsName, nameLen, nameIn};
+ghost use Prim.Native.Nat.{_-_, _<_};
+ghost use lib.ListN.{length};
+ghost use Rattle.parts.specs.Place.{VeryPart};
+ghost use Rattle.tape.specs.Name.{strip as stripped, bare as bareOf, endsName, nameLen, nameIn, nameStart};
 
 // A text without a byte that it may begin with.
 fn strip(s: &[u8], x: u8) -> &[u8]
-    ensures { λ r. ⌜ now r ≡ stripped x (now (s .entry)) ⌝ }
+    ensures bytes { λ r. ⌜ now r ≡ stripped x (now (s .entry)) ⌝ }
+    ensures place { λ r. ⌜ VeryPart (s .entry) r (length (now (s .entry)) - length (stripped x (now (s .entry)))) (length (stripped x (now (s .entry)))) ⌝ }
 {
     if parts::begins_with(s, &[x]) {
         parts::from(s, 1)
@@ -17,7 +20,8 @@ fn strip(s: &[u8], x: u8) -> &[u8]
 
 // A text behind an optional `\` and an optional `+`.
 pub fn bare(s: &[u8]) -> &[u8]
-    ensures { λ r. ⌜ now r ≡ bareOf (now (s .entry)) ⌝ }
+    ensures bytes { λ r. ⌜ now r ≡ bareOf (now (s .entry)) ⌝ }
+    ensures place { λ r. ⌜ VeryPart (s .entry) r (nameStart (now (s .entry))) (length (bareOf (now (s .entry)))) ⌝ }
 {
     strip(strip(s, b'\\'), b'+')
 }
@@ -72,7 +76,8 @@ fn name_len(s: &[u8]) -> usize
 
 // The name in a text, as the very part of it.
 pub fn name_in(s: &[u8]) -> &[u8]
-    ensures { λ r. ⌜ now r ≡ nameIn (now (s .entry)) ⌝ }
+    ensures bytes { λ r. ⌜ now r ≡ nameIn (now (s .entry)) ⌝ }
+    ensures place { λ r. ⌜ VeryPart (s .entry) r (nameStart (now (s .entry))) (nameLen (bareOf (now (s .entry)))) ⌝ }
 {
     let t = bare(s);
     parts::part(t, 0, name_len(t))

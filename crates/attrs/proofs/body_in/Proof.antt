@@ -14,7 +14,7 @@ white-len-requires : tie.Need-white-len-requires
 white-len-requires c κs = search needs
 
 add-start : tie.Need-add-start
-add-start c = omega (arith, body-starts (c .before .before .before .before .args .s .now) (c .before .before .bar-len .ensures) (c .before .from .ensures) (c .white-len .ensures))
+add-start c = omega (arith, body-starts (c .before .before .before .before .args .s .now) (c .before .before .bar-len .ensures) (c .before .from .ensures .0) (c .white-len .ensures))
 
 from-requires-2 : tie.Need-from-requires-2
 from-requires-2 c κs = search needs

@@ -34,16 +34,16 @@ enum-known-key : tie.Need-enum-known-key Inv-loop μ-loop
 enum-known-key c = search needs
 
 add-start : tie.Need-add-start Inv-loop μ-loop
-add-start c = let l = c .before .before .before .before .before .before .loop in omega (arith, past-fits (c .before .before .before .before .before .before .before .before .args .source .now) (l .start) (l .len) (c .before .before .before .before .before .part .ensures) (c .before .before .before .before .first-pair .ensures) (c .before .before .key .given .1))
+add-start c = let l = c .before .before .before .before .before .before .loop in omega (arith, past-fits (c .before .before .before .before .before .before .before .before .args .source .now) (l .start) (l .len) (c .before .before .before .before .before .part .ensures .0) (c .before .before .before .before .first-pair .ensures) (c .before .before .key .given .1))
 
 sub-len : tie.Need-sub-len Inv-loop μ-loop
-sub-len c = let l = c .before .before .before .before .before .before .before .loop in omega (arith, past-in (c .before .before .before .before .before .before .before .before .before .args .source .now) (l .start) (l .len) (c .before .before .before .before .before .before .part .ensures) (c .before .before .before .before .before .first-pair .ensures) (c .before .before .before .key .given .1))
+sub-len c = let l = c .before .before .before .before .before .before .before .loop in omega (arith, past-in (c .before .before .before .before .before .before .before .before .before .args .source .now) (l .start) (l .len) (c .before .before .before .before .before .before .part .ensures .0) (c .before .before .before .before .before .first-pair .ensures) (c .before .before .before .key .given .1))
 
 add-t12 : tie.Need-add-t12 Inv-loop μ-loop
-add-t12 c = let l = c .before .before .before .before .before .before .before .before .before .before .loop in omega (arith, key-fits (c .before .before .before .before .before .before .before .before .before .before .before .before .args .source .now) (l .start) (l .len) (c .before .before .before .before .before .before .before .before .before .part .ensures) (c .before .before .before .before .before .before .before .before .first-pair .ensures) (c .before .before .before .before .before .before .key .given .1))
+add-t12 c = let l = c .before .before .before .before .before .before .before .before .before .before .loop in omega (arith, key-fits (c .before .before .before .before .before .before .before .before .before .before .before .before .args .source .now) (l .start) (l .len) (c .before .before .before .before .before .before .before .before .before .part .ensures .0) (c .before .before .before .before .before .before .before .before .first-pair .ensures) (c .before .before .before .before .before .before .key .given .1))
 
 add-t14 : tie.Need-add-t14 Inv-loop μ-loop
-add-t14 c = let l = c .before .before .before .before .before .before .before .before .before .before .before .loop in omega (arith, value-fits (c .before .before .before .before .before .before .before .before .before .before .before .before .before .args .source .now) (l .start) (l .len) (c .before .before .before .before .before .before .before .before .before .before .part .ensures) (c .before .before .before .before .before .before .before .before .before .first-pair .ensures) (c .before .before .before .before .before .before .before .key .given .1))
+add-t14 c = let l = c .before .before .before .before .before .before .before .before .before .before .before .loop in omega (arith, value-fits (c .before .before .before .before .before .before .before .before .before .before .before .before .before .args .source .now) (l .start) (l .len) (c .before .before .before .before .before .before .before .before .before .before .part .ensures .0) (c .before .before .before .before .before .before .before .before .before .first-pair .ensures) (c .before .before .before .before .before .before .before .key .given .1))
 
 returns-2 : tie.Need-returns-2 Inv-loop μ-loop
 returns-2 c = search turn-found
@@ -52,7 +52,7 @@ loop-less : tie.Need-loop-less Inv-loop μ-loop
 loop-less c = search turn-less
 
 loop-again : tie.Need-loop-again Inv-loop μ-loop
-loop-again c = (let l = c .before .before .before .before .before .before .before .before .before .loop in omega (arith, past-fits (c .before .before .before .before .before .before .before .before .before .before .before .args .source .now) (l .start) (l .len) (c .before .before .before .before .before .before .before .before .part .ensures) (c .before .before .before .before .before .before .before .first-pair .ensures) (c .before .before .before .before .before .key .given .1)), search turn-on)
+loop-again c = (let l = c .before .before .before .before .before .before .before .before .before .loop in omega (arith, past-fits (c .before .before .before .before .before .before .before .before .before .before .before .args .source .now) (l .start) (l .len) (c .before .before .before .before .before .before .before .before .part .ensures .0) (c .before .before .before .before .before .before .before .first-pair .ensures) (c .before .before .before .before .before .key .given .1)), search turn-on)
 
 pub next-pair-spec : {M : Type 1} → statement M
 next-pair-spec =

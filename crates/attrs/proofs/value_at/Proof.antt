@@ -13,7 +13,7 @@ white-len-requires : tie.Need-white-len-requires
 white-len-requires c κs = search needs
 
 add-at : tie.Need-add-at
-add-at c = let a = c .before .before .before .args in omega (arith, start-fits Unicode (a .s .now) (a .from) (c .before .from .ensures) (c .white-len .ensures))
+add-at c = let a = c .before .before .before .args in omega (arith, start-fits Unicode (a .s .now) (a .from) (c .before .from .ensures .0) (c .white-len .ensures))
 
 from-requires-2 : tie.Need-from-requires-2
 from-requires-2 c κs = search needs
@@ -25,7 +25,7 @@ begins-with-requires : tie.Need-begins-with-requires
 begins-with-requires c κs = search needs
 
 add-start : tie.Need-add-start
-add-start c = let a = c .before .before .before .before .before .before .before .args in omega (arith, quote-in (a .s .now) (a .from) (c .before .before .before .before .before .from .ensures) (c .before .before .before .before .white-len .ensures) (c .before .before .before .from2 .ensures) (c .before .begins-with .ensures) (c .if1 .taken))
+add-start c = let a = c .before .before .before .before .before .before .before .args in omega (arith, quote-in (a .s .now) (a .from) (c .before .before .before .before .before .from .ensures .0) (c .before .before .before .before .white-len .ensures) (c .before .before .before .from2 .ensures .0) (c .before .begins-with .ensures) (c .if1 .taken))
 
 from-requires-3 : tie.Need-from-requires-3
 from-requires-3 c κs = search needs
@@ -34,7 +34,7 @@ quoted-len-requires : tie.Need-quoted-len-requires
 quoted-len-requires c κs = search needs
 
 add-past-quote : tie.Need-add-past-quote
-add-past-quote c = let a = c .before .before .before .before .before .before .before .before .before .args in omega (arith, quote-ends (a .s .now) (a .from) (c .before .before .before .before .before .before .before .from .ensures) (c .before .before .before .before .before .before .white-len .ensures) (c .before .before .before .before .before .from2 .ensures) (c .before .before .before .begins-with .ensures) (c .before .before .if1 .taken) (c .before .from3 .ensures) (c .quoted-len .ensures))
+add-past-quote c = let a = c .before .before .before .before .before .before .before .before .before .args in omega (arith, quote-ends (a .s .now) (a .from) (c .before .before .before .before .before .before .before .from .ensures .0) (c .before .before .before .before .before .before .white-len .ensures) (c .before .before .before .before .before .from2 .ensures .0) (c .before .before .before .begins-with .ensures) (c .before .before .if1 .taken) (c .before .from3 .ensures .0) (c .quoted-len .ensures))
 
 past-quote-requires : tie.Need-past-quote-requires
 past-quote-requires c κs = search needs
@@ -43,7 +43,7 @@ word-len-requires : tie.Need-word-len-requires
 word-len-requires c κs = search needs
 
 add-t21 : tie.Need-add-t21
-add-t21 c = let a = c .before .before .before .before .before .before .before .before .args in omega (arith, start-fits Unicode (a .s .now) (a .from) (c .before .before .before .before .before .before .from .ensures) (c .before .before .before .before .before .white-len .ensures), bare-ends (a .s .now) (a .from) (c .before .before .before .before .before .before .from .ensures) (c .before .before .before .before .before .white-len .ensures) (c .before .before .before .before .from2 .ensures) (c .before .before .begins-with .ensures) (c .word-len .ensures))
+add-t21 c = let a = c .before .before .before .before .before .before .before .before .args in omega (arith, start-fits Unicode (a .s .now) (a .from) (c .before .before .before .before .before .before .from .ensures .0) (c .before .before .before .before .before .white-len .ensures), bare-ends (a .s .now) (a .from) (c .before .before .before .before .before .before .from .ensures .0) (c .before .before .before .before .before .white-len .ensures) (c .before .before .before .before .from2 .ensures .0) (c .before .before .begins-with .ensures) (c .word-len .ensures))
 
 returns : tie.Need-returns
 returns c = search value-quoted

@@ -14,7 +14,7 @@ find-pair-requires : tie.Need-find-pair-requires
 find-pair-requires c κs = search needs
 
 add-next : tie.Need-add-next
-add-next c = omega (arith, split-sum _ _ (c .before .before .before .before .pre) (c .before .from .ensures) (c .find-pair .ensures))
+add-next c = omega (arith, split-sum _ _ (c .before .before .before .before .pre) (c .before .from .ensures .0) (c .find-pair .ensures))
 
 slice-aggregate-literal : tie.Need-slice-aggregate-literal
 slice-aggregate-literal c = search needs
@@ -33,7 +33,7 @@ same-length c = search needs
 
 returns : tie.Need-returns
 returns c = (
-  segments-turn _ _ _ _ (c .before .before .before .before .before .before .before .before .before .before .before .before .before .before .pre) (c .before .before .before .before .before .before .before .before .before .before .before .from .ensures) (c .before .before .before .before .before .before .before .before .before .before .find-pair .ensures) _ _ (c .before .before .before .before .before .before .before .literal .ensures) (c .before .before .before .before .part .ensures) _ _ (c .before .before .put-segment .ensures),
+  segments-turn _ _ _ _ (c .before .before .before .before .before .before .before .before .before .before .before .before .before .before .pre) (c .before .before .before .before .before .before .before .before .before .before .before .from .ensures .0) (c .before .before .before .before .before .before .before .before .before .before .find-pair .ensures) _ _ (c .before .before .before .before .before .before .before .literal .ensures) (c .before .before .before .before .part .ensures .0) _ _ (c .before .before .put-segment .ensures),
   omega arith,
 )
 

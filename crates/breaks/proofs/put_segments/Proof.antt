@@ -42,7 +42,7 @@ same-length : tie.Need-same-length Inv-loop μ-loop
 same-length c = search needs
 
 returns : tie.Need-returns Inv-loop μ-loop
-returns c = segments-end _ _ _ _ (c .before .before .before .before .before .before .before .find-pair .ensures) (c .before .before .before .before .before .before .part .ensures) _ _ (c .before .before .before .before .put-segment .ensures) _ _ _ (c .before .loop .inv .0) (c .loop-test .left)
+returns c = segments-end _ _ _ _ (c .before .before .before .before .before .before .before .find-pair .ensures) (c .before .before .before .before .before .before .part .ensures .0) _ _ (c .before .before .before .before .put-segment .ensures) _ _ _ (c .before .loop .inv .0) (c .loop-test .left)
 
 pub put-segments-spec : {M : Type 1} → statement M
 put-segments-spec =

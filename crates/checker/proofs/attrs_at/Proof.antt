@@ -71,7 +71,7 @@ loop-again c =
     let got = c .before .before .before .before .before .before .next .given .1 in (
       cc,
       attrs-rest _ _ (inv .0) got (inv .1),
-      attrs-mark _ _ (inv .0) got _ _ (c .before .before .before .before .from2 .ensures) (c .before .before .before .part .ensures) (c .before .before .with-attr .ensures) (inv .2),
+      attrs-mark _ _ (inv .0) got _ _ (c .before .before .before .before .from2 .ensures .0) (c .before .before .before .part .ensures .0) (c .before .before .with-attr .ensures) (inv .2),
     )
 
 enum-told : tie.Need-enum-told Inv-loop μ-loop

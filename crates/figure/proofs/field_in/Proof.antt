@@ -37,10 +37,10 @@ returns-2 : tie.Need-returns-2 Inv-loop μ-loop
 returns-2 c = search field-short
 
 add-at : tie.Need-add-at Inv-loop μ-loop
-add-at c = let l = c .before .before .before .before .loop in omega (arith, field-in (c .before .before .before .before .before .before .args .s .now) (l .at) (l .left) (c .before .before .before .from .ensures) (c .before .before .find-byte .ensures) (l .inv .1) (c .if2 .left))
+add-at c = let l = c .before .before .before .before .loop in omega (arith, field-in (c .before .before .before .before .before .before .args .s .now) (l .at) (l .left) (c .before .before .before .from .ensures .0) (c .before .before .find-byte .ensures) (l .inv .1) (c .if2 .left))
 
 add-at-2 : tie.Need-add-at-2 Inv-loop μ-loop
-add-at-2 c = let l = c .before .before .before .before .loop in omega (arith, field-in (c .before .before .before .before .before .before .args .s .now) (l .at) (l .left) (c .before .before .before .from .ensures) (c .before .before .find-byte .ensures) (l .inv .1) (c .if2 .left))
+add-at-2 c = let l = c .before .before .before .before .loop in omega (arith, field-in (c .before .before .before .before .before .before .args .s .now) (l .at) (l .left) (c .before .before .before .from .ensures .0) (c .before .before .find-byte .ensures) (l .inv .1) (c .if2 .left))
 
 sub-left : tie.Need-sub-left Inv-loop μ-loop
 sub-left c = omega arith

@@ -23,19 +23,19 @@ returns : tie.Need-returns
 returns c = (search run-white, omega arith)
 
 add-start : tie.Need-add-start
-add-start c = let a = c .before .before .before .before .before .before .before .before .args in omega (arith, run-start (a .source .now) (a .rest) (c .before .before .before .before .before .before .part .ensures) (c .before .before .before .before .before .white-len .ensures) (c .before .before .before .before .from .ensures) (c .before .before .before .word-len .ensures))
+add-start c = let a = c .before .before .before .before .before .before .before .before .args in omega (arith, run-start (a .source .now) (a .rest) (c .before .before .before .before .before .before .part .ensures .0) (c .before .before .before .before .before .white-len .ensures) (c .before .before .before .before .from .ensures .0) (c .before .before .before .word-len .ensures))
 
 both-requires : tie.Need-both-requires
 both-requires c κs = search needs
 
 add-t14 : tie.Need-add-t14
-add-t14 c = let a = c .before .before .before .before .before .before .before .before .before .args in omega (arith, run-past (a .source .now) (a .rest) (c .before .before .before .before .before .before .before .part .ensures) (c .before .before .before .before .before .before .white-len .ensures) (c .before .before .before .before .before .from .ensures) (c .before .before .before .before .word-len .ensures))
+add-t14 c = let a = c .before .before .before .before .before .before .before .before .before .args in omega (arith, run-past (a .source .now) (a .rest) (c .before .before .before .before .before .before .before .part .ensures .0) (c .before .before .before .before .before .before .white-len .ensures) (c .before .before .before .before .before .from .ensures .0) (c .before .before .before .before .word-len .ensures))
 
 sub-t15 : tie.Need-sub-t15
-sub-t15 c = let a = c .before .before .before .before .before .before .before .before .before .before .args in omega (arith, run-left (a .source .now) (a .rest) (c .before .before .before .before .before .before .before .before .part .ensures) (c .before .before .before .before .before .before .before .white-len .ensures) (c .before .before .before .before .before .before .from .ensures) (c .before .before .before .before .before .word-len .ensures))
+sub-t15 c = let a = c .before .before .before .before .before .before .before .before .before .before .args in omega (arith, run-left (a .source .now) (a .rest) (c .before .before .before .before .before .before .before .before .part .ensures .0) (c .before .before .before .before .before .before .before .white-len .ensures) (c .before .before .before .before .before .before .from .ensures .0) (c .before .before .before .before .before .word-len .ensures))
 
 sub-t16 : tie.Need-sub-t16
-sub-t16 c = let a = c .before .before .before .before .before .before .before .before .before .before .args in omega (arith, run-left (a .source .now) (a .rest) (c .before .before .before .before .before .before .before .before .part .ensures) (c .before .before .before .before .before .before .before .white-len .ensures) (c .before .before .before .before .before .before .from .ensures) (c .before .before .before .before .before .word-len .ensures))
+sub-t16 c = let a = c .before .before .before .before .before .before .before .before .before .before .args in omega (arith, run-left (a .source .now) (a .rest) (c .before .before .before .before .before .before .before .before .part .ensures .0) (c .before .before .before .before .before .before .before .white-len .ensures) (c .before .before .before .before .before .before .from .ensures .0) (c .before .before .before .before .before .word-len .ensures))
 
 returns-2 : tie.Need-returns-2
 returns-2 c = (search run-word, search run-some)

@@ -1,4 +1,8 @@
+use mathlib.Core.Path.{refl}
+use native.Mathlib.Omega.{arith}
+use Rattle.parts.specs.Place.{very}
 use Rattle.parts.proofs.Laws.{drop-part, drop-past}
+use Rattle.parts.proofs.Places.{rest-none}
 use borrow.Author.Needs.{needs}
 use Rattle.parts.proofs.from.Statement.{statement}
 use Rattle.parts.proofs.from.Tie as tie
@@ -22,10 +26,10 @@ part-result-end-2 : tie.Need-part-result-end-2
 part-result-end-2 c = search needs
 
 returns : tie.Need-returns
-returns c = search drop-part
+returns c = (search drop-part, very refl refl (omega arith))
 
 returns-2 : tie.Need-returns-2
-returns-2 c = search drop-past
+returns-2 c = (search drop-past, very (search rest-none) refl (omega arith))
 
 pub from-spec : {M : Type 1} → statement M
 from-spec =

@@ -24,7 +24,7 @@ first-front-requires : tie.Need-first-front-requires Inv-loop μ-loop
 first-front-requires c κs = search needs
 
 add-next : tie.Need-add-next Inv-loop μ-loop
-add-next c = omega (arith, front-fits _ _ (c .before .before .from .ensures) (c .before .first-front .ensures) (c .before .before .before .loop-test .taken))
+add-next c = omega (arith, front-fits _ _ (c .before .before .from .ensures .0) (c .before .first-front .ensures) (c .before .before .before .loop-test .taken))
 
 loop-less : tie.Need-loop-less Inv-loop μ-loop
 loop-less c = search front-less

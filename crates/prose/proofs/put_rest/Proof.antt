@@ -33,7 +33,7 @@ escape-xml-requires : tie.Need-escape-xml-requires Inv-loop μ-loop
 escape-xml-requires c κs = search needs
 
 add-from : tie.Need-add-from Inv-loop μ-loop
-add-from c = omega (arith, run-ends _ _ (c .before .before .before .before .before .before .before .loop-test .taken) (c .before .before .before .before .before .before .from .ensures) (c .before .before .before .before .before .shared-len .ensures))
+add-from c = omega (arith, run-ends _ _ (c .before .before .before .before .before .before .before .loop-test .taken) (c .before .before .before .before .before .before .from .ensures .0) (c .before .before .before .before .before .shared-len .ensures))
 
 from-requires-2 : tie.Need-from-requires-2 Inv-loop μ-loop
 from-requires-2 c κs = search needs
@@ -45,16 +45,16 @@ put-mark-requires : tie.Need-put-mark-requires Inv-loop μ-loop
 put-mark-requires c κs = search needs
 
 add-at : tie.Need-add-at Inv-loop μ-loop
-add-at c = omega (arith, c .before .before .before .before .before .before .before .before .before .before .before .before .before .before .before .loop .inv .2, gap-ends _ _ (c .before .before .before .before .before .before .before .before .before .before .before .before .before .before .loop-test .taken) (c .before .before .before .before .before .before .before .before .before .before .before .before .before .from .ensures) (c .before .before .before .before .before .before .before .before .before .before .before .before .shared-len .ensures) (c .before .before .before .before .before .before .from2 .ensures) (c .before .before .before .before .before .first-gap .ensures))
+add-at c = omega (arith, c .before .before .before .before .before .before .before .before .before .before .before .before .before .before .before .loop .inv .2, gap-ends _ _ (c .before .before .before .before .before .before .before .before .before .before .before .before .before .before .loop-test .taken) (c .before .before .before .before .before .before .before .before .before .before .before .before .before .from .ensures .0) (c .before .before .before .before .before .before .before .before .before .before .before .before .shared-len .ensures) (c .before .before .before .before .before .before .from2 .ensures .0) (c .before .before .before .before .before .first-gap .ensures))
 
 add-at-2 : tie.Need-add-at-2 Inv-loop μ-loop
-add-at-2 c = omega (arith, c .before .before .before .before .before .before .before .before .before .before .before .before .before .before .before .loop .inv .2, gap-ends _ _ (c .before .before .before .before .before .before .before .before .before .before .before .before .before .before .loop-test .taken) (c .before .before .before .before .before .before .before .before .before .before .before .before .before .from .ensures) (c .before .before .before .before .before .before .before .before .before .before .before .before .shared-len .ensures) (c .before .before .before .before .before .before .from2 .ensures) (c .before .before .before .before .before .first-gap .ensures))
+add-at-2 c = omega (arith, c .before .before .before .before .before .before .before .before .before .before .before .before .before .before .before .loop .inv .2, gap-ends _ _ (c .before .before .before .before .before .before .before .before .before .before .before .before .before .before .loop-test .taken) (c .before .before .before .before .before .before .before .before .before .before .before .before .before .from .ensures .0) (c .before .before .before .before .before .before .before .before .before .before .before .before .shared-len .ensures) (c .before .before .before .before .before .before .from2 .ensures .0) (c .before .before .before .before .before .first-gap .ensures))
 
 loop-less : tie.Need-loop-less Inv-loop μ-loop
-loop-less c = rest-less _ _ (c .before .before .before .before .before .before .before .before .before .before .before .before .before .before .loop-test .taken) (c .before .before .before .before .before .before .before .before .before .before .before .before .before .from .ensures) (c .before .before .before .before .before .before .before .before .before .before .before .before .shared-len .ensures) (c .before .before .before .before .before .before .from2 .ensures) (c .before .before .before .before .before .first-gap .ensures)
+loop-less c = rest-less _ _ (c .before .before .before .before .before .before .before .before .before .before .before .before .before .before .loop-test .taken) (c .before .before .before .before .before .before .before .before .before .before .before .before .before .from .ensures .0) (c .before .before .before .before .before .before .before .before .before .before .before .before .shared-len .ensures) (c .before .before .before .before .before .before .from2 .ensures .0) (c .before .before .before .before .before .first-gap .ensures)
 
 loop-again : tie.Need-loop-again Inv-loop μ-loop
-loop-again c = (rest-turn _ _ (c .before .before .before .before .before .before .before .before .before .before .before .before .before .before .loop-test .taken) (c .before .before .before .before .before .before .before .before .before .before .before .before .before .from .ensures) (c .before .before .before .before .before .before .before .before .before .before .before .before .shared-len .ensures) (c .before .before .before .before .before .before .from2 .ensures) (c .before .before .before .before .before .first-gap .ensures) _ _ (c .before .before .before .before .before .before .before .before .before .before .part .ensures) (c .before .before .before .before .before .before .before .before .before .escape-xml .ensures) (c .before .before .before .put-mark .ensures) (c .before .before .before .before .before .before .before .before .before .before .before .before .before .before .before .loop .inv .0), omega arith, c .before .before .before .before .before .before .before .before .before .before .before .before .before .before .before .loop .inv .2)
+loop-again c = (rest-turn _ _ (c .before .before .before .before .before .before .before .before .before .before .before .before .before .before .loop-test .taken) (c .before .before .before .before .before .before .before .before .before .before .before .before .before .from .ensures .0) (c .before .before .before .before .before .before .before .before .before .before .before .before .shared-len .ensures) (c .before .before .before .before .before .before .from2 .ensures .0) (c .before .before .before .before .before .first-gap .ensures) _ _ (c .before .before .before .before .before .before .before .before .before .before .part .ensures .0) (c .before .before .before .before .before .before .before .before .before .escape-xml .ensures) (c .before .before .before .put-mark .ensures) (c .before .before .before .before .before .before .before .before .before .before .before .before .before .before .before .loop .inv .0), omega arith, c .before .before .before .before .before .before .before .before .before .before .before .before .before .before .before .loop .inv .2)
 
 same-length : tie.Need-same-length Inv-loop μ-loop
 same-length c = search needs

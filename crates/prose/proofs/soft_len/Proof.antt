@@ -27,7 +27,7 @@ returns : tie.Need-returns Inv-loop μ-loop
 returns c = search soft-stop
 
 add-at : tie.Need-add-at Inv-loop μ-loop
-add-at c = omega (arith, front-fits _ _ (c .before .before .before .before .from .ensures) (c .before .before .before .first-front .ensures) (c .before .before .before .before .before .loop-test .taken))
+add-at c = omega (arith, front-fits _ _ (c .before .before .before .before .from .ensures .0) (c .before .before .before .first-front .ensures) (c .before .before .before .before .before .loop-test .taken))
 
 loop-less : tie.Need-loop-less Inv-loop μ-loop
 loop-less c = search front-less

@@ -17,7 +17,7 @@ enum-known-n : tie.Need-enum-known-n
 enum-known-n c = search needs
 
 add-from : tie.Need-add-from
-add-from c = omega (arith, close-fits (c .before .before .before .before .before .before .args .s .now) (c .before .before .before .before .from .ensures) (c .before .before .before .element .ensures) (c .before .n .given .1))
+add-from c = omega (arith, close-fits (c .before .before .before .before .before .before .args .s .now) (c .before .before .before .before .from .ensures .0) (c .before .before .before .element .ensures) (c .before .n .given .1))
 
 from-requires-2 : tie.Need-from-requires-2
 from-requires-2 c κs = search needs
@@ -29,7 +29,7 @@ begins-with-requires : tie.Need-begins-with-requires
 begins-with-requires c κs = search needs
 
 add-t13 : tie.Need-add-t13
-add-t13 c = omega (arith, close-fits (c .before .before .before .before .before .before .before .before .before .before .args .s .now) (c .before .before .before .before .before .before .before .before .from .ensures) (c .before .before .before .before .before .before .before .element .ensures) (c .before .before .before .before .before .n .given .1))
+add-t13 c = omega (arith, close-fits (c .before .before .before .before .before .before .before .before .before .before .args .s .now) (c .before .before .before .before .before .before .before .before .from .ensures .0) (c .before .before .before .before .before .before .before .element .ensures) (c .before .before .before .before .before .n .given .1))
 
 returns : tie.Need-returns
 returns c = search (close-unnamed, close-got, close-bad)

@@ -17,7 +17,7 @@ enum-known-n : tie.Need-enum-known-n
 enum-known-n c = search needs
 
 add-t7 : tie.Need-add-t7
-add-t7 c = omega (arith, open-fits (c .before .before .before .before .before .before .args .s .now) (c .before .before .before .before .from .ensures) (c .before .before .before .element .ensures) (c .before .n .given .1))
+add-t7 c = omega (arith, open-fits (c .before .before .before .before .before .before .args .s .now) (c .before .before .before .before .from .ensures .0) (c .before .before .before .element .ensures) (c .before .n .given .1))
 
 returns : tie.Need-returns
 returns c = search (open-unnamed, open-got)

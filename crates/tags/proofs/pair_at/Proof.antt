@@ -41,9 +41,9 @@ begins-with-requires-3 c κs = search needs
 
 returns : tie.Need-returns
 returns c =
-    pair-got _ (c .before .before .before .before .before .before .before .before .before .before .before .before .before .before .begins-with .ensures) (c .before .before .before .before .before .before .before .before .before .before .before .before .before .if1 .taken) (c .before .before .before .before .before .before .before .before .before .before .before .before .from .ensures) (c .before .before .before .before .before .before .before .before .before .before .before .run-of .ensures)
-    (c .before .before .before .before .before .before .before .before .before .before .if2 .taken) (c .before .before .before .before .before .before .before .before .before .from2 .ensures) (c .before .before .before .before .before .before .before .begins-with2 .ensures) (c .before .before .before .before .before .before .if3 .taken)
-    (c .before .before .before .before .before .from3 .ensures) (c .before .before .before .before .run-of2 .ensures) (c .before .before .before .from4 .ensures) (c .before .begins-with3 .ensures) (c .if4 .taken)
+    pair-got _ (c .before .before .before .before .before .before .before .before .before .before .before .before .before .before .begins-with .ensures) (c .before .before .before .before .before .before .before .before .before .before .before .before .before .if1 .taken) (c .before .before .before .before .before .before .before .before .before .before .before .before .from .ensures .0) (c .before .before .before .before .before .before .before .before .before .before .before .run-of .ensures)
+    (c .before .before .before .before .before .before .before .before .before .before .if2 .taken) (c .before .before .before .before .before .before .before .before .before .from2 .ensures .0) (c .before .before .before .before .before .before .before .begins-with2 .ensures) (c .before .before .before .before .before .before .if3 .taken)
+    (c .before .before .before .before .before .from3 .ensures .0) (c .before .before .before .before .run-of2 .ensures) (c .before .before .before .from4 .ensures .0) (c .before .begins-with3 .ensures) (c .if4 .taken)
 
 returns-2 : tie.Need-returns-2
 returns-2 c = search (pair-space, pair-key, pair-equals, pair-got, pair-quote)

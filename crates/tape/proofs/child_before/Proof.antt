@@ -12,6 +12,9 @@ add-next c = search needs
 returns-2 : tie.Need-returns-2
 returns-2 c = search before-none
 
+new-requires : tie.Need-new-requires
+new-requires c κs = search needs
+
 returns-3 : tie.Need-returns-3
 returns-3 c = search before-some
 
@@ -19,4 +22,5 @@ returns-4 : tie.Need-returns-4
 returns-4 c = search before-out
 
 pub child-before-spec : {M : Type 1} → statement M
-child-before-spec = tie.close (tie.spec returns add-next returns-2 returns-3 returns-4)
+child-before-spec =
+    tie.close (tie.spec returns add-next returns-2 new-requires returns-3 returns-4)

@@ -21,6 +21,12 @@ from-requires c κs = search needs
 of-requires : tie.Need-of-requires
 of-requires c κs = search needs
 
+new-requires : tie.Need-new-requires
+new-requires c κs = search needs
+
+new-requires-2 : tie.Need-new-requires-2
+new-requires-2 c κs = search needs
+
 returns : tie.Need-returns
 returns c = search entry-in
 
@@ -37,5 +43,7 @@ entry-at-spec =
     add-place
     from-requires
     of-requires
+    new-requires
+    new-requires-2
     returns
     returns-2)

@@ -1,4 +1,5 @@
 use Rattle.tape.proofs.Laws.{entry-name-in}
+use Rattle.tape.proofs.Placed.{entry-at}
 use borrow.Author.Needs.{needs}
 use Rattle.tape.proofs.entry_name.Statement.{statement}
 use Rattle.tape.proofs.entry_name.Tie as tie
@@ -16,7 +17,7 @@ part-requires : tie.Need-part-requires
 part-requires c κs = search needs
 
 returns : tie.Need-returns
-returns c = search entry-name-in
+returns c = (search entry-name-in, search entry-at)
 
 pub entry-name-spec : {M : Type 1} → statement M
 entry-name-spec =

@@ -1,4 +1,5 @@
 use Rattle.tape.proofs.Laws.{names-in}
+use Rattle.parts.proofs.Places.{very-at}
 use borrow.Author.Needs.{needs}
 use Rattle.tape.proofs.names.Statement.{statement}
 use Rattle.tape.proofs.names.Tie as tie
@@ -13,7 +14,7 @@ part-requires : tie.Need-part-requires
 part-requires c κs = search needs
 
 returns : tie.Need-returns
-returns c = search names-in
+returns c = (search names-in, search very-at)
 
 pub names-spec : {M : Type 1} → statement M
 names-spec = tie.close (tie.spec names-at-requires long-requires part-requires returns)

@@ -1,12 +1,7 @@
-use Rattle.tape.proofs.Laws.{node-in, node-out}
+use Rattle.tape.proofs.Laws.{node-in, node-outside}
 use borrow.Author.Needs.{needs}
 use Rattle.tape.proofs.node_at.Statement.{statement}
 use Rattle.tape.proofs.node_at.Tie as tie
-use Rattle.tape.proofs.node_at.Reads as reads
-use Rattle.tape.proofs.node_at.Lts as lts
-use Rattle.parts.proofs.from.Reads as from-reads
-use Rattle.tape.proofs.Node.of.Reads as of-reads
-use Rattle.tape.proofs.node_place.Reads as node-place-reads
 
 node-place-requires : tie.Need-node-place-requires
 node-place-requires c κs = search needs
@@ -17,11 +12,26 @@ from-requires c κs = search needs
 of-requires : tie.Need-of-requires
 of-requires c κs = search needs
 
+new-requires : tie.Need-new-requires
+new-requires c κs = search needs
+
+new-requires-2 : tie.Need-new-requires-2
+new-requires-2 c κs = search needs
+
 returns : tie.Need-returns
 returns c = search node-in
 
 returns-2 : tie.Need-returns-2
-returns-2 c = search node-out
+returns-2 c = search node-outside
 
 pub node-at-spec : {M : Type 1} → statement M
-node-at-spec = tie.close (tie.spec node-place-requires from-requires of-requires returns returns-2)
+node-at-spec =
+    tie.close
+    (tie.spec
+    node-place-requires
+    from-requires
+    of-requires
+    new-requires
+    new-requires-2
+    returns
+    returns-2)

@@ -15,6 +15,9 @@ add-next c = search needs
 returns-3 : tie.Need-returns-3
 returns-3 c = search past-out
 
+new-requires : tie.Need-new-requires
+new-requires c κs = search needs
+
 kind-requires : tie.Need-kind-requires
 kind-requires c κs = search needs
 
@@ -35,6 +38,7 @@ past-spec =
     returns-2
     add-next
     returns-3
+    new-requires
     kind-requires
     is-close-requires
     returns-4

@@ -1,4 +1,5 @@
 use Rattle.tape.proofs.Laws.{source-in}
+use Rattle.parts.proofs.Places.{very-at}
 use borrow.Author.Needs.{needs}
 use Rattle.tape.proofs.source.Statement.{statement}
 use Rattle.tape.proofs.source.Tie as tie
@@ -13,7 +14,7 @@ part-requires : tie.Need-part-requires
 part-requires c κs = search needs
 
 returns : tie.Need-returns
-returns c = search source-in
+returns c = (search source-in, search very-at)
 
 pub source-spec : {M : Type 1} → statement M
 source-spec = tie.close (tie.spec source-at-requires long-requires part-requires returns)

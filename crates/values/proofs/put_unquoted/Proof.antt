@@ -42,10 +42,10 @@ put-piece-requires : tie.Need-put-piece-requires Inv-loop μ-loop
 put-piece-requires c κs = search needs
 
 add-at : tie.Need-add-at Inv-loop μ-loop
-add-at c = let e = c .before .before .before .before .before in omega (arith, piece-fits (e .before .before .before .before .before .before .args .s .now) (e .before .before .before .loop .at) (e .before .before .from .ensures) (e .before .piece-len .ensures) (e .if1 .left))
+add-at c = let e = c .before .before .before .before .before in omega (arith, piece-fits (e .before .before .before .before .before .before .args .s .now) (e .before .before .before .loop .at) (e .before .before .from .ensures .0) (e .before .piece-len .ensures) (e .if1 .left))
 
 add-at-2 : tie.Need-add-at-2 Inv-loop μ-loop
-add-at-2 c = let e = c .before .before .before .before .before in omega (arith, piece-fits (e .before .before .before .before .before .before .args .s .now) (e .before .before .before .loop .at) (e .before .before .from .ensures) (e .before .piece-len .ensures) (e .if1 .left))
+add-at-2 c = let e = c .before .before .before .before .before in omega (arith, piece-fits (e .before .before .before .before .before .before .args .s .now) (e .before .before .before .loop .at) (e .before .before .from .ensures .0) (e .before .piece-len .ensures) (e .if1 .left))
 
 loop-less : tie.Need-loop-less Inv-loop μ-loop
 loop-less c = search piece-less

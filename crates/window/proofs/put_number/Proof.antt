@@ -20,7 +20,7 @@ same-length : tie.Need-same-length
 same-length c = search needs
 
 returns : tie.Need-returns
-returns c = c .before .before .put-run .ensures ∙ ap (paint _) (c .before .before .before .from .ensures ∙ c .before .before .before .before .before .before .before .digits-of .ensures)
+returns c = c .before .before .put-run .ensures ∙ ap (paint _) (c .before .before .before .from .ensures .0 ∙ c .before .before .before .before .before .before .before .digits-of .ensures)
 
 pub put-number-spec : {M : Type 1} → statement M
 put-number-spec =

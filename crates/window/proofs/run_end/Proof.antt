@@ -11,7 +11,7 @@ plain-len-requires : tie.Need-plain-len-requires
 plain-len-requires c κs = search needs
 
 add-result : tie.Need-add-result
-add-result c = omega (arith, run-sum (c .before .before .before .args .attr) (c .before .before .before .args .s .now) (c .before .before .before .args .start) (c .before .from .ensures) (c .plain-len .ensures))
+add-result c = omega (arith, run-sum (c .before .before .before .args .attr) (c .before .before .before .args .s .now) (c .before .before .before .args .start) (c .before .from .ensures .0) (c .plain-len .ensures))
 
 returns : tie.Need-returns
 returns c = search run-ends

@@ -13,7 +13,7 @@ white-len-requires c κs = search needs
 add-start : tie.Need-add-start
 add-start c =
     let args = c .before .before .before .args in
-    omega (arith, start-fits (args .set) (args .s .now) (args .at) (c .before .from .ensures) (c .white-len .ensures))
+    omega (arith, start-fits (args .set) (args .s .now) (args .at) (c .before .from .ensures .0) (c .white-len .ensures))
 
 from-requires-2 : tie.Need-from-requires-2
 from-requires-2 c κs = search needs

@@ -3,6 +3,9 @@ use borrow.Author.Needs.{needs}
 use Rattle.admit.proofs.header.laid_out.Statement.{statement}
 use Rattle.admit.proofs.header.laid_out.Tie as tie
 
+cast-if1 : tie.Need-cast-if1
+cast-if1 c = search needs
+
 returns : tie.Need-returns
 returns c = search laid-short
 
@@ -40,6 +43,7 @@ pub laid-out-spec : {M : Type 1} → statement M
 laid-out-spec =
     tie.close
     (tie.spec
+    cast-if1
     returns
     length-of-requires
     returns-2

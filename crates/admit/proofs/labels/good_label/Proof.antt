@@ -3,6 +3,9 @@ use borrow.Author.Needs.{needs}
 use Rattle.admit.proofs.labels.good_label.Statement.{statement}
 use Rattle.admit.proofs.labels.good_label.Tie as tie
 
+new-requires : tie.Need-new-requires
+new-requires c κs = search needs
+
 base-len-requires : tie.Need-base-len-requires
 base-len-requires c κs = search needs
 
@@ -58,6 +61,7 @@ pub good-label-spec : {M : Type 1} → statement M
 good-label-spec =
     tie.close
     (tie.spec
+    new-requires
     base-len-requires
     text-requires
     bare-requires

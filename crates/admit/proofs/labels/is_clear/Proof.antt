@@ -6,6 +6,9 @@ use Rattle.admit.proofs.labels.is_clear.Tie as tie
 node-at-requires : tie.Need-node-at-requires
 node-at-requires c κs = search needs
 
+new-requires : tie.Need-new-requires
+new-requires c κs = search needs
+
 base-len-requires : tie.Need-base-len-requires
 base-len-requires c κs = search needs
 
@@ -29,6 +32,7 @@ is-clear-spec =
     tie.close
     (tie.spec
     node-at-requires
+    new-requires
     base-len-requires
     text-requires
     bare-requires

@@ -23,7 +23,7 @@ same-length-2 c = search needs
 
 returns : tie.Need-returns
 returns c =
-    labels-judged (c .before .before .before .before .before .before .before .before .before .before .before .before .before .before .before .args .t) (c .before .before .before .before .before .before .before .before .before .before .before .before .before .before .before .args .file .now) (search needs) (c .before .before .before .before .before .before .before .before .before .before .before .source .ensures) (c .before .before .before .before .before .before .before .before .before .fill .ensures) (c .before .before .before .before .before .fill2 .ensures) (c .good-verses .ensures)
+    labels-judged (c .before .before .before .before .before .before .before .before .before .before .before .before .before .before .before .args .t) (c .before .before .before .before .before .before .before .before .before .before .before .before .before .before .before .args .file .now) (search needs) (c .before .before .before .before .before .before .before .before .before .before .before .source .ensures .0) (c .before .before .before .before .before .before .before .before .before .fill .ensures) (c .before .before .before .before .before .fill2 .ensures) (c .good-verses .ensures)
 
 pub tabled-spec : {M : Type 1} → statement M
 tabled-spec =

@@ -23,7 +23,7 @@ nth-word-requires : tie.Need-nth-word-requires
 nth-word-requires c κs = search needs
 
 add-t10 : tie.Need-add-t10
-add-t10 c = omega (arith, word-within _ (c .before .before .before .before .before .long .result) (c .before .before .before .long2 .result) _ (c .before .before .part .ensures) (c .before .nth-word .ensures))
+add-t10 c = omega (arith, word-within _ (c .before .before .before .before .before .long .result) (c .before .before .before .long2 .result) _ (c .before .before .part .ensures .0) (c .before .nth-word .ensures))
 
 returns : tie.Need-returns
 returns c = search word-found

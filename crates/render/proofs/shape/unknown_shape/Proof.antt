@@ -18,6 +18,9 @@ enum-told c = search needs
 enum-told-2 : tie.Need-enum-told-2
 enum-told-2 c = search needs
 
+new-requires : tie.Need-new-requires
+new-requires c κs = search needs
+
 kind-requires : tie.Need-kind-requires
 kind-requires c κs = search needs
 
@@ -39,6 +42,7 @@ unknown-shape-spec =
     marker-info-requires
     enum-told
     enum-told-2
+    new-requires
     kind-requires
     closed-by-requires
     returns-2

@@ -1,4 +1,5 @@
 use Rattle.tape.proofs.Laws.{name-known, name-unknown}
+use Rattle.tape.proofs.Placed.{unknown-at, known-at}
 use borrow.Author.Needs.{needs}
 use Rattle.tape.proofs.Cursor.entry_name.Statement.{statement}
 use Rattle.tape.proofs.Cursor.entry_name.Tie as tie
@@ -19,10 +20,10 @@ part-requires : tie.Need-part-requires
 part-requires c κs = search needs
 
 returns : tie.Need-returns
-returns c = search name-known
+returns c = (search name-known, search known-at)
 
 returns-2 : tie.Need-returns-2
-returns-2 c = search name-unknown
+returns-2 c = (search name-unknown, search unknown-at)
 
 pub entry-name-spec : {M : Type 1} → statement M
 entry-name-spec =

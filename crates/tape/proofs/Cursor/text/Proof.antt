@@ -1,4 +1,5 @@
 use Rattle.tape.proofs.Laws.{text-of}
+use Rattle.tape.proofs.Placed.{text-at}
 use borrow.Author.Needs.{needs}
 use Rattle.tape.proofs.Cursor.text.Statement.{statement}
 use Rattle.tape.proofs.Cursor.text.Tie as tie
@@ -22,7 +23,7 @@ part-requires : tie.Need-part-requires
 part-requires c κs = search needs
 
 returns : tie.Need-returns
-returns c = search text-of
+returns c = (search text-of, search text-at)
 
 pub text-spec : {M : Type 1} → statement M
 text-spec =

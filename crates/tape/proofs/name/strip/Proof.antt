@@ -1,4 +1,5 @@
 use Rattle.tape.proofs.NameRule.{strip-some, strip-none}
+use Rattle.tape.proofs.Placed.{strip-none-at, strip-some-at}
 use borrow.Author.Needs.{needs}
 use Rattle.tape.proofs.name.strip.Statement.{statement}
 use Rattle.tape.proofs.name.strip.Tie as tie
@@ -13,10 +14,10 @@ from-requires : tie.Need-from-requires
 from-requires c κs = search needs
 
 returns : tie.Need-returns
-returns c = search strip-some
+returns c = (search strip-some, search strip-some-at)
 
 returns-2 : tie.Need-returns-2
-returns-2 c = search strip-none
+returns-2 c = (search strip-none, search strip-none-at)
 
 pub strip-spec : {M : Type 1} → statement M
 strip-spec =
