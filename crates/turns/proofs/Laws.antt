@@ -29,9 +29,8 @@ use Rattle.lists.specs.Span.{nodesIn, foldedIn}
 use Rattle.lists.specs.declared.Span.{Span}
 use Rattle.lists.specs.declared.Folds.{Folds}
 use Rattle.events.specs.Event.{Event, verse}
-use Rattle.events.specs.Walk.{normalized, unbroken, broken, inlineTurn, inlineAll, noteText, noteTurn, noteAll}
+use Rattle.events.specs.Walk.{normalized, unbroken, broken, inlineTurn, inlineAll, inlineOn, noteText, noteTurn, noteAll}
 use Rattle.events.specs.Emit.{Desk, emit, emitAll}
-use Rattle.events.proofs.Turns.{inlineOn}
 use Rattle.events.proofs.Emits.{emit-append}
 use Rattle.sink.specs.Desk.{deskIn}
 use Rattle.sink.specs.declared.Sink.{Sink}

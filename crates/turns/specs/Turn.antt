@@ -13,8 +13,7 @@ use Rattle.lists.specs.declared.Span.{Span}
 use Rattle.lists.specs.declared.Member.{Member}
 use Rattle.lists.specs.declared.Member.the-variants.{End as EndMember, Skipped as SkippedMember, Listed}
 use Rattle.events.specs.Event.{Event}
-use Rattle.events.specs.Walk.{anchor, words, inlineAll, noteTurn, noteAll, direct}
-use Rattle.events.proofs.Turns.{inlineOn}
+use Rattle.events.specs.Walk.{anchor, words, inlineAll, inlineOn, noteTurn, noteAll, direct}
 use Rattle.turns.specs.declared.Child.{Child}
 use Rattle.turns.specs.declared.Child.the-variants.{Skipped, Anchor, Words, Passed}
 use Rattle.turns.specs.declared.Sort.{Sort}
