@@ -25,7 +25,7 @@ use Rattle.checker.specs.Words.{Kind, Demand, startsIn}
 use Rattle.events.specs.Event.{Event, item, chapter, verse, book, element}
 use Rattle.events.specs.Pairing.{paired}
 use Rattle.events.specs.Text.{firstState}
-use Rattle.events.specs.Walk.{unbroken, breaks, segmented, broken, Manner, asInline, asNote, Role, unknownBlock, unknownInline, unwritten, figure, ref, id, note, ms, char, para, roleOf, linkOf, linked, figureAs, markerAs, nodeIn, Child, anchor, words, passed, marker, childOf, noteChildOf, normalized, inlineTurn, inlineFrom, inlineAll, noteText, noteTurn, noteAll, inside, levelOf, isCell, cellIn, cellsAlong, cells, rowE, rowsE, tableE, holder, sidebarIn, periphIn, Place, aRow, aChapter, aSidebar, aPeriph, aBlock, aVerse, dropped, placeOf, blockTurn, blocksFrom, blocksE, eventsOf, NoteChild, direct, leftOut, entered}
+use Rattle.events.specs.Walk.{unbroken, breaks, segmented, broken, Manner, asInline, asNote, Role, unknownBlock, unknownInline, unwritten, figure, ref, id, note, ms, char, para, roleOf, linkOf, linked, figureAs, markerAs, nodeIn, Child, anchor, words, passed, marker, childOf, noteChildOf, normalized, inlineTurn, inlineFrom, inlineAll, noteText, noteTurn, noteAll, inside, isCell, cellIn, cellsAlong, cells, rowE, rowsE, tableE, holder, sidebarIn, periphIn, Place, aRow, aChapter, aSidebar, aPeriph, aBlock, aVerse, dropped, placeOf, blockTurn, blocksFrom, blocksAll, blocksE, eventsWithin, eventsOf, NoteChild, direct, leftOut, entered}
 use Rattle.milestones.specs.Seen.{seen, startOf, opening, PlainEvents, chaptersIn, versesIn}
 use Rattle.milestones.proofs.Paired.{paired-demand, paired-counts}
 
@@ -170,18 +170,18 @@ module _ (t : Tape) where
   plain-cells zero level k = tt
   plain-cells (suc d) level k = plain-along d level (children t k)
 
-  plain-row : (d k : ℕ) → PlainEvents (rowE t d k)
+  plain-row : (d level k : ℕ) → PlainEvents (rowE t d level k)
   unfolding rowE
-  plain-row d k = (tt, (plain-tag 11 refl refl, plain-append (cells t d (levelOf d + 2) k) _ (plain-cells d (levelOf d + 2) k) (tt, (plain-tag 11 refl refl, tt))))
+  plain-row d level k = (tt, (plain-tag 11 refl refl, plain-append (cells t d (level + 2) k) _ (plain-cells d (level + 2) k) (tt, (plain-tag 11 refl refl, tt))))
 
-  plain-rows : (d : ℕ) (ks : List ℕ) → PlainEvents (rowsE t d ks)
+  plain-rows : (d level : ℕ) (ks : List ℕ) → PlainEvents (rowsE t d level ks)
   unfolding rowsE
-  plain-rows d [] = tt
-  plain-rows d (k ∷ ks) = plain-append (rowE t d k) (rowsE t d ks) (plain-row d k) (plain-rows d ks)
+  plain-rows d level [] = tt
+  plain-rows d level (k ∷ ks) = plain-append (rowE t d level k) (rowsE t d level ks) (plain-row d level k) (plain-rows d level ks)
 
-  plain-table : (d : ℕ) (ks : List ℕ) → PlainEvents (tableE t d ks)
+  plain-table : (d level : ℕ) (ks : List ℕ) → PlainEvents (tableE t d level ks)
   unfolding tableE
-  plain-table d ks = (tt, (plain-tag 10 refl refl, plain-append (rowsE t d ks) _ (plain-rows d ks) (tt, (plain-tag 10 refl refl, tt))))
+  plain-table d level ks = (tt, (plain-tag 10 refl refl, plain-append (rowsE t d level ks) _ (plain-rows d level ks) (tt, (plain-tag 10 refl refl, tt))))
 
   module _ (blocks : List ℕ → List Event) (h : (ks : List ℕ) → PlainEvents (blocks ks)) where
     plain-holder : (level n : ℕ) (qs : List Attr) (ks : List ℕ) → (Kind n → ⊥) → PlainEvents (holder blocks t level n qs ks)
@@ -189,33 +189,33 @@ module _ (t : Tape) where
     plain-holder level n qs ks g =
         plain-cond (any (λ k. isTopLevelBlock t k || isRow t k) ks) _ _ (g, plain-append (blocks ks) _ (h ks) (tt, (g, tt))) (g, tt)
 
-    plain-block : (d k : ℕ) (ks : List ℕ) (p : Place) → PlainEvents (blockTurn blocks t d k ks p .written)
+    plain-block : (d level k : ℕ) (ks : List ℕ) (p : Place) → PlainEvents (blockTurn blocks t d level k ks p .written)
     unfolding blockTurn sidebarIn periphIn
-    plain-block d k ks aRow = plain-table d (k ∷ upTo (λ i. not (isRow t i)) ks)
-    plain-block d k ks aChapter = (tt, tt)
-    plain-block d k ks aSidebar = (tt, plain-holder (levelOf d) 13 _ (without (isCategoryMarker t) (children t k)) (plain-tag 13 refl refl))
-    plain-block d k ks aPeriph = (tt, plain-holder (levelOf d) 14 _ (children t k) (plain-tag 14 refl refl))
-    plain-block d k ks aBlock = (tt, plain-node (inside t d) (plain-inside d) t k false)
-    plain-block d k ks aVerse =
+    plain-block d level k ks aRow = plain-table d level (k ∷ upTo (λ i. not (isRow t i)) ks)
+    plain-block d level k ks aChapter = (tt, tt)
+    plain-block d level k ks aSidebar = (tt, plain-holder level 13 _ (without (isCategoryMarker t) (children t k)) (plain-tag 13 refl refl))
+    plain-block d level k ks aPeriph = (tt, plain-holder level 14 _ (children t k) (plain-tag 14 refl refl))
+    plain-block d level k ks aBlock = (tt, plain-node (inside t d) (plain-inside d) t k false)
+    plain-block d level k ks aVerse =
         (tt, plain-element 5 _ _ (plain-tag 5 refl refl) (plain-all (nodeIn (inside t d) t) (plain-node (inside t d) (plain-inside d) t) t false true (k ∷ upTo (isTopLevelBlock t) ks)))
-    plain-block d k ks dropped = tt
+    plain-block d level k ks dropped = tt
 
-    plain-from : (d n : ℕ) (ks : List ℕ) → PlainEvents (blocksFrom blocks t d n ks)
+    plain-from : (d level n : ℕ) (ks : List ℕ) → PlainEvents (blocksFrom blocks t d level n ks)
     unfolding blocksFrom
-    plain-from d zero ks = tt
-    plain-from d (suc n) [] = tt
-    plain-from d (suc n) (k ∷ ks) =
-        plain-append (blockTurn blocks t d k ks (placeOf t k) .written) _ (plain-block d k ks (placeOf t k)) (plain-from d n _)
+    plain-from d level zero ks = tt
+    plain-from d level (suc n) [] = tt
+    plain-from d level (suc n) (k ∷ ks) =
+        plain-append (blockTurn blocks t d level k ks (placeOf t k) .written) _ (plain-block d level k ks (placeOf t k)) (plain-from d level n _)
 
-  plain-blocks : (d : ℕ) (ks : List ℕ) → PlainEvents (blocksE t d ks)
-  unfolding blocksE
-  plain-blocks zero ks = plain-from (λ _. []) (λ _. tt) zero (length ks) ks
-  plain-blocks (suc d) ks = plain-from (blocksE t d) (plain-blocks d) (suc d) (length ks) ks
+  plain-blocks : (d level : ℕ) (ks : List ℕ) → PlainEvents (blocksE t d level ks)
+  unfolding blocksE blocksAll
+  plain-blocks zero level ks = plain-from (λ _. []) (λ _. tt) zero level (length ks) ks
+  plain-blocks (suc d) level ks = plain-from (blocksE t d (level + 1)) (plain-blocks d (level + 1)) (suc d) level (length ks) ks
 
   -- no chapter and no verse stands as an item
   pub walk-plain : PlainEvents (eventsOf t)
-  unfolding eventsOf
-  walk-plain = plain-blocks 64 (children t 0)
+  unfolding eventsOf eventsWithin
+  walk-plain = plain-blocks 64 1 (children t 0)
 
 -- every tape's items have their milestones right, in the words of demand 3
 pub tape-demand : (t : Tape) → Demand (seen (paired (firstState t) (eventsOf t)))
