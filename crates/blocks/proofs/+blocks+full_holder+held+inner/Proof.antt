@@ -181,7 +181,7 @@ blocks-loop-less-4 : (t : ℕ) → blocks-lts.Need-loop-less-4 (blocks-calls t) 
 blocks-loop-less-4 t c = search left-behind
 
 blocks-loop-again-4 : (t : ℕ) → blocks-lts.Need-loop-again-4 (blocks-calls t) (blocks-at t) blocks.Post blocks-Inv-loop blocks-μ-loop
-blocks-loop-again-4 t c = (blocks-turned _ _ _ _ _ _ _ (c .before .before .before .before .before .before .before .before .before .before .before .before .before .before .loop .inv .0) (search needs) (c .before .before .before .before .before .before .before .before .before .before .member-of .ensures) (search needs) (c .before .before .before .before .before .before .before .holder-of .ensures) (search needs) _ _ (c .before .before .before .block-turn .ensures .0), search needs)
+blocks-loop-again-4 t c = (blocks-turned _ _ _ _ _ _ _ _ (c .before .before .before .before .before .before .before .before .before .before .before .before .before .before .loop .inv .0) (search needs) (c .before .before .before .before .before .before .before .before .before .before .member-of .ensures) (search needs) (c .before .before .before .before .before .before .before .holder-of .ensures) (search needs) _ _ (c .before .before .before .block-turn .ensures .0), search needs)
 
 -- ---- full-holder
 
@@ -194,9 +194,6 @@ full-holder-first-child-requires t c κs = search needs
 full-holder-inner-requires : (t : ℕ) → full-holder-lts.Need-inner-requires (full-holder-calls t) (full-holder-at t) full-holder.Post
 full-holder-inner-requires t c κs = search needs
 
-full-holder-cast-close-holder : (t : ℕ) → full-holder-lts.Need-cast-close-holder (full-holder-calls t) (full-holder-at t) full-holder.Post
-full-holder-cast-close-holder t c = search needs
-
 full-holder-close-holder-requires : (t : ℕ) → full-holder-lts.Need-close-holder-requires (full-holder-calls t) (full-holder-at t) full-holder.Post
 full-holder-close-holder-requires t c κs = search needs
 
@@ -204,12 +201,9 @@ full-holder-same-length : (t : ℕ) → full-holder-lts.Need-same-length (full-h
 full-holder-same-length t c = search needs
 
 full-holder-returns : (t : ℕ) → full-holder-lts.Need-returns (full-holder-calls t) (full-holder-at t) full-holder.Post
-full-holder-returns t c = held-whole _ _ _ _ _ _ _ _ _ _ (c .before .before .before .before .before .before .before .before .before .before .before .before .open-holder .ensures) (c .before .before .before .before .before .before .before .before .before .first-child .ensures) (c .before .before .before .before .before .before .before .inner .ensures) (c .before .before .close-holder .ensures)
+full-holder-returns t c = held-whole _ _ _ _ _ _ _ _ _ _ (c .before .before .before .before .before .before .before .before .before .before .before .open-holder .ensures) (c .before .before .before .before .before .before .before .before .first-child .ensures) (c .before .before .before .before .before .before .inner .ensures) (c .before .before .close-holder .ensures)
 
 -- ---- held
-
-held-cast-line : (t : ℕ) → held-lts.Need-cast-line (held-calls t) (held-at t) held.Post
-held-cast-line t c = search needs
 
 held-line-requires : (t : ℕ) → held-lts.Need-line-requires (held-calls t) (held-at t) held.Post
 held-line-requires t c κs = search needs
@@ -264,8 +258,8 @@ pub +blocks+full-holder+held+inner-spec : {M : Type 1} → statement M
     (λ t. blocks-lts.spec (blocks-calls t) (blocks-at t) blocks.Post blocks-Inv-loop blocks-μ-loop
     (blocks-loop-holds t) (blocks-enum-told t) (blocks-same-length t) (blocks-returns t) (blocks-enum-known-step t) (blocks-member-of-requires t) (blocks-enum-told-2 t) (blocks-same-length-2 t) (blocks-returns-2 t) (blocks-enum-told-3 t) (blocks-next-sibling-requires t) (blocks-loop-less t) (blocks-loop-again t) (blocks-enum-told-4 t) (blocks-holder-of-requires t) (blocks-enum-told-5 t) (blocks-held-requires t) (blocks-next-sibling-requires-2 t) (blocks-loop-less-2 t) (blocks-loop-again-2 t) (blocks-enum-told-6 t) (blocks-held-requires-2 t) (blocks-next-sibling-requires-3 t) (blocks-loop-less-3 t) (blocks-loop-again-3 t) (blocks-enum-told-7 t) (blocks-block-turn-requires t) (blocks-loop-less-4 t) (blocks-loop-again-4 t))
     (λ t. full-holder-lts.spec (full-holder-calls t) (full-holder-at t) full-holder.Post
-    (full-holder-open-holder-requires t) (full-holder-first-child-requires t) (full-holder-inner-requires t) (full-holder-cast-close-holder t) (full-holder-close-holder-requires t) (full-holder-same-length t) (full-holder-returns t))
+    (full-holder-open-holder-requires t) (full-holder-first-child-requires t) (full-holder-inner-requires t) (full-holder-close-holder-requires t) (full-holder-same-length t) (full-holder-returns t))
     (λ t. held-lts.spec (held-calls t) (held-at t) held.Post
-    (held-cast-line t) (held-line-requires t) (held-first-child-requires t) (held-has-block-requires t) (held-full-holder-requires t) (held-empty-holder-requires t) (held-same-length t) (held-returns t) (held-same-length-2 t) (held-returns-2 t))
+    (held-line-requires t) (held-first-child-requires t) (held-has-block-requires t) (held-full-holder-requires t) (held-empty-holder-requires t) (held-same-length t) (held-returns t) (held-same-length-2 t) (held-returns-2 t))
     (λ t. inner-lts.spec (inner-calls t) (inner-at t) inner.Post
     (inner-depth-at-requires t) (inner-returns t) (inner-add-blocks t) (inner-blocks-requires t) (inner-same-length t) (inner-returns-2 t))
