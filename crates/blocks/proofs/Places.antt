@@ -23,10 +23,10 @@ use Rattle.lists.proofs.Nodes.{nodes-go}
 use Rattle.tags.specs.Items.{start, close, line, valueOf, attrBytes, attrsBytes, bytesOf}
 use Rattle.tags.specs.Names.{nameOf}
 use Rattle.events.specs.Event.{Event, item, chapter, rawly, element}
-use Rattle.events.specs.Walk.{levelOf, styled, Place, aRow, aChapter, aSidebar, aPeriph, aBlock, aVerse, dropped, placeOf, nodeIn, inside, inlineAll, tableE, blockTurn}
+use Rattle.events.specs.Walk.{styled, Place, aRow, aChapter, aSidebar, aPeriph, aBlock, aVerse, dropped, placeOf, nodeIn, inside, inlineAll, tableE, blockTurn, blocksAll, blocksOn}
 use Rattle.events.specs.Emit.{Desk, emit, emitAll}
 use Rattle.events.proofs.Emits.{between, then}
-use Rattle.events.proofs.Turns.{blocksAll, blocksOn, blocks-turn}
+use Rattle.events.proofs.Turns.{blocks-turn}
 use Rattle.sink.specs.Desk.{deskIn, putOn}
 use Rattle.sink.specs.declared.Sink.{Sink}
 use Rattle.sink.proofs.Chains.{item-on}
@@ -96,22 +96,21 @@ module _ (t : Tape) (k : ℕ) where
 
 -- ---- a chapter
 
-pub chapter-turn : (t : Tape) (span : Span) (k d : ℕ) {z : Kind} {n : Step} (f : Folds) {l m : ℕ} → z .code ≡ 6 → n ≡ nextSibling t k
-    → foldedIn t span f ≡ foldAt t (z .code) (nodesIn t span n) → l ≡ levelOf d → (sink a : Sink) (out mid : Bytes) {r : Desk}
-    → ((source : Bytes) → deskIn source a mid ≡ emit (deskIn source sink out) (item (line l))) → m ≡ numberAt t k
+pub chapter-turn : (t : Tape) (span : Span) (k d level : ℕ) {z : Kind} {n : Step} (f : Folds) {m : ℕ} → z .code ≡ 6 → n ≡ nextSibling t k
+    → foldedIn t span f ≡ foldAt t (z .code) (nodesIn t span n) → (sink a : Sink) (out mid : Bytes) {r : Desk}
+    → ((source : Bytes) → deskIn source a mid ≡ emit (deskIn source sink out) (item (line level))) → m ≡ numberAt t k
     → r ≡ emit (deskIn (t .source) a mid) (chapter m (numberOf t (f .alt)) (numberOf t (f .published)))
     → (B : List ℕ → List Event)
-    → emitAll r (blocksAll B t d (nodesIn t span (f .rest))) ≡ emitAll (deskIn (t .source) sink out) (blocksOn B t d k (nodesIn t span (nextSibling t k)) aChapter)
+    → emitAll r (blocksAll B t d level (nodesIn t span (f .rest))) ≡ emitAll (deskIn (t .source) sink out) (blocksOn B t d level k (nodesIn t span (nextSibling t k)) aChapter)
 unfolding blocksOn blockTurn foldedIn emitAll
-chapter-turn t span k d {z} {n} f {l} {m} ez en ef el sink a out mid {r} ea em er B =
+chapter-turn t span k d level {z} {n} f {m} ez en ef sink a out mid {r} ea em er B =
     let g : Folded = foldAt t 6 (nodesIn t span (nextSibling t k)) in
     let same : foldedIn t span f ≡ g = ef ∙ rw (ez, en) in
     let s : Desk = deskIn (t .source) sink out in
-    ap (λ (u : Desk). emitAll u (blocksAll B t d (nodesIn t span (f .rest))))
+    ap (λ (u : Desk). emitAll u (blocksAll B t d level (nodesIn t span (f .rest))))
     (er ∙ ap (λ (u : Desk). emit u (chapter m (numberOf t (f .alt)) (numberOf t (f .published)))) (ea (t .source)))
-    ∙ ap (λ (i : ℕ). emitAll (emit (emit s (item (line i))) (chapter m (numberOf t (f .alt)) (numberOf t (f .published)))) (blocksAll B t d (nodesIn t span (f .rest)))) el
-    ∙ ap (λ (i : ℕ). emitAll (emit (emit s (item (line (levelOf d)))) (chapter i (numberOf t (f .alt)) (numberOf t (f .published)))) (blocksAll B t d (nodesIn t span (f .rest)))) em
-    ∙ ap (λ (h : Folded). emitAll (emit (emit s (item (line (levelOf d)))) (chapter (numberAt t k) (h .alt) (h .published))) (blocksAll B t d (h .rest))) same
+    ∙ ap (λ (i : ℕ). emitAll (emit (emit s (item (line level))) (chapter i (numberOf t (f .alt)) (numberOf t (f .published)))) (blocksAll B t d level (nodesIn t span (f .rest)))) em
+    ∙ ap (λ (h : Folded). emitAll (emit (emit s (item (line level))) (chapter (numberAt t k) (h .alt) (h .published))) (blocksAll B t d level (h .rest))) same
 
 pub left-past : (t : Tape) (c : Cursor) {n : Step} (r : Step) → n ≡ nextSibling t (c .at) → left t r ≤ left t n → left t r < left t (At c)
 left-past t c r en h = omega (arith, left-turn t c refl en)
@@ -121,16 +120,16 @@ left-next t c en = left-turn t c refl en
 
 -- ---- a block
 
-pub block-step : (t : Tape) (span : Span) (k d : ℕ) {l : ℕ} {n : Step} → l ≡ levelOf d → (sink a : Sink) (out mid : Bytes) {r : Desk}
-    → ((source : Bytes) → deskIn source a mid ≡ emit (deskIn source sink out) (item (line l)))
-    → r ≡ emitAll (deskIn (t .source) a mid) (nodeIn (inside t d) t k false) → n ≡ nextSibling t k
-    → (B : List ℕ → List Event) → emitAll r (blocksAll B t d (nodesIn t span n)) ≡ emitAll (deskIn (t .source) sink out) (blocksOn B t d k (nodesIn t span (nextSibling t k)) aBlock)
+pub block-step : (t : Tape) (span : Span) (k d level : ℕ) {e : ℕ} {n : Step} → (sink a : Sink) (out mid : Bytes) {r : Desk}
+    → ((source : Bytes) → deskIn source a mid ≡ emit (deskIn source sink out) (item (line level)))
+    → e ≡ d → r ≡ emitAll (deskIn (t .source) a mid) (nodeIn (inside t e) t k false) → n ≡ nextSibling t k
+    → (B : List ℕ → List Event) → emitAll r (blocksAll B t d level (nodesIn t span n)) ≡ emitAll (deskIn (t .source) sink out) (blocksOn B t d level k (nodesIn t span (nextSibling t k)) aBlock)
 unfolding blocksOn blockTurn emitAll
-block-step t span k d {l} {n} el sink a out mid {r} ea er en B =
-    ap (λ (u : Step). emitAll r (blocksAll B t d (nodesIn t span u))) en
-    ∙ then (deskIn (t .source) a mid) (nodeIn (inside t d) t k false) (blocksAll B t d (nodesIn t span (nextSibling t k))) er
-    ∙ ap (λ (u : Desk). emitAll u (nodeIn (inside t d) t k false ++ blocksAll B t d (nodesIn t span (nextSibling t k))))
-    (ea (t .source) ∙ ap (λ (i : ℕ). emit (deskIn (t .source) sink out) (item (line i))) el)
+block-step t span k d level {n = n} sink a out mid {r} ea ed er en B =
+    ap (λ (u : Step). emitAll r (blocksAll B t d level (nodesIn t span u))) en
+    ∙ then (deskIn (t .source) a mid) (nodeIn (inside t d) t k false) (blocksAll B t d level (nodesIn t span (nextSibling t k)))
+    (er ∙ ap (λ (j : ℕ). emitAll (deskIn (t .source) a mid) (nodeIn (inside t j) t k false)) ed)
+    ∙ ap (λ (u : Desk). emitAll u (nodeIn (inside t d) t k false ++ blocksAll B t d level (nodesIn t span (nextSibling t k)))) (ea (t .source))
 
 -- ---- a verse
 
@@ -158,93 +157,94 @@ run-opened l sink a r out mid last ea er source =
     er source ∙ ap (putOn (deskIn source a mid)) (sym para-opens) ∙ item-on (deskIn source a mid) (start 5 (styled (b "p")))
     ∙ ap (λ (u : Desk). emit u (item (start 5 (styled (b "p"))))) (ea source)
 
-pub run-whole : (t : Tape) (sifted : Bool) (c : Cursor) (d : ℕ) {l : ℕ} → l ≡ levelOf d → (sink a e r : Sink) (out mid now last : Bytes)
-    → ((source : Bytes) → deskIn source a mid ≡ emitAll (deskIn source sink out) (runOpens l))
-    → deskIn (t .source) e now ≡ emitAll (deskIn (t .source) a mid) (inlineAll (nodeIn (inside t d) t) t false true (nodesIn t (record { cut = true; sifted = sifted }) (At c)))
+pub run-whole : (t : Tape) (sifted : Bool) (c : Cursor) (d level : ℕ) {j : ℕ} (sink a e r : Sink) (out mid now last : Bytes)
+    → ((source : Bytes) → deskIn source a mid ≡ emitAll (deskIn source sink out) (runOpens level)) → j ≡ d
+    → deskIn (t .source) e now ≡ emitAll (deskIn (t .source) a mid) (inlineAll (nodeIn (inside t j) t) t false true (nodesIn t (record { cut = true; sifted = sifted }) (At c)))
     → ((source : Bytes) → deskIn source r last ≡ putOn (deskIn source e now) (b "</para>"))
     → memberOf t (uncut sifted) (c .at) ≡ Listed → isTopLevelBlock t (c .at) ≡ false
-    → deskIn (t .source) r last ≡ emitAll (deskIn (t .source) sink out) (runIn t d (c .at) (nodesIn t (uncut sifted) (nextSibling t (c .at))))
+    → deskIn (t .source) r last ≡ emitAll (deskIn (t .source) sink out) (runIn t d level (c .at) (nodesIn t (uncut sifted) (nextSibling t (c .at))))
 unfolding runOpens runIn element emitAll
-run-whole t sifted c d el sink a e r out mid now last ea ee er hm hb =
-    between (deskIn (t .source) sink out) (runOpens (levelOf d)) (inlineAll (nodeIn (inside t d) t) t false true (c .at ∷ upTo (isTopLevelBlock t) (nodesIn t (uncut sifted) (nextSibling t (c .at))))) (item (close 5) ∷ [])
-    (ea (t .source) ∙ ap (λ (i : ℕ). emitAll (deskIn (t .source) sink out) (runOpens i)) el)
-    (ee ∙ ap (λ (is : List ℕ). emitAll (deskIn (t .source) a mid) (inlineAll (nodeIn (inside t d) t) t false true is)) (run-nodes t sifted c hm hb))
+run-whole t sifted c d level sink a e r out mid now last ea ed ee er hm hb =
+    between (deskIn (t .source) sink out) (runOpens level) (inlineAll (nodeIn (inside t d) t) t false true (c .at ∷ upTo (isTopLevelBlock t) (nodesIn t (uncut sifted) (nextSibling t (c .at))))) (item (close 5) ∷ [])
+    (ea (t .source))
+    (ee ∙ ap (λ (i : ℕ). emitAll (deskIn (t .source) a mid) (inlineAll (nodeIn (inside t i) t) t false true (nodesIn t (record { cut = true; sifted = sifted }) (At c)))) ed
+    ∙ ap (λ (is : List ℕ). emitAll (deskIn (t .source) a mid) (inlineAll (nodeIn (inside t d) t) t false true is)) (run-nodes t sifted c hm hb))
     (er (t .source) ∙ ap (putOn (deskIn (t .source) e now)) (sym para-closes) ∙ item-on (deskIn (t .source) e now) (close 5))
 
-pub verse-turn : (t : Tape) (sifted : Bool) (c : Cursor) (d : ℕ) (s r : Desk)
-    → (memberOf t (uncut sifted) (c .at) ≡ Listed → isTopLevelBlock t (c .at) ≡ false → r ≡ emitAll s (runIn t d (c .at) (nodesIn t (uncut sifted) (nextSibling t (c .at)))))
+pub verse-turn : (t : Tape) (sifted : Bool) (c : Cursor) (d level : ℕ) (s r : Desk)
+    → (memberOf t (uncut sifted) (c .at) ≡ Listed → isTopLevelBlock t (c .at) ≡ false → r ≡ emitAll s (runIn t d level (c .at) (nodesIn t (uncut sifted) (nextSibling t (c .at)))))
     → {n : Step} → n ≡ nextSibling t (c .at) → (m : Step) → nodesIn t (uncut sifted) m ≡ fromFirst (isTopLevelBlock t) (nodesIn t (uncut sifted) n)
     → memberOf t (uncut sifted) (c .at) ≡ Listed → isTopLevelBlock t (c .at) ≡ false → (B : List ℕ → List Event)
-    → emitAll r (blocksAll B t d (nodesIn t (uncut sifted) m)) ≡ emitAll s (blocksOn B t d (c .at) (nodesIn t (uncut sifted) (nextSibling t (c .at))) aVerse)
+    → emitAll r (blocksAll B t d level (nodesIn t (uncut sifted) m)) ≡ emitAll s (blocksOn B t d level (c .at) (nodesIn t (uncut sifted) (nextSibling t (c .at))) aVerse)
 unfolding blocksOn blockTurn runIn
-verse-turn t sifted c d s r er {n} en m em hm hb B =
-    ap (λ (is : List ℕ). emitAll r (blocksAll B t d is)) (em ∙ ap (λ (u : Step). fromFirst (isTopLevelBlock t) (nodesIn t (uncut sifted) u)) en)
-    ∙ then s (runIn t d (c .at) (nodesIn t (uncut sifted) (nextSibling t (c .at)))) (blocksAll B t d (fromFirst (isTopLevelBlock t) (nodesIn t (uncut sifted) (nextSibling t (c .at))))) (er hm hb)
+verse-turn t sifted c d level s r er {n} en m em hm hb B =
+    ap (λ (is : List ℕ). emitAll r (blocksAll B t d level is)) (em ∙ ap (λ (u : Step). fromFirst (isTopLevelBlock t) (nodesIn t (uncut sifted) u)) en)
+    ∙ then s (runIn t d level (c .at) (nodesIn t (uncut sifted) (nextSibling t (c .at)))) (blocksAll B t d level (fromFirst (isTopLevelBlock t) (nodesIn t (uncut sifted) (nextSibling t (c .at))))) (er hm hb)
 
 -- ---- a turn by its place
 
-turn-at : (t : Tape) (span : Span) (c : Cursor) (d : ℕ) (B : List ℕ → List Event) (p : Place) → memberOf t span (c .at) ≡ Listed → placeOf t (c .at) ≡ p
-    → blocksAll B t d (nodesIn t span (At c)) ≡ blocksOn B t d (c .at) (nodesIn t span (nextSibling t (c .at))) p
-turn-at t span c d B p hm hp =
-    ap (blocksAll B t d) (nodes-go t span refl (sym hm) refl refl)
-    ∙ blocks-turn B t d (c .at) (nodesIn t span (nextSibling t (c .at)))
-    ∙ ap (blocksOn B t d (c .at) (nodesIn t span (nextSibling t (c .at)))) hp
+turn-at : (t : Tape) (span : Span) (c : Cursor) (d level : ℕ) (B : List ℕ → List Event) (p : Place) → memberOf t span (c .at) ≡ Listed → placeOf t (c .at) ≡ p
+    → blocksAll B t d level (nodesIn t span (At c)) ≡ blocksOn B t d level (c .at) (nodesIn t span (nextSibling t (c .at))) p
+turn-at t span c d level B p hm hp =
+    ap (blocksAll B t d level) (nodes-go t span refl (sym hm) refl refl)
+    ∙ blocks-turn B t d level (c .at) (nodesIn t span (nextSibling t (c .at)))
+    ∙ ap (blocksOn B t d level (c .at) (nodesIn t span (nextSibling t (c .at)))) hp
 
 -- the same with what a turn wrote
-pub turn-by : (t : Tape) (span : Span) (c : Cursor) (d : ℕ) (B : List ℕ → List Event) (p : Place) (s : Desk) {x : Desk} → memberOf t span (c .at) ≡ Listed → placeOf t (c .at) ≡ p
-    → x ≡ emitAll s (blocksOn B t d (c .at) (nodesIn t span (nextSibling t (c .at))) p) → x ≡ emitAll s (blocksAll B t d (nodesIn t span (At c)))
-turn-by t span c d B p s hm hp ex = ex ∙ ap (emitAll s) (sym (turn-at t span c d B p hm hp))
+pub turn-by : (t : Tape) (span : Span) (c : Cursor) (d level : ℕ) (B : List ℕ → List Event) (p : Place) (s : Desk) {x : Desk} → memberOf t span (c .at) ≡ Listed → placeOf t (c .at) ≡ p
+    → x ≡ emitAll s (blocksOn B t d level (c .at) (nodesIn t span (nextSibling t (c .at))) p) → x ≡ emitAll s (blocksAll B t d level (nodesIn t span (At c)))
+turn-by t span c d level B p s hm hp ex = ex ∙ ap (emitAll s) (sym (turn-at t span c d level B p hm hp))
 
-module _ (t : Tape) (span : Span) (c : Cursor) (d : ℕ) (s : Desk) {x : Bool} (ex : x ≡ isRow t (c .at)) where
-  pub row-step : x ≡ true → {r : Desk} {n : Step} (m : Step) → r ≡ emitAll s (tableE t d (upTo (isNoRow t) (nodesIn t span (At c)))) → n ≡ nextSibling t (c .at)
+module _ (t : Tape) (span : Span) (c : Cursor) (d level : ℕ) (s : Desk) {x : Bool} (ex : x ≡ isRow t (c .at)) where
+  pub row-step : x ≡ true → {r : Desk} {n : Step} (m : Step) → r ≡ emitAll s (tableE t d level (upTo (isNoRow t) (nodesIn t span (At c)))) → n ≡ nextSibling t (c .at)
       → nodesIn t span m ≡ fromFirst (isNoRow t) (nodesIn t span n)
       → memberOf t span (c .at) ≡ Listed → holderOf t (c .at) ≡ Neither → (B : List ℕ → List Event)
-      → emitAll r (blocksAll B t d (nodesIn t span m)) ≡ emitAll s (blocksAll B t d (nodesIn t span (At c)))
+      → emitAll r (blocksAll B t d level (nodesIn t span m)) ≡ emitAll s (blocksAll B t d level (nodesIn t span (At c)))
   unfolding blocksOn blockTurn
-  row-step hx {r} {n} m er en em hm hn B = turn-by t span c d B aRow s hm (place-row t (c .at) (sym ex ∙ hx)) body
+  row-step hx {r} {n} m er en em hm hn B = turn-by t span c d level B aRow s hm (place-row t (c .at) (sym ex ∙ hx)) body
     where
       rows : upTo (isNoRow t) (nodesIn t span (At c)) ≡ c .at ∷ upTo (isNoRow t) (nodesIn t span (nextSibling t (c .at)))
       rows = ap (upTo (isNoRow t)) (nodes-go t span refl (sym hm) refl refl) ∙ up-row t (c .at) (nodesIn t span (nextSibling t (c .at))) (sym ex ∙ hx)
 
-      body : emitAll r (blocksAll B t d (nodesIn t span m)) ≡ emitAll s (blocksOn B t d (c .at) (nodesIn t span (nextSibling t (c .at))) aRow)
+      body : emitAll r (blocksAll B t d level (nodesIn t span m)) ≡ emitAll s (blocksOn B t d level (c .at) (nodesIn t span (nextSibling t (c .at))) aRow)
       body =
-          ap (λ (ks : List ℕ). emitAll r (blocksAll B t d ks)) (em ∙ ap (λ (u : Step). fromFirst (isNoRow t) (nodesIn t span u)) en)
-          ∙ then s (tableE t d (c .at ∷ upTo (isNoRow t) (nodesIn t span (nextSibling t (c .at))))) (blocksAll B t d (fromFirst (isNoRow t) (nodesIn t span (nextSibling t (c .at)))))
-          (er ∙ ap (λ (ks : List ℕ). emitAll s (tableE t d ks)) rows)
+          ap (λ (ks : List ℕ). emitAll r (blocksAll B t d level ks)) (em ∙ ap (λ (u : Step). fromFirst (isNoRow t) (nodesIn t span u)) en)
+          ∙ then s (tableE t d level (c .at ∷ upTo (isNoRow t) (nodesIn t span (nextSibling t (c .at))))) (blocksAll B t d level (fromFirst (isNoRow t) (nodesIn t span (nextSibling t (c .at)))))
+          (er ∙ ap (λ (ks : List ℕ). emitAll s (tableE t d level ks)) rows)
 
   module _ (hx : x ≡ false) {z : Kind} (ek : z .code ≡ kindAt t (c .at)) (r : Desk) (m : Step) where
     pub chapter-step : z .code ≡ 6
-        → ((B : List ℕ → List Event) → emitAll r (blocksAll B t d (nodesIn t span m)) ≡ emitAll s (blocksOn B t d (c .at) (nodesIn t span (nextSibling t (c .at))) aChapter))
+        → ((B : List ℕ → List Event) → emitAll r (blocksAll B t d level (nodesIn t span m)) ≡ emitAll s (blocksOn B t d level (c .at) (nodesIn t span (nextSibling t (c .at))) aChapter))
         → memberOf t span (c .at) ≡ Listed → holderOf t (c .at) ≡ Neither → (B : List ℕ → List Event)
-        → emitAll r (blocksAll B t d (nodesIn t span m)) ≡ emitAll s (blocksAll B t d (nodesIn t span (At c)))
-    chapter-step h er hm hn B = turn-by t span c d B aChapter s hm (place-chapter t (c .at) (sym ex ∙ hx) (kind-is t (c .at) ek 6 h)) (er B)
+        → emitAll r (blocksAll B t d level (nodesIn t span m)) ≡ emitAll s (blocksAll B t d level (nodesIn t span (At c)))
+    chapter-step h er hm hn B = turn-by t span c d level B aChapter s hm (place-chapter t (c .at) (sym ex ∙ hx) (kind-is t (c .at) ek 6 h)) (er B)
 
     module _ (n₆ : z .code ≡ 6 → ⊥) {y : Bool} (ey : y ≡ isTopLevelBlock t (c .at)) where
       other-place : holderOf t (c .at) ≡ Neither → {p : Place} → cond (isTopLevelBlock t (c .at)) aBlock (cond (isVerse t (c .at)) aVerse dropped) ≡ p → placeOf t (c .at) ≡ p
       other-place hn e = place-others t (c .at) (sym ex ∙ hx) (kind-not t (c .at) ek 6 n₆) hn ∙ e
 
       pub block-found : y ≡ true
-          → ((B : List ℕ → List Event) → emitAll r (blocksAll B t d (nodesIn t span m)) ≡ emitAll s (blocksOn B t d (c .at) (nodesIn t span (nextSibling t (c .at))) aBlock))
+          → ((B : List ℕ → List Event) → emitAll r (blocksAll B t d level (nodesIn t span m)) ≡ emitAll s (blocksOn B t d level (c .at) (nodesIn t span (nextSibling t (c .at))) aBlock))
           → memberOf t span (c .at) ≡ Listed → holderOf t (c .at) ≡ Neither → (B : List ℕ → List Event)
-          → emitAll r (blocksAll B t d (nodesIn t span m)) ≡ emitAll s (blocksAll B t d (nodesIn t span (At c)))
-      block-found h er hm hn B = turn-by t span c d B aBlock s hm (other-place hn (rw (sym ey ∙ h))) (er B)
+          → emitAll r (blocksAll B t d level (nodesIn t span m)) ≡ emitAll s (blocksAll B t d level (nodesIn t span (At c)))
+      block-found h er hm hn B = turn-by t span c d level B aBlock s hm (other-place hn (rw (sym ey ∙ h))) (er B)
 
       pub verse-step : y ≡ false → z .code ≡ 7
           → (memberOf t span (c .at) ≡ Listed → isTopLevelBlock t (c .at) ≡ false → (B : List ℕ → List Event)
-          → emitAll r (blocksAll B t d (nodesIn t span m)) ≡ emitAll s (blocksOn B t d (c .at) (nodesIn t span (nextSibling t (c .at))) aVerse))
+          → emitAll r (blocksAll B t d level (nodesIn t span m)) ≡ emitAll s (blocksOn B t d level (c .at) (nodesIn t span (nextSibling t (c .at))) aVerse))
           → memberOf t span (c .at) ≡ Listed → holderOf t (c .at) ≡ Neither → (B : List ℕ → List Event)
-          → emitAll r (blocksAll B t d (nodesIn t span m)) ≡ emitAll s (blocksAll B t d (nodesIn t span (At c)))
+          → emitAll r (blocksAll B t d level (nodesIn t span m)) ≡ emitAll s (blocksAll B t d level (nodesIn t span (At c)))
       verse-step hy h er hm hn B =
-          turn-by t span c d B aVerse s hm (other-place hn (rw (sym ey ∙ hy, kind-is t (c .at) ek 7 h))) (er hm (sym ey ∙ hy) B)
+          turn-by t span c d level B aVerse s hm (other-place hn (rw (sym ey ∙ hy, kind-is t (c .at) ek 7 h))) (er hm (sym ey ∙ hy) B)
 
   pub drop-step : x ≡ false → {z : Kind} → z .code ≡ kindAt t (c .at) → (z .code ≡ 6 → ⊥) → {y : Bool} → y ≡ isTopLevelBlock t (c .at) → y ≡ false
       → (z .code ≡ 7 → ⊥) → {m : Step} → m ≡ nextSibling t (c .at)
       → memberOf t span (c .at) ≡ Listed → holderOf t (c .at) ≡ Neither → (B : List ℕ → List Event)
-      → emitAll s (blocksAll B t d (nodesIn t span m)) ≡ emitAll s (blocksAll B t d (nodesIn t span (At c)))
+      → emitAll s (blocksAll B t d level (nodesIn t span m)) ≡ emitAll s (blocksAll B t d level (nodesIn t span (At c)))
   unfolding blocksOn blockTurn
   drop-step hx ek n₆ ey hy n₇ {m} em hm hn B =
-      turn-by t span c d B dropped s hm
+      turn-by t span c d level B dropped s hm
       (place-others t (c .at) (sym ex ∙ hx) (kind-not t (c .at) ek 6 n₆) hn ∙ rw (sym ey ∙ hy, kind-not t (c .at) ek 7 n₇)) body
     where
-      body : emitAll s (blocksAll B t d (nodesIn t span m)) ≡ emitAll s (blocksOn B t d (c .at) (nodesIn t span (nextSibling t (c .at))) dropped)
-      body = ap (λ (u : Step). emitAll s (blocksAll B t d (nodesIn t span u))) em
+      body : emitAll s (blocksAll B t d level (nodesIn t span m)) ≡ emitAll s (blocksOn B t d level (c .at) (nodesIn t span (nextSibling t (c .at))) dropped)
+      body = ap (λ (u : Step). emitAll s (blocksAll B t d level (nodesIn t span u))) em

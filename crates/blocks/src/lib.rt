@@ -15,12 +15,12 @@ ghost use Rattle.render.specs.Shape.{isTopLevelBlock};
 ghost use Rattle.render.specs.Note.{periphAlt};
 ghost use Rattle.tags.specs.Items.{attrsBytes, line as lineItem, close, start, empty};
 ghost use Rattle.events.specs.Event.{Event, item, perhaps};
-ghost use Rattle.events.specs.Walk.{aChapter, aBlock, aVerse, levelOf, blocksE};
+ghost use Rattle.events.specs.Walk.{aChapter, aBlock, aVerse, blocksAll, blocksOn, blocksE};
 ghost use Rattle.events.specs.Emit.{emit, emitAll};
-ghost use Rattle.events.proofs.Turns.{blocksAll, blocksOn};
 ghost use Rattle.sink.specs.Desk.{deskIn};
 ghost use Rattle.lists.specs.Span.{nodesIn, memberOf};
 ghost use Rattle.lists.specs.declared.Member.the-variants.{Listed};
+ghost use Rattle.tables.specs.Rows.{depthAt};
 ghost use Rattle.blocks.specs.Blocks.{uncut, holderOf, isBlockOrRow, below, sidebarAttrs, periphAttrs, attrsOf, elementNo, holderIn, runOpens, runIn};
 use lists::Member;
 use lists::Span;
@@ -31,7 +31,7 @@ use lists::past_run;
 use sink::Sink;
 use sink::line;
 use sink::literal;
-use tables::level_of;
+use tables::depth_at;
 use tape::Cursor;
 use tape::Element;
 use tape::Kind;
@@ -83,12 +83,12 @@ fn chapter(
     solids: &[u32],
     span: Span,
     c: Cursor,
-    depth: usize,
+    level: u8,
     sink: Sink,
     out: &mut [u8],
 ) -> Going
     requires { ⌜ Solids (tapeIn tape (now file)) (now solids) ⌝ }
-    ensures { λ r. ⌜ ((B : List ℕ → List Event) → emitAll (deskIn (tapeIn tape (now (file .entry)) .source) (r .sink) (now (out .exit))) (blocksAll B (tapeIn tape (now (file .entry))) depth (nodesIn (tapeIn tape (now (file .entry))) span (r .next))) ≡ emitAll (deskIn (tapeIn tape (now (file .entry)) .source) sink (now (out .entry))) (blocksOn B (tapeIn tape (now (file .entry))) depth (c .at) (nodesIn (tapeIn tape (now (file .entry))) span (nextSibling (tapeIn tape (now (file .entry))) (c .at))) aChapter)) ⌝ }
+    ensures { λ r. ⌜ ((B : List ℕ → List Event) → emitAll (deskIn (tapeIn tape (now (file .entry)) .source) (r .sink) (now (out .exit))) (blocksAll B (tapeIn tape (now (file .entry))) (depthAt level) level (nodesIn (tapeIn tape (now (file .entry))) span (r .next))) ≡ emitAll (deskIn (tapeIn tape (now (file .entry)) .source) sink (now (out .entry))) (blocksOn B (tapeIn tape (now (file .entry))) (depthAt level) level (c .at) (nodesIn (tapeIn tape (now (file .entry))) span (nextSibling (tapeIn tape (now (file .entry))) (c .at))) aChapter)) ⌝ }
     ensures { λ r. ⌜ left (tapeIn tape (now (file .entry))) (r .next) < left (tapeIn tape (now (file .entry))) (At c) ⌝ }
 {
     let f = fold_in(
@@ -102,7 +102,7 @@ fn chapter(
     let alt = f.alt;
     let published = f.published;
     let next = f.rest;
-    let s = line(sink, out, level_of(depth));
+    let s = line(sink, out, level as usize);
     let r = milestone::chapter(file, tape, c.number(file, tape), alt, published, s, out);
     Going { sink: r, next }
 }
@@ -122,15 +122,16 @@ fn verse_para(
     solids: &[u32],
     sifted: bool,
     c: Cursor,
-    depth: usize,
+    level: u8,
     sink: Sink,
     out: &mut [u8],
 ) -> Sink
     requires { ⌜ Solids (tapeIn tape (now file)) (now solids) ⌝ }
-    ensures { λ r. ⌜ (memberOf (tapeIn tape (now (file .entry))) (uncut sifted) (c .at) ≡ Listed → isTopLevelBlock (tapeIn tape (now (file .entry))) (c .at) ≡ false → deskIn (tapeIn tape (now (file .entry)) .source) r (now (out .exit)) ≡ emitAll (deskIn (tapeIn tape (now (file .entry)) .source) sink (now (out .entry))) (runIn (tapeIn tape (now (file .entry))) depth (c .at) (nodesIn (tapeIn tape (now (file .entry))) (uncut sifted) (nextSibling (tapeIn tape (now (file .entry))) (c .at))))) ⌝ }
+    ensures { λ r. ⌜ (memberOf (tapeIn tape (now (file .entry))) (uncut sifted) (c .at) ≡ Listed → isTopLevelBlock (tapeIn tape (now (file .entry))) (c .at) ≡ false → deskIn (tapeIn tape (now (file .entry)) .source) r (now (out .exit)) ≡ emitAll (deskIn (tapeIn tape (now (file .entry)) .source) sink (now (out .entry))) (runIn (tapeIn tape (now (file .entry))) (depthAt level) level (c .at) (nodesIn (tapeIn tape (now (file .entry))) (uncut sifted) (nextSibling (tapeIn tape (now (file .entry))) (c .at))))) ⌝ }
 {
     let run = Span { cut: true, sifted };
-    let a = open_run(level_of(depth), sink, out);
+    let a = open_run(level as usize, sink, out);
+    let depth = depth_at(level);
     let e = inline::inline(file, tape, solids, run, Step::At(c), depth, false, a, out);
     literal(e, out, b"</para>")
 }
@@ -142,16 +143,16 @@ fn verse_run(
     solids: &[u32],
     sifted: bool,
     c: Cursor,
-    depth: usize,
+    level: u8,
     sink: Sink,
     out: &mut [u8],
 ) -> Going
     requires { ⌜ Solids (tapeIn tape (now file)) (now solids) ⌝ }
-    ensures { λ r. ⌜ (memberOf (tapeIn tape (now (file .entry))) (uncut sifted) (c .at) ≡ Listed → isTopLevelBlock (tapeIn tape (now (file .entry))) (c .at) ≡ false → (B : List ℕ → List Event) → emitAll (deskIn (tapeIn tape (now (file .entry)) .source) (r .sink) (now (out .exit))) (blocksAll B (tapeIn tape (now (file .entry))) depth (nodesIn (tapeIn tape (now (file .entry))) (uncut sifted) (r .next))) ≡ emitAll (deskIn (tapeIn tape (now (file .entry)) .source) sink (now (out .entry))) (blocksOn B (tapeIn tape (now (file .entry))) depth (c .at) (nodesIn (tapeIn tape (now (file .entry))) (uncut sifted) (nextSibling (tapeIn tape (now (file .entry))) (c .at))) aVerse)) ⌝ }
+    ensures { λ r. ⌜ (memberOf (tapeIn tape (now (file .entry))) (uncut sifted) (c .at) ≡ Listed → isTopLevelBlock (tapeIn tape (now (file .entry))) (c .at) ≡ false → (B : List ℕ → List Event) → emitAll (deskIn (tapeIn tape (now (file .entry)) .source) (r .sink) (now (out .exit))) (blocksAll B (tapeIn tape (now (file .entry))) (depthAt level) level (nodesIn (tapeIn tape (now (file .entry))) (uncut sifted) (r .next))) ≡ emitAll (deskIn (tapeIn tape (now (file .entry)) .source) sink (now (out .entry))) (blocksOn B (tapeIn tape (now (file .entry))) (depthAt level) level (c .at) (nodesIn (tapeIn tape (now (file .entry))) (uncut sifted) (nextSibling (tapeIn tape (now (file .entry))) (c .at))) aVerse)) ⌝ }
     ensures { λ r. ⌜ left (tapeIn tape (now (file .entry))) (r .next) < left (tapeIn tape (now (file .entry))) (At c) ⌝ }
 {
     let span = Span { cut: false, sifted };
-    let s = verse_para(file, tape, solids, sifted, c, depth, sink, out);
+    let s = verse_para(file, tape, solids, sifted, c, level, sink, out);
     let next = past_run(file, tape, span, Stop::Block, c.next_sibling(file, tape));
     Going { sink: s, next }
 }
@@ -163,17 +164,17 @@ fn block(
     solids: &[u32],
     span: Span,
     c: Cursor,
-    depth: usize,
+    level: u8,
     sink: Sink,
     out: &mut [u8],
 ) -> Going
     requires { ⌜ Solids (tapeIn tape (now file)) (now solids) ⌝ }
-    ensures { λ r. ⌜ ((B : List ℕ → List Event) → emitAll (deskIn (tapeIn tape (now (file .entry)) .source) (r .sink) (now (out .exit))) (blocksAll B (tapeIn tape (now (file .entry))) depth (nodesIn (tapeIn tape (now (file .entry))) span (r .next))) ≡ emitAll (deskIn (tapeIn tape (now (file .entry)) .source) sink (now (out .entry))) (blocksOn B (tapeIn tape (now (file .entry))) depth (c .at) (nodesIn (tapeIn tape (now (file .entry))) span (nextSibling (tapeIn tape (now (file .entry))) (c .at))) aBlock)) ⌝ }
+    ensures { λ r. ⌜ ((B : List ℕ → List Event) → emitAll (deskIn (tapeIn tape (now (file .entry)) .source) (r .sink) (now (out .exit))) (blocksAll B (tapeIn tape (now (file .entry))) (depthAt level) level (nodesIn (tapeIn tape (now (file .entry))) span (r .next))) ≡ emitAll (deskIn (tapeIn tape (now (file .entry)) .source) sink (now (out .entry))) (blocksOn B (tapeIn tape (now (file .entry))) (depthAt level) level (c .at) (nodesIn (tapeIn tape (now (file .entry))) span (nextSibling (tapeIn tape (now (file .entry))) (c .at))) aBlock)) ⌝ }
     ensures { λ r. ⌜ left (tapeIn tape (now (file .entry))) (r .next) < left (tapeIn tape (now (file .entry))) (At c) ⌝ }
 {
-    let a = line(sink, out, level_of(depth));
+    let a = line(sink, out, level as usize);
     Going {
-        sink: inline::node(file, tape, solids, c, depth, false, a, out),
+        sink: inline::node(file, tape, solids, c, depth_at(level), false, a, out),
         next: c.next_sibling(file, tape),
     }
 }
@@ -185,30 +186,30 @@ fn block_turn(
     solids: &[u32],
     sifted: bool,
     c: Cursor,
-    depth: usize,
+    level: u8,
     sink: Sink,
     out: &mut [u8],
 ) -> Going
     requires { ⌜ Solids (tapeIn tape (now file)) (now solids) ⌝ }
-    ensures { λ r. ⌜ (memberOf (tapeIn tape (now (file .entry))) (uncut sifted) (c .at) ≡ Listed → holderOf (tapeIn tape (now (file .entry))) (c .at) ≡ Holder.Neither → (B : List ℕ → List Event) → emitAll (deskIn (tapeIn tape (now (file .entry)) .source) (r .sink) (now (out .exit))) (blocksAll B (tapeIn tape (now (file .entry))) depth (nodesIn (tapeIn tape (now (file .entry))) (uncut sifted) (r .next))) ≡ emitAll (deskIn (tapeIn tape (now (file .entry)) .source) sink (now (out .entry))) (blocksAll B (tapeIn tape (now (file .entry))) depth (nodesIn (tapeIn tape (now (file .entry))) (uncut sifted) (At c)))) ⌝ }
+    ensures { λ r. ⌜ (memberOf (tapeIn tape (now (file .entry))) (uncut sifted) (c .at) ≡ Listed → holderOf (tapeIn tape (now (file .entry))) (c .at) ≡ Holder.Neither → (B : List ℕ → List Event) → emitAll (deskIn (tapeIn tape (now (file .entry)) .source) (r .sink) (now (out .exit))) (blocksAll B (tapeIn tape (now (file .entry))) (depthAt level) level (nodesIn (tapeIn tape (now (file .entry))) (uncut sifted) (r .next))) ≡ emitAll (deskIn (tapeIn tape (now (file .entry)) .source) sink (now (out .entry))) (blocksAll B (tapeIn tape (now (file .entry))) (depthAt level) level (nodesIn (tapeIn tape (now (file .entry))) (uncut sifted) (At c)))) ⌝ }
     ensures { λ r. ⌜ left (tapeIn tape (now (file .entry))) (r .next) < left (tapeIn tape (now (file .entry))) (At c) ⌝ }
 {
     let span = Span { cut: false, sifted };
     if render::is_row(file, tape, c) {
         return Going {
-            sink: tables::table(file, tape, solids, span, Step::At(c), depth, sink, out),
+            sink: tables::table(file, tape, solids, span, Step::At(c), level, sink, out),
             next: past_run(file, tape, span, Stop::NoRow, c.next_sibling(file, tape)),
         };
     }
     let kind = c.kind(file, tape);
     if kind.code == Kind::CHAPTER {
-        return chapter(file, tape, solids, span, c, depth, sink, out);
+        return chapter(file, tape, solids, span, c, level, sink, out);
     }
     if render::is_top_level_block(file, tape, c) {
-        return block(file, tape, solids, span, c, depth, sink, out);
+        return block(file, tape, solids, span, c, level, sink, out);
     }
     if kind.code == Kind::VERSE {
-        return verse_run(file, tape, solids, sifted, c, depth, sink, out);
+        return verse_run(file, tape, solids, sifted, c, level, sink, out);
     }
     Going {
         sink,
@@ -350,12 +351,12 @@ fn full_holder(
     solids: &[u32],
     c: Cursor,
     sidebar: bool,
-    depth: usize,
+    level: u8,
     sink: Sink,
     out: &mut [u8],
 ) -> Sink
     requires { ⌜ Solids (tapeIn tape (now file)) (now solids) ⌝ }
-    ensures { λ r. ⌜ deskIn (tapeIn tape (now (file .entry)) .source) r (now (out .exit)) ≡ emitAll (deskIn (tapeIn tape (now (file .entry)) .source) sink (now (out .entry))) (item (start (elementNo sidebar) (attrsOf (tapeIn tape (now (file .entry))) (c .at) sidebar)) ∷ (below (tapeIn tape (now (file .entry))) depth (nodesIn (tapeIn tape (now (file .entry))) (uncut sidebar) (firstChild (tapeIn tape (now (file .entry))) (c .at))) ++ (item (lineItem (levelOf depth)) ∷ item (close (elementNo sidebar)) ∷ []))) ⌝ }
+    ensures { λ r. ⌜ deskIn (tapeIn tape (now (file .entry)) .source) r (now (out .exit)) ≡ emitAll (deskIn (tapeIn tape (now (file .entry)) .source) sink (now (out .entry))) (item (start (elementNo sidebar) (attrsOf (tapeIn tape (now (file .entry))) (c .at) sidebar)) ∷ (below (tapeIn tape (now (file .entry))) (depthAt level) level (nodesIn (tapeIn tape (now (file .entry))) (uncut sidebar) (firstChild (tapeIn tape (now (file .entry))) (c .at))) ++ (item (lineItem level) ∷ item (close (elementNo sidebar)) ∷ []))) ⌝ }
 {
     let d = open_holder(file, tape, c, sidebar, sink, out);
     let e = inner(
@@ -364,11 +365,11 @@ fn full_holder(
         solids,
         sidebar,
         c.first_child(file, tape),
-        depth,
+        level,
         d,
         out,
     );
-    close_holder(level_of(depth), sidebar, e, out)
+    close_holder(level as usize, sidebar, e, out)
 }
 
 // A sidebar or periph: blocks inside, or nothing.
@@ -378,20 +379,20 @@ fn held(
     solids: &[u32],
     c: Cursor,
     sidebar: bool,
-    depth: usize,
+    level: u8,
     sink: Sink,
     out: &mut [u8],
 ) -> Sink
     requires { ⌜ Solids (tapeIn tape (now file)) (now solids) ⌝ }
-    ensures { λ r. ⌜ deskIn (tapeIn tape (now (file .entry)) .source) r (now (out .exit)) ≡ emitAll (deskIn (tapeIn tape (now (file .entry)) .source) sink (now (out .entry))) (item (lineItem (levelOf depth)) ∷ holderIn (tapeIn tape (now (file .entry))) depth (levelOf depth) sidebar (c .at)) ⌝ }
+    ensures { λ r. ⌜ deskIn (tapeIn tape (now (file .entry)) .source) r (now (out .exit)) ≡ emitAll (deskIn (tapeIn tape (now (file .entry)) .source) sink (now (out .entry))) (item (lineItem level) ∷ holderIn (tapeIn tape (now (file .entry))) (depthAt level) level sidebar (c .at)) ⌝ }
 {
     let span = Span {
         cut: false,
         sifted: sidebar,
     };
-    let a = line(sink, out, level_of(depth));
+    let a = line(sink, out, level as usize);
     if has_block(file, tape, span, c.first_child(file, tape)) {
-        full_holder(file, tape, solids, c, sidebar, depth, a, out)
+        full_holder(file, tape, solids, c, sidebar, level, a, out)
     } else {
         empty_holder(file, tape, c, sidebar, a, out)
     }
@@ -404,17 +405,17 @@ fn inner(
     solids: &[u32],
     sifted: bool,
     first: Step,
-    depth: usize,
+    level: u8,
     sink: Sink,
     out: &mut [u8],
 ) -> Sink
     requires { ⌜ Solids (tapeIn tape (now file)) (now solids) ⌝ }
-    ensures { λ r. ⌜ deskIn (tapeIn tape (now (file .entry)) .source) r (now (out .exit)) ≡ emitAll (deskIn (tapeIn tape (now (file .entry)) .source) sink (now (out .entry))) (below (tapeIn tape (now (file .entry))) depth (nodesIn (tapeIn tape (now (file .entry))) (uncut sifted) first)) ⌝ }
+    ensures { λ r. ⌜ deskIn (tapeIn tape (now (file .entry)) .source) r (now (out .exit)) ≡ emitAll (deskIn (tapeIn tape (now (file .entry)) .source) sink (now (out .entry))) (below (tapeIn tape (now (file .entry))) (depthAt level) level (nodesIn (tapeIn tape (now (file .entry))) (uncut sifted) first)) ⌝ }
 {
-    if depth == 0 {
+    if depth_at(level) == 0 {
         return sink;
     }
-    blocks(file, tape, solids, sifted, first, depth - 1, sink, out)
+    blocks(file, tape, solids, sifted, first, level + 1, sink, out)
 }
 
 // A list of blocks.
@@ -424,12 +425,12 @@ pub fn blocks(
     solids: &[u32],
     sifted: bool,
     first: Step,
-    depth: usize,
+    level: u8,
     sink: Sink,
     out: &mut [u8],
 ) -> Sink
     requires { ⌜ Solids (tapeIn tape (now file)) (now solids) ⌝ }
-    ensures { λ r. ⌜ deskIn (tapeIn tape (now (file .entry)) .source) r (now (out .exit)) ≡ emitAll (deskIn (tapeIn tape (now (file .entry)) .source) sink (now (out .entry))) (blocksE (tapeIn tape (now (file .entry))) depth (nodesIn (tapeIn tape (now (file .entry))) (uncut sifted) first)) ⌝ }
+    ensures { λ r. ⌜ deskIn (tapeIn tape (now (file .entry)) .source) r (now (out .exit)) ≡ emitAll (deskIn (tapeIn tape (now (file .entry)) .source) sink (now (out .entry))) (blocksE (tapeIn tape (now (file .entry))) (depthAt level) level (nodesIn (tapeIn tape (now (file .entry))) (uncut sifted) first)) ⌝ }
 {
     let span = Span { cut: false, sifted };
     let mut s = sink;
@@ -444,15 +445,15 @@ pub fn blocks(
                 }
                 Member::Listed => match holder_of(file, tape, c) {
                     Holder::Sidebar => {
-                        s = held(file, tape, solids, c, true, depth, s, out);
+                        s = held(file, tape, solids, c, true, level, s, out);
                         step = c.next_sibling(file, tape);
                     }
                     Holder::Periph => {
-                        s = held(file, tape, solids, c, false, depth, s, out);
+                        s = held(file, tape, solids, c, false, level, s, out);
                         step = c.next_sibling(file, tape);
                     }
                     Holder::Neither => {
-                        let g = block_turn(file, tape, solids, sifted, c, depth, s, out);
+                        let g = block_turn(file, tape, solids, sifted, c, level, s, out);
                         s = g.sink;
                         step = g.next;
                     }

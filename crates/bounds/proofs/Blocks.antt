@@ -20,7 +20,7 @@ use Rattle.fold.specs.Fold.{foldAt}
 use Rattle.tags.specs.Items.{Attr, start, empty, close, line, bytesOf}
 use Rattle.admit.specs.Refusal.{Kept₇}
 use Rattle.events.specs.Event.{Event, item, chapter, rawly, escaped, perhaps, collected, element}
-use Rattle.events.specs.Walk.{style, styled, unclosed, asInline, nodeIn, inside, levelOf, isCell, cellIn, cellsAlong, cells, rowE, rowsE, tableE, holder, sidebarIn, periphIn, Place, aRow, aChapter, aSidebar, aPeriph, aBlock, aVerse, dropped, placeOf, Blocks, blockTurn, blocksFrom, blocksE}
+use Rattle.events.specs.Walk.{style, styled, unclosed, asInline, nodeIn, inside, isCell, cellIn, cellsAlong, cells, rowE, rowsE, tableE, holder, sidebarIn, periphIn, Place, aRow, aChapter, aSidebar, aPeriph, aBlock, aVerse, dropped, placeOf, Blocks, blockTurn, blocksFrom, blocksAll, blocksE}
 use Rattle.bounds.proofs.Items.{attrCost, attrsCost, attrs-append, start-most, empty-most, close-most, line-most}
 use Rattle.bounds.proofs.Light.{sizeOr, Light, nil, more, light-most, light-append, light-item, light-one, light-element, perhaps-most}
 use Rattle.bounds.proofs.Mass.{cost, under, sizeOf, sizes, mass, mass-is, cost-next, size-some, without-mass, cut-mass}
@@ -41,10 +41,6 @@ held-light : {m n : ℕ} (level i : ℕ) (qs : List Attr) {es : List Event} → 
     → Light n (item (start i qs) ∷ (es ++ (item (line level) ∷ item (close i) ∷ [])))
 held-light {m} {n} level i qs h l s =
     more (200 + attrsCost qs) (m + 2000) n (start-most i qs) (light-append l (ends-light level i h) (omega arith)) (omega arith)
-
-level-most : (d : ℕ) → levelOf d + 2 ≤ 100
-unfolding levelOf
-level-most d = omega arith
 
 align-most : (a : Align) → length (alignWord a) ≤ 10
 unfolding alignWord
@@ -107,24 +103,22 @@ module _ (file : Bytes) (z : Kept₇ file) where
   cells-light zero level k h = nil
   cells-light (suc d) level k h = light-most (along-light d level h (children t k)) (omega (arith, under-next file z d (children t k)))
 
-  row-light : (d k : ℕ) → Light (cost d (sizeOf t k)) (rowE t d k)
+  row-light : (d level k : ℕ) → level + 2 ≤ 100 → Light (cost d (sizeOf t k)) (rowE t d level k)
   unfolding rowE
-  row-light d k =
-      let l = level-most d in
-      line-light {m = 5000 + under d (inner k)} (levelOf d + 1) (omega arith)
-      (held-light (levelOf d + 1) 11 (styled (b "tr")) (omega arith) (cells-light d (levelOf d + 2) k l) (omega (arith, row-style))) (omega (arith, own d k))
+  row-light d level k low =
+      line-light {m = 5000 + under d (inner k)} (level + 1) (omega arith)
+      (held-light (level + 1) 11 (styled (b "tr")) (omega arith) (cells-light d (level + 2) k low) (omega (arith, row-style))) (omega (arith, own d k))
 
-  rows-light : (d : ℕ) (ks : List ℕ) → Light (mass t d ks) (rowsE t d ks)
+  rows-light : (d level : ℕ) → level + 2 ≤ 100 → (ks : List ℕ) → Light (mass t d ks) (rowsE t d level ks)
   unfolding rowsE
-  rows-light d [] = nil
-  rows-light d (k ∷ ks) = light-append (row-light d k) (rows-light d ks) (omega (arith, mass-more file z d k ks))
+  rows-light d level low [] = nil
+  rows-light d level low (k ∷ ks) = light-append (row-light d level k low) (rows-light d level low ks) (omega (arith, mass-more file z d k ks))
 
-  table-light : (d : ℕ) (ks : List ℕ) → Light (10000 + mass t d ks) (tableE t d ks)
+  table-light : (d level : ℕ) → level + 2 ≤ 100 → (ks : List ℕ) → Light (10000 + mass t d ks) (tableE t d level ks)
   unfolding tableE
-  table-light d ks =
-      let l = level-most d in
-      line-light {m = 5000 + mass t d ks} (levelOf d) (omega arith)
-      (held-light (levelOf d) 10 [] (omega arith) (rows-light d ks) (omega (arith, no-attrs))) (omega arith)
+  table-light d level low ks =
+      line-light {m = 5000 + mass t d ks} level (omega arith)
+      (held-light level 10 [] (omega arith) (rows-light d level low ks) (omega (arith, no-attrs))) (omega arith)
 
   -- ---- sidebars and periphs
 
@@ -177,13 +171,13 @@ module _ (file : Bytes) (z : Kept₇ file) where
       written : Light weight (r .written)
       left : weight + mass t (suc d) (r .rest) ≤ mass t (suc d) (k ∷ ks)
 
-    turn-light : (k : ℕ) (ks : List ℕ) (p : Place) → Turned k ks (blockTurn blocks t d k ks p)
+    turn-light : (level : ℕ) → level + 2 ≤ 100 → (k : ℕ) (ks : List ℕ) (p : Place) → Turned k ks (blockTurn blocks t d level k ks p)
     unfolding blockTurn
-    turn-light k ks aRow =
+    turn-light level low k ks aRow =
         let p : ℕ → Bool = λ i. not (isRow t i) in
         record {
           weight = 10000 + mass t d (k ∷ upTo p ks);
-          written = table-light d (k ∷ upTo p ks);
+          written = table-light d level low (k ∷ upTo p ks);
           left =
               omega (
                 arith,
@@ -195,44 +189,39 @@ module _ (file : Bytes) (z : Kept₇ file) where
                 size-some file z k,
               );
         }
-    turn-light k ks aChapter =
+    turn-light level low k ks aChapter =
         let f = foldAt t 6 ks in
-        let l = level-most d in
         let w = 400000000 + 6 * (sizeOr (f .alt) + sizeOr (f .published)) in
         record {
           weight = 1000 + w;
-          written = line-light {m = w} (levelOf d) (omega arith) (light-one {e = chapter (numberAt t k) (f .alt) (f .published)} (omega arith)) (omega arith);
+          written = line-light {m = w} level (omega arith) (light-one {e = chapter (numberAt t k) (f .alt) (f .published)} (omega arith)) (omega arith);
           left = omega (arith, mass-more file z (suc d) k ks, text-cost file z (suc d) k, fold-limit file z (suc d) 6 ks);
         }
-    turn-light k ks aSidebar =
-        let l = level-most d in
+    turn-light level low k ks aSidebar =
         record {
           weight = 2000000000 + mass t d (children t k);
-          written = line-light (levelOf d) (omega arith) (sidebar-light (levelOf d) k (omega arith)) (omega arith);
+          written = line-light level (omega arith) (sidebar-light level k (omega arith)) (omega arith);
           left = omega (arith, mass-more file z (suc d) k ks, around d k);
         }
-    turn-light k ks aPeriph =
-        let l = level-most d in
+    turn-light level low k ks aPeriph =
         record {
           weight = 2000000000 + 50000000 * inner k + mass t d (children t k);
-          written = line-light (levelOf d) (omega arith) (periph-light (levelOf d) k (omega arith)) (omega arith);
+          written = line-light level (omega arith) (periph-light level k (omega arith)) (omega arith);
           left = omega (arith, mass-more file z (suc d) k ks, around d k);
         }
-    turn-light k ks aBlock =
-        let l = level-most d in
+    turn-light level low k ks aBlock =
         record {
           weight = 1000 + cost d (sizeOf t k);
-          written = line-light (levelOf d) (omega arith) (node-light file z d (inside t d) (inside-light file z d) k false) (omega arith);
+          written = line-light level (omega arith) (node-light file z d (inside t d) (inside-light file z d) k false) (omega arith);
           left = omega (arith, mass-more file z (suc d) k ks, cost-next d (sizeOf t k), size-some file z k);
         }
-    turn-light k ks aVerse =
-        let l = level-most d in
+    turn-light level low k ks aVerse =
         let p = isTopLevelBlock t in
         let run = k ∷ upTo p ks in
         record {
           weight = 2000 + mass t d run;
           written =
-              line-light {m = 1000 + mass t d run} (levelOf d) (omega arith)
+              line-light {m = 1000 + mass t d run} level (omega arith)
               (light-element 5 (styled (b "p")) (inline-light file z d (nodeIn (inside t d) t) (node-light file z d (inside t d) (inside-light file z d)) false true run) (omega (arith, run-style)))
               (omega arith);
           left =
@@ -246,18 +235,20 @@ module _ (file : Bytes) (z : Kept₇ file) where
                 size-some file z k,
               );
         }
-    turn-light k ks dropped = record { weight = 0; written = nil; left = omega (arith, mass-more file z (suc d) k ks) }
+    turn-light level low k ks dropped = record { weight = 0; written = nil; left = omega (arith, mass-more file z (suc d) k ks) }
 
-    from-light : (n : ℕ) (ks : List ℕ) → Light (mass t (suc d) ks) (blocksFrom blocks t d n ks)
+    from-light : (level : ℕ) → level + 2 ≤ 100 → (n : ℕ) (ks : List ℕ) → Light (mass t (suc d) ks) (blocksFrom blocks t d level n ks)
     unfolding blocksFrom
-    from-light zero ks = nil
-    from-light (suc n) [] = nil
-    from-light (suc n) (k ∷ ks) =
-        let r : Blocks = blockTurn blocks t d k ks (placeOf t k) in
-        let l = turn-light k ks (placeOf t k) in
-        light-append (l .written) (from-light n (r .rest)) (l .left)
+    from-light level low zero ks = nil
+    from-light level low (suc n) [] = nil
+    from-light level low (suc n) (k ∷ ks) =
+        let r : Blocks = blockTurn blocks t d level k ks (placeOf t k) in
+        let l = turn-light level low k ks (placeOf t k) in
+        light-append (l .written) (from-light level low n (r .rest)) (l .left)
 
-  pub blocks-light : (d : ℕ) (ks : List ℕ) → Light (mass t (suc d) ks) (blocksE t d ks)
-  unfolding blocksE
-  blocks-light zero ks = from-light zero (λ _. []) (λ is. nil) (length ks) ks
-  blocks-light (suc d) ks = from-light (suc d) (blocksE t d) (blocks-light d) (length ks) ks
+  -- no line of blocks at a level, with fuel for so many containers below it, is indented further than the fuel allows
+  pub blocks-light : (d level : ℕ) → level + d ≤ 65 → (ks : List ℕ) → Light (mass t (suc d) ks) (blocksE t d level ks)
+  unfolding blocksE blocksAll
+  blocks-light zero level h ks = from-light zero (λ _. []) (λ is. nil) level (omega arith) (length ks) ks
+  blocks-light (suc d) level h ks =
+      from-light (suc d) (blocksE t d (level + 1)) (blocks-light d (level + 1) (omega arith)) level (omega arith) (length ks) ks

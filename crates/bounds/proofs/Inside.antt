@@ -1,25 +1,23 @@
 -- What the events of a node and of inline children may cost.
 use mathlib.Core.Path.{_≡_, refl}
-use mathlib.Core.Bool.{Bool, true, false, cond, not, _&&_}
+use mathlib.Core.Bool.{Bool, true, false, cond}
 use mathlib.Core.List.{List, [], _∷_, _++_}
 use mathlib.Core.Option.{Option, none, some}
 use Prim.Native.Nat.{ℕ, zero, suc, _+_, _*_, _≤_}
 use native.Mathlib.Omega.{arith}
 use lib.ListN.{length}
 use lib.Dec.{eqb}
-use Rattle.parts.specs.Bytes.{Bytes, b, same}
+use Rattle.parts.specs.Bytes.{Bytes, b}
 use Rattle.texts.specs.Text.{bodyOf, hasBreak, written, segments}
 use Rattle.texts.specs.declared.Normalized.{Normalized}
 use Rattle.words.specs.declared.Set.the-variants.{Unicode}
-use Rattle.tape.specs.File.{Tape, tapeOf, kindAt, textAt, numberAt, isNested}
+use Rattle.tape.specs.File.{Tape, tapeOf, kindAt, textAt, numberAt}
 use Rattle.tape.specs.Tree.{children, firstChild, found}
 use Rattle.tape.specs.Name.{markerName}
 use Rattle.tape.specs.declared.Step.{Step}
 use Rattle.tape.specs.declared.Step.the-variants.{At, Done}
 use Rattle.render.specs.Shape.{isOpen, isChapter, isVerse}
-use Rattle.render.specs.First.{any}
 use Rattle.render.specs.Follow.{followed}
-use Rattle.render.specs.Children.{hasContent}
 use Rattle.render.specs.Label.{labelOf}
 use Rattle.render.specs.Note.{noteCaller, remainder, categoryOf, bookCode, bookRest}
 use Rattle.attrs.specs.Attr.{attributesOf}
@@ -29,7 +27,7 @@ use Rattle.figure.specs.Figure.{legacyAt, legacyPairs, captionOf, fieldAt}
 use Rattle.tags.specs.Items.{Attr, empty, text, bytesOf}
 use Rattle.admit.specs.Refusal.{Kept₇}
 use Rattle.events.specs.Event.{Event, item, chapter, verse, book, rawly, escaped, perhaps, collected, element}
-use Rattle.events.specs.Walk.{unbroken, breaks, segmented, broken, style, styled, unclosed, Manner, asInline, asNote, Role, unknownBlock, unknownInline, unwritten, figure, ref, id, note, ms, char, para, roleOf, isRef, linkOf, linked, figureAs, markerAs, nodeIn, Child, anchor, words, passed, marker, childOf, noteChildOf, Turn, normalized, inlineTurn, inlineFrom, inlineAll, noteText, noteTurn, noteAll, inside, NoteChild, direct, leftOut, entered, Noted}
+use Rattle.events.specs.Walk.{unbroken, breaks, segmented, broken, style, styled, unclosed, Manner, asInline, asNote, Role, unknownBlock, unknownInline, unwritten, figure, ref, id, note, ms, char, para, roleOf, canLink, linkOf, linked, figureAs, markerAs, nodeIn, Child, anchor, words, passed, marker, childOf, noteChildOf, Turn, normalized, inlineTurn, inlineFrom, inlineAll, noteText, noteTurn, noteAll, inside, NoteChild, direct, leftOut, entered, Noted}
 use Rattle.bounds.proofs.Items.{attrCost, attrsCost, attrs-append, empty-most, text-most}
 use Rattle.bounds.proofs.Light.{sizeOr, Light, nil, more, light-most, light-append, light-item, light-one, light-element, perhaps-most}
 use Rattle.bounds.proofs.Mass.{cost, cost-least, cost-most, under, cost-under, under-most, sizeOf, sizes, mass, mass-is, size-some, inner-size}
@@ -117,7 +115,7 @@ module _ (file : Bytes) (z : Kept₇ file) where
 
     link-limit : (k : ℕ) → sizeOr (linkOf t k) ≤ 50000000 * inner k
     unfolding linkOf sizeOr
-    link-limit k = go (same (markerName t k) (b "xt") && (isNested t k && (hasContent t k && not (any (isRef t) (children t k)))))
+    link-limit k = go (canLink t k)
       where
         go : (x : Bool) → sizeOr (cond x (firstOf (b "href") (attributesOf t k (markerName t k))) none) ≤ 50000000 * inner k
         go true = first-limit file z (b "href") k (markerName t k)

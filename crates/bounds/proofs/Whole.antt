@@ -17,7 +17,7 @@ use Rattle.admit.specs.Decide.{refusal}
 use Rattle.admit.proofs.Decide.{refusal-right}
 use Rattle.admit.proofs.Gives.{node-limit}
 use Rattle.events.specs.Pairing.{paired}
-use Rattle.events.specs.Walk.{eventsOf}
+use Rattle.events.specs.Walk.{eventsWithin, eventsOf}
 use Rattle.events.specs.Text.{firstState, itemsOfTape, textOf, Outcome, fitting, outcomeBy, outcome}
 use Rattle.bounds.proofs.Items.{attrCost, attrsCost, start-most, close-most, line-most, itemsCost, render-is, items-append, items-one}
 use Rattle.bounds.proofs.Light.{sizeOr, Light, light-most, Small, paired-most}
@@ -64,10 +64,10 @@ module _ (file : Bytes) (z : Kept₇ file) where
   root-limit = let n = node-limit file z .1 in ⊎-elim (λ e. omega arith) (λ e. omega (arith, e .0)) (z .nested .root)
 
   events-light : Light 138412032000000000 (eventsOf t)
-  unfolding eventsOf
+  unfolding eventsOf eventsWithin
   events-light =
       let n = sizes t (children t 0) in
-      light-most (blocks-light file z 64 (children t 0)) (omega (arith, mass-is t 65 (children t 0), cost-deep n, root-size file z, root-limit))
+      light-most (blocks-light file z 64 1 (omega arith) (children t 0)) (omega (arith, mass-is t 65 (children t 0), cost-deep n, root-size file z, root-limit))
 
   items-most : itemsCost (itemsOfTape t) ≤ 138412033000000000
   unfolding itemsOfTape

@@ -3,10 +3,14 @@ use Prim.Native.Nat.{ℕ}
 use mathlib.Core.List.{List, [], _∷_}
 use mathlib.Core.Bool.{Bool, true, false, cond, _&&_, not}
 use Rattle.tape.specs.File.{Tape}
-use Rattle.tape.specs.Tree.{walkFrom, upTo, without}
+use Rattle.tape.specs.Tree.{found, walkFrom, upTo, without}
 use Rattle.tape.specs.declared.Step.{Step}
+use Rattle.tape.specs.declared.Step.the-variants.{At, Done}
+use Rattle.render.specs.First.{firstWith}
 use Rattle.render.specs.Shape.{isTopLevelBlock, isCategoryMarker, isRow}
-use Rattle.fold.specs.Fold.{Folded, numberOf}
+use Rattle.fold.specs.Fold.{claimOf, Folded, numberOf}
+use Rattle.fold.specs.declared.Claim.{Claim}
+use Rattle.fold.specs.declared.Claim.the-variants.{Blank, Alt, Pub, Stops}
 use Rattle.lists.specs.declared.Span.{Span}
 use Rattle.lists.specs.declared.Member.{Member}
 use Rattle.lists.specs.declared.Member.the-variants.{End, Skipped, Listed}
@@ -43,6 +47,37 @@ listedBy Listed k ks = k ∷ ks
 abbrev pub stopsAt : Tape → Stop → ℕ → Bool
 stopsAt t Block = isTopLevelBlock t
 stopsAt t NoRow = λ k. not (isRow t k)
+
+-- whether a walk past a run ends at a sibling: where the list ends, and at a listed one that ends the run
+unfoldable pub endsBy : Member → Bool → Bool
+endsBy End stops = true
+endsBy Skipped stops = false
+endsBy Listed stops = stops
+
+-- the first sibling from a step on at which a run or its list ends; Done where there is none
+unfoldable pub runEnd : Tape → Span → Stop → Step → Step
+runEnd t span stop s = firstWith (λ k. endsBy (memberOf t span k) (stopsAt t stop k)) (walkFrom t s)
+
+-- what a sibling is to a fold along a list: where the list ends it stops, and what is left out claims nothing
+unfoldable pub claimBy : Member → Claim → Claim
+claimBy End c = Stops
+claimBy Skipped c = Blank
+claimBy Listed c = c
+
+-- a fold along siblings, behind an anchor of a kind: the markers that fold, by those that did so far, and the sibling where it stops
+unfoldable pub foldsFrom : Tape → Span → ℕ → Step → Step → List ℕ → Folds
+foldsFrom t span anchor alt published [] = record { alt = alt; published = published; rest = Done }
+foldsFrom t span anchor alt published (k ∷ ks) =
+    elim (claimBy (memberOf t span k) (claimOf t anchor (found alt) (found published) k)) as (λ _. Folds) [
+      | Blank ↦ foldsFrom t span anchor alt published ks
+      | Alt ↦ foldsFrom t span anchor (At (record { at = k })) published ks
+      | Pub ↦ foldsFrom t span anchor alt (At (record { at = k })) ks
+      | Stops ↦ record { alt = alt; published = published; rest = At (record { at = k }) }
+    ]
+
+-- the same along the siblings from a step on, with no marker folded yet
+unfoldable pub foldsAt : Tape → Span → ℕ → Step → Folds
+foldsAt t span anchor s = foldsFrom t span anchor Done Done (walkFrom t s)
 
 -- what a fold's answer stands for in a list
 unfoldable pub foldedIn : Tape → Span → Folds → Folded

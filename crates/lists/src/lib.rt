@@ -7,7 +7,7 @@ ghost use Rattle.tape.specs.File.{tapeIn};
 ghost use Rattle.tape.specs.Tree.{left, fromFirst};
 ghost use Rattle.lean.specs.Lean.{Solids};
 ghost use Rattle.fold.specs.Fold.{foldAt};
-ghost use Rattle.lists.specs.Span.{nodesIn, memberOf, foldedIn, stopsAt};
+ghost use Rattle.lists.specs.Span.{nodesIn, memberOf, stopsAt, runEnd, foldsAt, foldedIn};
 use fold::Claim;
 use tape::Cursor;
 use tape::Kind;
@@ -61,6 +61,7 @@ fn is_end(file: &[u8], tape: Sections, span: Span, c: Cursor) -> bool
     false
 }
 
+// What a sibling is to a list.
 pub fn member_of(file: &[u8], tape: Sections, span: Span, c: Cursor) -> Member
     ensures { λ r. ⌜ r ≡ memberOf (tapeIn tape (now (file .entry))) span (c .at) ⌝ }
 {
@@ -87,6 +88,7 @@ fn stops(file: &[u8], tape: Sections, stop: Stop, c: Cursor) -> bool
 pub fn past_run(file: &[u8], tape: Sections, span: Span, stop: Stop, first: Step) -> Step
     ensures { λ r. ⌜ nodesIn (tapeIn tape (now (file .entry))) span r ≡ fromFirst (stopsAt (tapeIn tape (now (file .entry))) stop) (nodesIn (tapeIn tape (now (file .entry))) span first) ⌝ }
     ensures { λ r. ⌜ left (tapeIn tape (now (file .entry))) r ≤ left (tapeIn tape (now (file .entry))) first ⌝ }
+    ensures { λ r. ⌜ r ≡ runEnd (tapeIn tape (now (file .entry))) span stop first ⌝ }
 {
     let mut step = first;
     loop {
@@ -120,6 +122,7 @@ pub fn fold_in(
     requires { ⌜ Solids (tapeIn tape (now file)) (now solids) ⌝ }
     ensures { λ r. ⌜ foldedIn (tapeIn tape (now (file .entry))) span r ≡ foldAt (tapeIn tape (now (file .entry))) (kind .code) (nodesIn (tapeIn tape (now (file .entry))) span first) ⌝ }
     ensures { λ r. ⌜ left (tapeIn tape (now (file .entry))) (r .rest) ≤ left (tapeIn tape (now (file .entry))) first ⌝ }
+    ensures { λ r. ⌜ r ≡ foldsAt (tapeIn tape (now (file .entry))) span (kind .code) first ⌝ }
 {
     let mut alt = Step::Done;
     let mut published = Step::Done;

@@ -26,10 +26,10 @@ use Rattle.attrs.specs.Attr.{attributesOf}
 use Rattle.attrs.specs.Walk.{firstOf, soughtOf}
 use Rattle.attrs.specs.declared.Sought.the-variants.{Nowhere}
 use Rattle.figure.specs.Figure.{legacyAt}
-use Rattle.events.specs.Walk.{Role as Written, roleOf, roleBy, roleOfShape, roleOfCategory, isRef, linkOf}
+use Rattle.events.specs.Walk.{Role as Written, roleOf, roleBy, roleOfShape, roleOfCategory, isRef, canLink, linkOf}
 use Rattle.roles.specs.declared.Role.{Role}
 use Rattle.roles.specs.declared.Role.the-variants.{Unwritten, Figure, Ref, Id, Note, Ms, Char, Para}
-use Rattle.roles.specs.Roles.{roleIn, roleOfEntry, isWhole, canLink}
+use Rattle.roles.specs.Roles.{roleIn, roleOfEntry, isWhole}
 
 -- ---- by category
 

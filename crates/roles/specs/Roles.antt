@@ -3,13 +3,10 @@ use Prim.Native.Nat.{ℕ}
 use mathlib.Core.Bool.{Bool, true, false, not, cond, _&&_}
 use lib.Dec.{eqb}
 use Rattle.parts.specs.Bytes.{Bytes, b, same}
-use Rattle.tape.specs.File.{Tape, isNested}
-use Rattle.tape.specs.Tree.{firstChild, children, found}
-use Rattle.tape.specs.Name.{markerName}
-use Rattle.render.specs.First.{any}
-use Rattle.render.specs.Children.{hasContent}
+use Rattle.tape.specs.File.{Tape}
+use Rattle.tape.specs.Tree.{firstChild, found}
 use Rattle.figure.specs.Figure.{legacyAt}
-use Rattle.events.specs.Walk.{Manner, asInline, asNote, Role, unknownBlock, unknownInline, unwritten, figure, ref, id, note, ms, char, para, roleOfCategory, isRef}
+use Rattle.events.specs.Walk.{Manner, asInline, asNote, Role, unknownBlock, unknownInline, unwritten, figure, ref, id, note, ms, char, para, roleOfCategory}
 use Rattle.roles.specs.declared.Role.{Role as Code}
 use Rattle.roles.specs.declared.Role.the-variants.{UnknownBlock, UnknownInline, Unwritten, Figure, Ref, Id, Note, Ms, Char, Para}
 use Rattle.tape.specs.Category as categories
@@ -31,13 +28,10 @@ roleIn Para = para
 unfoldable pub roleOfEntry : ℕ → Bytes → Role
 roleOfEntry category name = cond (eqb category categories.identification && same name (b "id")) id (roleOfCategory category)
 
+-- how what stands inside is written, as the code says it: in a note or not
 unfoldable pub mannerBy : Bool → Manner
 mannerBy true = asNote
 mannerBy false = asInline
-
--- what could be linked: `xt`, nested, with content and no `ref` inside
-unfoldable pub canLink : Tape → ℕ → Bool
-canLink t k = same (markerName t k) (b "xt") && (isNested t k && (hasContent t k && not (any (isRef t) (children t k))))
 
 -- whether the events inside a marker are written: not of a figure of old, nor of a paragraph with no child
 unfoldable pub isWhole : Tape → ℕ → Role → Bool
@@ -52,6 +46,7 @@ isWhole t k ms = false
 isWhole t k char = true
 isWhole t k para = found (firstChild t k)
 
+-- how what stands inside a marker of this role is written
 unfoldable pub mannerOf : Role → Manner
 mannerOf unknownBlock = asInline
 mannerOf unknownInline = asInline

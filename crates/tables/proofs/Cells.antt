@@ -2,8 +2,7 @@
 use mathlib.Core.Path.{_≡_, refl, sym, ap, _∙_}
 use mathlib.Core.Bool.{Bool, true, false}
 use mathlib.Core.List.{[], _∷_, _++_, append-assoc}
-use Prim.Native.Nat.{ℕ, _-_, _≤_, _<_}
-use native.Mathlib.Omega.{arith}
+use Prim.Native.Nat.{ℕ}
 use Rattle.parts.specs.Bytes.{Bytes, b}
 use Rattle.chars.specs.Escape.{escape, escaped as escapedByte}
 use Rattle.window.specs.Page.{Page, pageOf, paint}
@@ -22,26 +21,13 @@ use Rattle.render.proofs.Shapes.{kind-is, kind-not}
 use Rattle.tags.specs.Items.{start, empty, close, line, valueOf, attrBytes, attrsBytes, bytesOf}
 use Rattle.tags.specs.Names.{nameOf}
 use Rattle.events.specs.Event.{item, rawly, escaped}
-use Rattle.events.specs.Walk.{levelOf, isKnown, isCell, style, styled}
+use Rattle.events.specs.Walk.{isKnown, isCell, style, styled}
 use Rattle.events.specs.Emit.{emit, emitAll}
 use Rattle.sink.specs.Desk.{windowIn, overBy, deskIn, putOn}
 use Rattle.sink.specs.declared.Sink.{Sink}
 use Rattle.sink.proofs.Chains.{paint-three, desk-item, on-line}
 use Rattle.tagging.proofs.Written.{start-styled, empty-styled}
 use Rattle.tables.specs.Rows.{rowOpens, rowCloses, tableOpens, tableCloses}
-
--- ---- levels
-
-pub level-some : (depth : ℕ) {r : ℕ} → depth < 65 → r ≡ 65 - depth → r ≡ levelOf depth
-unfolding levelOf
-level-some depth h e = e
-
-pub level-top : (depth : ℕ) {r : ℕ} → depth < 65 → r ≡ 65 - depth → r ≤ 65
-level-top depth h e = omega arith
-
-pub level-none : (depth : ℕ) → 65 ≤ depth → 0 ≡ levelOf depth
-unfolding levelOf
-level-none depth h = omega arith
 
 -- ---- which children are cells
 

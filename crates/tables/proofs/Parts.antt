@@ -18,7 +18,7 @@ use Rattle.render.specs.Note.{cellAlign, alignWord}
 use Rattle.tags.specs.Items.{Attr, start, empty, close, line, bytesOf}
 use Rattle.tags.specs.Names.{nameOf}
 use Rattle.events.specs.Event.{Event, item, escaped, element}
-use Rattle.events.specs.Walk.{asInline, inside, levelOf, isCell, style, cellIn, cellsAlong, cells, rowE, rowsE, tableE}
+use Rattle.events.specs.Walk.{asInline, inside, isCell, style, cellIn, cellsAlong, cells, rowE, rowsE, tableE}
 use Rattle.events.specs.Emit.{Desk, emit, emitAll}
 use Rattle.events.proofs.Emits.{emit-append, between}
 use Rattle.lists.specs.Span.{nodesIn, memberOf}
@@ -119,61 +119,60 @@ module _ (t : Tape) (k level : ℕ) (d : Desk) where
 -- ---- rows
 
 -- a row from its tags and its cells
-pub row-whole : (t : Tape) (k depth : ℕ) {level : ℕ} → level ≡ levelOf depth → (sink a z r : Sink) (out mid now last : Bytes)
+pub row-whole : (t : Tape) (k level : ℕ) {d depth : ℕ} → d ≡ depth → (sink a z r : Sink) (out mid now last : Bytes)
     → ((source : Bytes) → deskIn source a mid ≡ emitAll (deskIn source sink out) (rowOpens (level + 1)))
-    → deskIn (t .source) z now ≡ emitAll (deskIn (t .source) a mid) (cells t depth (level + 2) k)
+    → deskIn (t .source) z now ≡ emitAll (deskIn (t .source) a mid) (cells t d (level + 2) k)
     → ((source : Bytes) → deskIn source r last ≡ emitAll (deskIn source z now) (rowCloses (level + 1)))
-    → deskIn (t .source) r last ≡ emitAll (deskIn (t .source) sink out) (rowE t depth k)
+    → deskIn (t .source) r last ≡ emitAll (deskIn (t .source) sink out) (rowE t depth level k)
 unfolding rowE rowOpens rowCloses
-row-whole t k depth {level} el sink a z r out mid now last ea ez er =
-    between (deskIn (t .source) sink out) (rowOpens (level + 1)) (cells t depth (level + 2) k) (rowCloses (level + 1)) (ea (t .source)) ez (er (t .source))
-    ∙ ap (λ (l : ℕ). emitAll (deskIn (t .source) sink out) (rowOpens (l + 1) ++ (cells t depth (l + 2) k ++ rowCloses (l + 1)))) el
+row-whole t k level {d} ed sink a z r out mid now last ea ez er =
+    between (deskIn (t .source) sink out) (rowOpens (level + 1)) (cells t d (level + 2) k) (rowCloses (level + 1)) (ea (t .source)) ez (er (t .source))
+    ∙ ap (λ (j : ℕ). emitAll (deskIn (t .source) sink out) (rowE t j level k)) ed
 
 -- what the rows from a step on still give
-module _ (t : Tape) (span : Span) (depth : ℕ) (d : Desk) where
+module _ (t : Tape) (span : Span) (depth level : ℕ) (d : Desk) where
   unfoldable pub rowsOn : Step → Desk
-  rowsOn s = emitAll d (rowsE t depth (upTo (isNoRow t) (nodesIn t span s)))
+  rowsOn s = emitAll d (rowsE t depth level (upTo (isNoRow t) (nodesIn t span s)))
 
-module _ (t : Tape) (span : Span) (depth : ℕ) (d₀ d : Desk) (s₀ s : Step) (inv : rowsOn t span depth d s ≡ rowsOn t span depth d₀ s₀) where
-  over : upTo (isNoRow t) (nodesIn t span s) ≡ [] → d ≡ emitAll d₀ (rowsE t depth (upTo (isNoRow t) (nodesIn t span s₀)))
+module _ (t : Tape) (span : Span) (depth level : ℕ) (d₀ d : Desk) (s₀ s : Step) (inv : rowsOn t span depth level d s ≡ rowsOn t span depth level d₀ s₀) where
+  over : upTo (isNoRow t) (nodesIn t span s) ≡ [] → d ≡ emitAll d₀ (rowsE t depth level (upTo (isNoRow t) (nodesIn t span s₀)))
   unfolding rowsOn rowsE emitAll
-  over e = sym (ap (λ (ks : List ℕ). emitAll d (rowsE t depth ks)) e) ∙ inv
+  over e = sym (ap (λ (ks : List ℕ). emitAll d (rowsE t depth level ks)) e) ∙ inv
 
-  pub rows-end : s ≡ Done → d ≡ emitAll d₀ (rowsE t depth (upTo (isNoRow t) (nodesIn t span s₀)))
+  pub rows-end : s ≡ Done → d ≡ emitAll d₀ (rowsE t depth level (upTo (isNoRow t) (nodesIn t span s₀)))
   rows-end e = over (up-none t (nodes-done t span e))
 
   module _ {c : Cursor} (es : s ≡ At c) {m : Member} (em : m ≡ memberOf t span (c .at)) where
-    pub rows-cut : m ≡ End → d ≡ emitAll d₀ (rowsE t depth (upTo (isNoRow t) (nodesIn t span s₀)))
+    pub rows-cut : m ≡ End → d ≡ emitAll d₀ (rowsE t depth level (upTo (isNoRow t) (nodesIn t span s₀)))
     rows-cut h = over (up-none t (nodes-cut t span es em h))
 
-    pub rows-skip : {n : Step} → m ≡ Skipped → n ≡ nextSibling t (c .at) → rowsOn t span depth d n ≡ rowsOn t span depth d₀ s₀
+    pub rows-skip : {n : Step} → m ≡ Skipped → n ≡ nextSibling t (c .at) → rowsOn t span depth level d n ≡ rowsOn t span depth level d₀ s₀
     unfolding rowsOn
-    rows-skip h en = sym (ap (λ (ks : List ℕ). emitAll d (rowsE t depth (upTo (isNoRow t) ks))) (nodes-skip t span es em h en)) ∙ inv
+    rows-skip h en = sym (ap (λ (ks : List ℕ). emitAll d (rowsE t depth level (upTo (isNoRow t) ks))) (nodes-skip t span es em h en)) ∙ inv
 
     module _ (h : m ≡ Listed) {x : Bool} (ex : x ≡ isRow t (c .at)) where
-      pub rows-stop : x ≡ false → d ≡ emitAll d₀ (rowsE t depth (upTo (isNoRow t) (nodesIn t span s₀)))
+      pub rows-stop : x ≡ false → d ≡ emitAll d₀ (rowsE t depth level (upTo (isNoRow t) (nodesIn t span s₀)))
       rows-stop hx =
           over (ap (upTo (isNoRow t)) (nodes-go t span es em h refl) ∙ up-other t (c .at) (nodesIn t span (nextSibling t (c .at))) (sym ex ∙ hx))
 
-      pub rows-turn : {n : Step} {e : Desk} → x ≡ true → e ≡ emitAll d (rowE t depth (c .at)) → n ≡ nextSibling t (c .at)
-          → rowsOn t span depth e n ≡ rowsOn t span depth d₀ s₀
+      pub rows-turn : {n : Step} {e : Desk} → x ≡ true → e ≡ emitAll d (rowE t depth level (c .at)) → n ≡ nextSibling t (c .at)
+          → rowsOn t span depth level e n ≡ rowsOn t span depth level d₀ s₀
       unfolding rowsOn rowsE
       rows-turn {n} hx ee en =
-          ap (λ (u : Desk). emitAll u (rowsE t depth (upTo (isNoRow t) (nodesIn t span n)))) ee
-          ∙ sym (emit-append d (rowE t depth (c .at)) (rowsE t depth (upTo (isNoRow t) (nodesIn t span n))))
-          ∙ sym (ap (λ (ks : List ℕ). emitAll d (rowsE t depth ks))
+          ap (λ (u : Desk). emitAll u (rowsE t depth level (upTo (isNoRow t) (nodesIn t span n)))) ee
+          ∙ sym (emit-append d (rowE t depth level (c .at)) (rowsE t depth level (upTo (isNoRow t) (nodesIn t span n))))
+          ∙ sym (ap (λ (ks : List ℕ). emitAll d (rowsE t depth level ks))
           (ap (upTo (isNoRow t)) (nodes-go t span es em h en) ∙ up-row t (c .at) (nodesIn t span n) (sym ex ∙ hx)))
           ∙ inv
 
 -- ---- a table
 
 -- a table from its tags and its rows
-pub table-whole : (t : Tape) (depth : ℕ) (ks : List ℕ) {level : ℕ} → level ≡ levelOf depth → (sink a z r : Sink) (out mid now last : Bytes)
+pub table-whole : (t : Tape) (depth level : ℕ) (ks : List ℕ) (sink a z r : Sink) (out mid now last : Bytes)
     → ((source : Bytes) → deskIn source a mid ≡ emitAll (deskIn source sink out) (tableOpens level))
-    → deskIn (t .source) z now ≡ emitAll (deskIn (t .source) a mid) (rowsE t depth ks)
+    → deskIn (t .source) z now ≡ emitAll (deskIn (t .source) a mid) (rowsE t depth level ks)
     → ((source : Bytes) → deskIn source r last ≡ emitAll (deskIn source z now) (tableCloses level))
-    → deskIn (t .source) r last ≡ emitAll (deskIn (t .source) sink out) (tableE t depth ks)
+    → deskIn (t .source) r last ≡ emitAll (deskIn (t .source) sink out) (tableE t depth level ks)
 unfolding tableE tableOpens tableCloses
-table-whole t depth ks {level} el sink a z r out mid now last ea ez er =
-    between (deskIn (t .source) sink out) (tableOpens level) (rowsE t depth ks) (tableCloses level) (ea (t .source)) ez (er (t .source))
-    ∙ ap (λ (l : ℕ). emitAll (deskIn (t .source) sink out) (tableOpens l ++ (rowsE t depth ks ++ tableCloses l))) el
+table-whole t depth level ks sink a z r out mid now last ea ez er =
+    between (deskIn (t .source) sink out) (tableOpens level) (rowsE t depth level ks) (tableCloses level) (ea (t .source)) ez (er (t .source))

@@ -13,12 +13,12 @@ ghost use Rattle.events.specs.Walk.{asInline, inside as insideOf, style, cellIn
 ghost use Rattle.events.specs.Emit.{emitAll};
 ghost use Rattle.sink.specs.Desk.{deskIn};
 ghost use Rattle.lists.specs.Span.{nodesIn};
-ghost use Rattle.tables.specs.Rows.{isNoRow};
+ghost use Rattle.tables.specs.Rows.{depthAt, isNoRow};
 use crate::close_row;
 use crate::close_table;
+use crate::depth_at;
 use crate::empty_cell;
 use crate::is_cell;
-use crate::level_of;
 use crate::open_cell;
 use crate::open_row;
 use crate::open_table;
@@ -133,17 +133,17 @@ fn row(
     tape: Sections,
     solids: &[u32],
     c: Cursor,
-    depth: usize,
+    level: u8,
     sink: Sink,
     out: &mut [u8],
 ) -> Sink
     requires { ⌜ Solids (tapeIn tape (now file)) (now solids) ⌝ }
-    ensures { λ r. ⌜ deskIn (tapeIn tape (now (file .entry)) .source) r (now (out .exit)) ≡ emitAll (deskIn (tapeIn tape (now (file .entry)) .source) sink (now (out .entry))) (rowE (tapeIn tape (now (file .entry))) depth (c .at)) ⌝ }
+    ensures { λ r. ⌜ deskIn (tapeIn tape (now (file .entry)) .source) r (now (out .exit)) ≡ emitAll (deskIn (tapeIn tape (now (file .entry)) .source) sink (now (out .entry))) (rowE (tapeIn tape (now (file .entry))) (depthAt level) level (c .at)) ⌝ }
 {
-    let level = level_of(depth);
-    let a = open_row(level + 1, sink, out);
-    let z = cells(file, tape, solids, c, level + 2, depth, a, out);
-    close_row(level + 1, z, out)
+    let wide = level as usize;
+    let a = open_row(wide + 1, sink, out);
+    let z = cells(file, tape, solids, c, wide + 2, depth_at(level), a, out);
+    close_row(wide + 1, z, out)
 }
 
 // The rows that stand together from a step on.
@@ -153,12 +153,12 @@ fn rows(
     solids: &[u32],
     span: Span,
     first: Step,
-    depth: usize,
+    level: u8,
     sink: Sink,
     out: &mut [u8],
 ) -> Sink
     requires { ⌜ Solids (tapeIn tape (now file)) (now solids) ⌝ }
-    ensures { λ r. ⌜ deskIn (tapeIn tape (now (file .entry)) .source) r (now (out .exit)) ≡ emitAll (deskIn (tapeIn tape (now (file .entry)) .source) sink (now (out .entry))) (rowsE (tapeIn tape (now (file .entry))) depth (upTo (isNoRow (tapeIn tape (now (file .entry)))) (nodesIn (tapeIn tape (now (file .entry))) span first))) ⌝ }
+    ensures { λ r. ⌜ deskIn (tapeIn tape (now (file .entry)) .source) r (now (out .exit)) ≡ emitAll (deskIn (tapeIn tape (now (file .entry)) .source) sink (now (out .entry))) (rowsE (tapeIn tape (now (file .entry))) (depthAt level) level (upTo (isNoRow (tapeIn tape (now (file .entry)))) (nodesIn (tapeIn tape (now (file .entry))) span first))) ⌝ }
 {
     let mut s = sink;
     let mut step = first;
@@ -172,7 +172,7 @@ fn rows(
                 }
                 Member::Listed => {
                     if render::is_row(file, tape, c) {
-                        s = row(file, tape, solids, c, depth, s, out);
+                        s = row(file, tape, solids, c, level, s, out);
                         step = c.next_sibling(file, tape);
                     } else {
                         return s;
@@ -190,15 +190,15 @@ pub fn table(
     solids: &[u32],
     span: Span,
     first: Step,
-    depth: usize,
+    level: u8,
     sink: Sink,
     out: &mut [u8],
 ) -> Sink
     requires { ⌜ Solids (tapeIn tape (now file)) (now solids) ⌝ }
-    ensures { λ r. ⌜ deskIn (tapeIn tape (now (file .entry)) .source) r (now (out .exit)) ≡ emitAll (deskIn (tapeIn tape (now (file .entry)) .source) sink (now (out .entry))) (tableE (tapeIn tape (now (file .entry))) depth (upTo (isNoRow (tapeIn tape (now (file .entry)))) (nodesIn (tapeIn tape (now (file .entry))) span first))) ⌝ }
+    ensures { λ r. ⌜ deskIn (tapeIn tape (now (file .entry)) .source) r (now (out .exit)) ≡ emitAll (deskIn (tapeIn tape (now (file .entry)) .source) sink (now (out .entry))) (tableE (tapeIn tape (now (file .entry))) (depthAt level) level (upTo (isNoRow (tapeIn tape (now (file .entry)))) (nodesIn (tapeIn tape (now (file .entry))) span first))) ⌝ }
 {
-    let level = level_of(depth);
-    let a = open_table(level, sink, out);
-    let z = rows(file, tape, solids, span, first, depth, a, out);
-    close_table(level, z, out)
+    let wide = level as usize;
+    let a = open_table(wide, sink, out);
+    let z = rows(file, tape, solids, span, first, level, a, out);
+    close_table(wide, z, out)
 }

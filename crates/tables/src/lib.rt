@@ -1,7 +1,6 @@
 // Tables of rows of cells.
 ghost use mathlib.Core.Path.{_≡_};
 ghost use mathlib.Core.List.{[], _∷_, _++_};
-ghost use Prim.Native.Nat.{_≤_};
 ghost use Rattle.parts.specs.Bytes.{Bytes, b};
 ghost use Rattle.window.specs.Page.{pageOf, paint};
 ghost use Rattle.tape.specs.File.{tapeIn};
@@ -9,10 +8,10 @@ ghost use Rattle.tape.specs.Name.{markerName};
 ghost use Rattle.render.specs.Note.{cellAlign, alignWord};
 ghost use Rattle.tags.specs.Items.{start, empty};
 ghost use Rattle.events.specs.Event.{item, escaped};
-ghost use Rattle.events.specs.Walk.{levelOf, isKnown, isCell, style};
+ghost use Rattle.events.specs.Walk.{isKnown, isCell, style};
 ghost use Rattle.events.specs.Emit.{emit, emitAll};
 ghost use Rattle.sink.specs.Desk.{deskIn};
-ghost use Rattle.tables.specs.Rows.{rowOpens, rowCloses, tableOpens, tableCloses};
+ghost use Rattle.tables.specs.Rows.{depthAt, rowOpens, rowCloses, tableOpens, tableCloses};
 
 mod full;
 
@@ -28,12 +27,18 @@ use tape::Sections;
 use window::Window;
 use window::put_run;
 
-// How deep a line is indented where so many containers may still be entered.
-pub fn level_of(depth: usize) -> usize
-    ensures { λ r. ⌜ r ≡ levelOf depth ⌝ }
-    ensures { λ r. ⌜ r ≤ 65 ⌝ }
+// The level at which no container may be entered any more: 64 may be entered in each other, and the blocks of Root stand at level 1.
+const DEEPEST: u8 = 65;
+
+// How many containers may still be entered at a level.
+pub fn depth_at(level: u8) -> usize
+    ensures { λ r. ⌜ r ≡ depthAt level ⌝ }
 {
-    if depth < 65 { 65 - depth } else { 0 }
+    if level < DEEPEST {
+        (DEEPEST - level) as usize
+    } else {
+        0
+    }
 }
 
 fn is_known(known: Info) -> bool

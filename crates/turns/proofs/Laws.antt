@@ -25,17 +25,16 @@ use Rattle.render.specs.Label.{labelOf}
 use Rattle.render.specs.Note.{remainder}
 use Rattle.render.proofs.Follows.{kept-on, kept-first, behind-far, behind-done, follows-of}
 use Rattle.fold.specs.Fold.{Folded, foldAt, numberOf}
-use Rattle.lists.specs.Span.{nodesIn, foldedIn}
+use Rattle.lists.specs.Span.{nodesIn, foldedIn, foldsAt}
 use Rattle.lists.specs.declared.Span.{Span}
 use Rattle.lists.specs.declared.Folds.{Folds}
 use Rattle.events.specs.Event.{Event, verse}
-use Rattle.events.specs.Walk.{normalized, unbroken, broken, inlineTurn, inlineAll, noteText, noteTurn, noteAll}
+use Rattle.events.specs.Walk.{normalized, unbroken, broken, inlineTurn, inlineAll, inlineOn, noteText, noteTurn, noteAll}
 use Rattle.events.specs.Emit.{Desk, emit, emitAll}
-use Rattle.events.proofs.Turns.{inlineOn}
 use Rattle.events.proofs.Emits.{emit-append}
 use Rattle.sink.specs.Desk.{deskIn}
 use Rattle.sink.specs.declared.Sink.{Sink}
-use Rattle.turns.specs.Turn.{plainFrom, notePlain, KeptAt}
+use Rattle.turns.specs.Turn.{plainFrom, notePlain, nextBy, trimBy, noteTrimBy, KeptAt, keptPast, keptBehind}
 use Rattle.turns.specs.declared.Child.{Child}
 use Rattle.turns.specs.declared.Going.{Going}
 use Rattle.turns.specs.declared.Child.the-variants.{Skipped, Anchor, Words, Passed}
@@ -68,6 +67,36 @@ module _ (c : Cursor) {kept : Step} (next : Step) where
 
   pub past-far : (d : Cursor) → kept ≡ At d → (d .at ≡ c .at → ⊥) → (t : Tape) → Kept t c kept → next ≡ nextSibling t (c .at) → KeptAt t next (At d)
   past-far d ed n t h en = solid-on t c next (behind-far t c d ed n h) en
+
+-- what is kept behind a child, itself
+
+module _ (k : ℕ) (next : Step) {kept : Step} where
+  pub past-none : kept ≡ Done → Done ≡ keptPast kept k next
+  unfolding keptPast
+  past-none h = rw h
+
+  module _ (d : Cursor) (h : kept ≡ At d) where
+    pub past-itself : d .at ≡ k → next ≡ keptPast kept k next
+    unfolding keptPast
+    past-itself e = rw (h, eq-eqb (d .at) k e)
+
+    pub past-other : (d .at ≡ k → ⊥) → At d ≡ keptPast kept k next
+    unfolding keptPast
+    past-other n = rw (h, ne-eqb (d .at) k n)
+
+module _ (t : Tape) (c : Cursor) (s : Bytes) {behind : Bool} (kept next : Step) where
+  pub behind-next : behind ≡ true → Kept t c kept → next ≡ keptBehind t behind s kept (c .at) next
+  unfolding keptBehind
+  behind-next h k = rw h
+
+  module _ (nb : behind ≡ false) {x : Bool} (ex : x ≡ endsWhite s) where
+    pub behind-solid : x ≡ true → {solid : Step} → (Kept t c kept → solid ≡ nextSolid t (c .at)) → Kept t c kept → solid ≡ keptBehind t behind s kept (c .at) next
+    unfolding keptBehind
+    behind-solid h es k = rw (nb, sym ex ∙ h) (es k)
+
+    pub behind-past : x ≡ false → {r : Step} → r ≡ keptPast kept (c .at) next → Kept t c kept → r ≡ keptBehind t behind s kept (c .at) next
+    unfolding keptBehind
+    behind-past h er k = rw (nb, sym ex ∙ h) er
 
 -- ---- a text as it is normalized
 
@@ -260,3 +289,75 @@ module _ (c : Sections) (file : Bytes) (parent k : Cursor) (trim behind : Bool) 
     pub note-turn-skipped : child ≡ Skipped → NoteGoes out child
     unfolding notePlain
     note-turn-skipped ec h node = rw (ec, es, et, en)
+
+-- ---- where a turn leads, and whether it still trims
+
+pub anchor-next : (t : Tape) (span : Span) (k : ℕ) {first : Step} → first ≡ nextSibling t k → {kind : Kind} → kind .code ≡ 7 → (f : Folds) → f ≡ foldsAt t span (kind .code) first → f .rest ≡ nextBy t span k Anchor
+unfolding nextBy
+anchor-next t span k ef ek f e = ap (λ (z : Folds). z .rest) e ∙ rw (ek, ef)
+
+module _ (t : Tape) (span : Span) (k : ℕ) {next : Step} where
+  pub next-anchor : {child : Child} → child ≡ Anchor → next ≡ nextBy t span k Anchor → next ≡ nextBy t span k child
+  next-anchor ec e = rw ec e
+
+  module _ {child : Child} (en : next ≡ nextSibling t k) where
+    pub next-words : child ≡ Words → next ≡ nextBy t span k child
+    unfolding nextBy
+    next-words ec = rw ec en
+
+    pub next-passed : child ≡ Passed → next ≡ nextBy t span k child
+    unfolding nextBy
+    next-passed ec = rw ec en
+
+    pub next-skipped : child ≡ Skipped → next ≡ nextBy t span k child
+    unfolding nextBy
+    next-skipped ec = rw ec en
+
+module _ (t : Tape) (c : Cursor) (trim behind : Bool) (kept : Step) {x : Bool} where
+  -- what a text shows, by what its lean form does
+  shown : (u : Bytes) {s : Bytes} → s ≡ lean u → {n : Normalized} → n ≡ normalized t (c .at) s trim behind → x ≡ trim && not (n .shows)
+      → x ≡ trim && not (normalized t (c .at) u trim behind .shows)
+  shown u es en ex =
+      ex ∙ ap (λ (z : Normalized). trim && not (z .shows)) (en ∙ ap (λ (z : Bytes). normalized t (c .at) z trim behind) es ∙ normalized-lean t (c .at) u trim behind)
+
+  pub words-trim : {s : Bytes} → s ≡ lean (textAt t (c .at)) → {n : Normalized} → (Kept t c kept → n ≡ normalized t (c .at) s trim behind) → x ≡ trim && not (n .shows)
+      → Kept t c kept → x ≡ trimBy t behind trim (c .at) Words
+  unfolding trimBy
+  words-trim es en ex h = shown (textAt t (c .at)) es (en h) ex
+
+  pub note-words-trim : (first : ℕ) {s : Bytes} → s ≡ lean (noteText t first (c .at)) → {n : Normalized} → (Kept t c kept → n ≡ normalized t (c .at) s trim behind) → x ≡ trim && not (n .shows)
+      → Kept t c kept → x ≡ noteTrimBy t first behind trim (c .at) Words
+  unfolding noteTrimBy
+  note-words-trim first es en ex h = shown (noteText t first (c .at)) es (en h) ex
+
+  module _ {child : Child} where
+    pub trim-anchor : child ≡ Anchor → x ≡ true → Kept t c kept → x ≡ trimBy t behind trim (c .at) child
+    unfolding trimBy
+    trim-anchor ec e h = rw ec e
+
+    pub trim-words : child ≡ Words → (Kept t c kept → x ≡ trimBy t behind trim (c .at) Words) → Kept t c kept → x ≡ trimBy t behind trim (c .at) child
+    trim-words ec e h = rw ec (e h)
+
+    pub trim-passed : child ≡ Passed → x ≡ trim → Kept t c kept → x ≡ trimBy t behind trim (c .at) child
+    unfolding trimBy
+    trim-passed ec e h = rw ec e
+
+    pub trim-skipped : child ≡ Skipped → x ≡ trim → Kept t c kept → x ≡ trimBy t behind trim (c .at) child
+    unfolding trimBy
+    trim-skipped ec e h = rw ec e
+
+    pub note-trim-words : (first : ℕ) → child ≡ Words → (Kept t c kept → x ≡ noteTrimBy t first behind trim (c .at) Words)
+        → Kept t c kept → x ≡ noteTrimBy t first behind trim (c .at) child
+    note-trim-words first ec e h = rw ec (e h)
+
+    pub note-trim-passed : (first : ℕ) → child ≡ Passed → x ≡ trim → Kept t c kept → x ≡ noteTrimBy t first behind trim (c .at) child
+    unfolding noteTrimBy
+    note-trim-passed first ec e h = rw ec e
+
+    pub note-trim-anchor : (first : ℕ) → child ≡ Anchor → x ≡ trim → Kept t c kept → x ≡ noteTrimBy t first behind trim (c .at) child
+    unfolding noteTrimBy
+    note-trim-anchor first ec e h = rw ec e
+
+    pub note-trim-skipped : (first : ℕ) → child ≡ Skipped → x ≡ trim → Kept t c kept → x ≡ noteTrimBy t first behind trim (c .at) child
+    unfolding noteTrimBy
+    note-trim-skipped first ec e h = rw ec e

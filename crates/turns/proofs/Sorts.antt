@@ -19,8 +19,8 @@ use Rattle.lists.specs.declared.Member.{Member}
 use Rattle.lists.specs.declared.Member.the-variants.{End as EndMember, Skipped as SkippedMember, Listed}
 use Rattle.lists.proofs.Nodes.{nodes-turn}
 use Rattle.events.specs.Event.{Event}
-use Rattle.events.specs.Walk.{anchor, words, passed, marker, childOf, noteChildOf, inlineTurn, inlineAll, noteTurn, noteAll, direct, leftOut, entered}
-use Rattle.events.proofs.Turns.{inlineOn, inline-turn, inline-none}
+use Rattle.events.specs.Walk.{anchor, words, passed, marker, childOf, noteChildOf, inlineTurn, inlineAll, inlineOn, noteTurn, noteAll, direct, leftOut, entered}
+use Rattle.events.proofs.Turns.{inline-turn, inline-none}
 use Rattle.turns.specs.Turn.{sortOf, sortBy, sortIn, noteSort, plainFrom, onward, notePlain, noteOnward}
 use Rattle.turns.specs.declared.Child.the-variants.{Skipped, Anchor, Words, Passed}
 use Rattle.turns.specs.declared.Sort.{Sort}

@@ -1,20 +1,22 @@
 -- Turns along a list of inline children, by what a child is to it.
 use Prim.Native.Nat.{ℕ}
 use mathlib.Core.List.{List, [], _++_}
-use mathlib.Core.Bool.{Bool, cond, _||_}
+use mathlib.Core.Bool.{Bool, true, cond, not, _&&_, _||_}
 use lib.Dec.{eqb}
-use Rattle.tape.specs.File.{Tape, kindAt}
+use Rattle.parts.specs.Bytes.{Bytes}
+use Rattle.texts.specs.Text.{endsWhite}
+use Rattle.tape.specs.File.{Tape, kindAt, textAt}
+use Rattle.tape.specs.Tree.{nextSibling}
 use Rattle.tape.specs.declared.Step.{Step}
 use Rattle.tape.specs.declared.Step.the-variants.{At, Done}
 use Rattle.render.specs.Shape.{isCategoryMarker, trimsAfter}
-use Rattle.render.specs.Follow.{Kept}
-use Rattle.lists.specs.Span.{memberOf}
+use Rattle.render.specs.Follow.{Kept, nextSolid}
+use Rattle.lists.specs.Span.{memberOf, foldsAt}
 use Rattle.lists.specs.declared.Span.{Span}
 use Rattle.lists.specs.declared.Member.{Member}
 use Rattle.lists.specs.declared.Member.the-variants.{End as EndMember, Skipped as SkippedMember, Listed}
 use Rattle.events.specs.Event.{Event}
-use Rattle.events.specs.Walk.{anchor, words, inlineAll, noteTurn, noteAll, direct}
-use Rattle.events.proofs.Turns.{inlineOn}
+use Rattle.events.specs.Walk.{anchor, words, normalized, inlineAll, inlineOn, noteText, noteTurn, noteAll, direct}
 use Rattle.turns.specs.declared.Child.{Child}
 use Rattle.turns.specs.declared.Child.the-variants.{Skipped, Anchor, Words, Passed}
 use Rattle.turns.specs.declared.Sort.{Sort}
@@ -23,20 +25,21 @@ use Rattle.tape.specs.Kind as kinds
 
 -- ---- what a child is
 
--- by its kind: Verse, Text, Attribute or Error, and markers
+-- what a child is by its kind: Verse, Text, Attribute or Error, and markers
 unfoldable pub sortOf : ℕ → Sort
 sortOf kind = cond (eqb kind kinds.verse) (Plain Anchor) (cond (eqb kind kinds.text) (Plain Words) (cond (eqb kind kinds.attribute || eqb kind kinds.error) (Plain Passed) Enter))
 
+-- by what it is to its list, then by its kind
 unfoldable pub sortBy : Member → ℕ → Sort
 sortBy EndMember kind = End
 sortBy SkippedMember kind = Plain Skipped
 sortBy Listed kind = sortOf kind
 
--- to a list that may be cut or filtered
+-- what a child is to a list that may be cut or filtered
 unfoldable pub sortIn : Tape → Span → ℕ → Sort
 sortIn t span k = sortBy (memberOf t span k) (kindAt t k)
 
--- to a note: category markers are left out, and a Verse is written as a marker is
+-- what a child is to a note: category markers are left out, and a Verse is written as a marker is
 unfoldable pub noteSort : Tape → ℕ → Sort
 noteSort t k =
     cond (isCategoryMarker t k) (Plain Skipped)
@@ -58,17 +61,41 @@ module _ (node : ℕ → Bool → List Event) (t : Tape) (behind trim : Bool) wh
   onward k ks Enter = node k behind ++ inlineAll node t behind (trimsAfter t k) ks
   onward k ks (Plain c) = plainFrom k ks c
 
-  -- the same in a note whose first child has this index
+  -- from such a child on in a note whose first child has this index
   unfoldable pub notePlain : ℕ → ℕ → List ℕ → Child → List Event
   notePlain first k ks Skipped = noteAll node t first behind trim ks
   notePlain first k ks Anchor = noteAll node t first behind trim ks
   notePlain first k ks Words = let r = noteTurn node t first behind trim k direct in r .written ++ noteAll node t first behind (r .trim) ks
   notePlain first k ks Passed = noteAll node t first behind trim ks
 
+  -- from any child of a note on
   unfoldable pub noteOnward : ℕ → ℕ → List ℕ → Sort → List Event
   noteOnward first k ks End = []
   noteOnward first k ks Enter = node k behind ++ noteAll node t first behind (trimsAfter t k) ks
   noteOnward first k ks (Plain c) = notePlain first k ks c
+
+-- ---- where a turn that enters no marker leads
+
+-- the step behind such a child: behind a verse it leads to where the fold stops
+unfoldable pub nextBy : Tape → Span → ℕ → Child → Step
+nextBy t span k Skipped = nextSibling t k
+nextBy t span k Anchor = foldsAt t span kinds.verse (nextSibling t k) .rest
+nextBy t span k Words = nextSibling t k
+nextBy t span k Passed = nextSibling t k
+
+-- whether a text behind such a child loses its leading space
+unfoldable pub trimBy : Tape → Bool → Bool → ℕ → Child → Bool
+trimBy t behind trim k Skipped = trim
+trimBy t behind trim k Anchor = true
+trimBy t behind trim k Words = trim && not (normalized t k (textAt t k) trim behind .shows)
+trimBy t behind trim k Passed = trim
+
+-- the same in a note whose first child has this index
+unfoldable pub noteTrimBy : Tape → ℕ → Bool → Bool → ℕ → Child → Bool
+noteTrimBy t first behind trim k Skipped = trim
+noteTrimBy t first behind trim k Anchor = trim
+noteTrimBy t first behind trim k Words = trim && not (normalized t k (noteText t first k) trim behind .shows)
+noteTrimBy t first behind trim k Passed = trim
 
 -- ---- the solid sibling that is kept
 
@@ -76,3 +103,12 @@ module _ (node : ℕ → Bool → List Event) (t : Tape) (behind trim : Bool) wh
 abbrev pub KeptAt : Tape → Step → Step → Type 0
 KeptAt t Done kept = Unit {0}
 KeptAt t (At c) kept = Kept t c kept
+
+-- what is kept behind a child: what was, or the step behind where that was the child itself
+unfoldable pub keptPast : Step → ℕ → Step → Step
+keptPast Done k next = Done
+keptPast (At d) k next = cond (eqb (d .at) k) next (At d)
+
+-- what is kept behind a text: the solid sibling where it was looked for, which is where the text ends with white space and nothing follows the parent
+unfoldable pub keptBehind : Tape → Bool → Bytes → Step → ℕ → Step → Step
+keptBehind t behind s kept k next = cond behind next (cond (endsWhite s) (nextSolid t k) (keptPast kept k next))

@@ -1,6 +1,6 @@
 // Turns along a list of inline children that enter no marker: texts, verses, and what is passed over.
 ghost use mathlib.Core.Path.{_≡_};
-ghost use mathlib.Core.Bool.{Bool, not, _&&_};
+ghost use mathlib.Core.Bool.{Bool, true, not, _&&_};
 ghost use mathlib.Core.List.{List};
 ghost use Prim.Native.Nat.{ℕ, _+_, _<_};
 ghost use lib.Dec.{eqb};
@@ -14,7 +14,7 @@ ghost use Rattle.events.specs.Walk.{normalized, inlineAll, noteText, noteAll};
 ghost use Rattle.events.specs.Emit.{emitAll};
 ghost use Rattle.sink.specs.Desk.{deskIn};
 ghost use Rattle.lists.specs.Span.{nodesIn};
-ghost use Rattle.turns.specs.Turn.{sortOf, sortIn, noteSort, plainFrom, notePlain, KeptAt};
+ghost use Rattle.turns.specs.Turn.{sortOf, sortIn, noteSort, plainFrom, notePlain, nextBy, trimBy, noteTrimBy, KeptAt, keptPast, keptBehind};
 ghost use Rattle.turns.specs.declared.Child.the-variants.{Anchor, Words};
 use lean::lean_of;
 use lean::lean_text;
@@ -111,6 +111,7 @@ pub fn note_sort(file: &[u8], tape: Sections, c: Cursor) -> Sort
 // What was kept at a child, for the sibling behind it.
 fn past(kept: Step, c: Cursor, next: Step) -> Step
     ensures { λ r. ⌜ ((t : Tape) → Kept t c kept → next ≡ nextSibling t (c .at) → KeptAt t next r) ⌝ }
+    ensures { λ r. ⌜ r ≡ keptPast kept (c .at) next ⌝ }
 {
     match kept {
         Step::Done => Step::Done,
@@ -138,6 +139,7 @@ fn look(
     requires { ⌜ Solids (tapeIn tape (now file)) (now solids) ⌝ }
     ensures { λ r. ⌜ (Kept (tapeIn tape (now (file .entry))) c kept → r .text ≡ normalized (tapeIn tape (now (file .entry))) (c .at) (now (s .entry)) trim behind) ⌝ }
     ensures { λ r. ⌜ (Kept (tapeIn tape (now (file .entry))) c kept → next ≡ nextSibling (tapeIn tape (now (file .entry))) (c .at) → KeptAt (tapeIn tape (now (file .entry))) next (r .kept)) ⌝ }
+    ensures { λ r. ⌜ (Kept (tapeIn tape (now (file .entry))) c kept → r .kept ≡ keptBehind (tapeIn tape (now (file .entry))) behind (now (s .entry)) kept (c .at) next) ⌝ }
 {
     if behind {
         return Looked {
@@ -184,6 +186,7 @@ fn words_turn(
     ensures { λ r. ⌜ (Kept (tapeIn tape (now (file .entry))) c kept → (node : ℕ → Bool → List Event) (ks : List ℕ) → emitAll (deskIn (tapeIn tape (now (file .entry)) .source) (r .sink) (now (out .exit))) (inlineAll node (tapeIn tape (now (file .entry))) behind (r .trim) ks) ≡ emitAll (deskIn (tapeIn tape (now (file .entry)) .source) sink (now (out .entry))) (plainFrom node (tapeIn tape (now (file .entry))) behind trim (c .at) ks Words)) ⌝ }
     ensures { λ r. ⌜ (Kept (tapeIn tape (now (file .entry))) c kept → KeptAt (tapeIn tape (now (file .entry))) (r .next) (r .kept)) ⌝ }
     ensures { λ r. ⌜ r .next ≡ nextSibling (tapeIn tape (now (file .entry))) (c .at) ⌝ }
+    ensures { λ r. ⌜ (Kept (tapeIn tape (now (file .entry))) c kept → r .trim ≡ trimBy (tapeIn tape (now (file .entry))) behind trim (c .at) Words) ⌝ }
 {
     let next = c.next_sibling(file, tape);
     let s = lean_text(file, tape, solids, c);
@@ -213,6 +216,8 @@ fn anchor_turn(
     ensures { λ r. ⌜ ((node : ℕ → Bool → List Event) (behind trim : Bool) → emitAll (deskIn (tapeIn tape (now (file .entry)) .source) (r .sink) (now (out .exit))) (inlineAll node (tapeIn tape (now (file .entry))) behind (r .trim) (nodesIn (tapeIn tape (now (file .entry))) span (r .next))) ≡ emitAll (deskIn (tapeIn tape (now (file .entry)) .source) sink (now (out .entry))) (plainFrom node (tapeIn tape (now (file .entry))) behind trim (c .at) (nodesIn (tapeIn tape (now (file .entry))) span (nextSibling (tapeIn tape (now (file .entry))) (c .at))) Anchor)) ⌝ }
     ensures { λ r. ⌜ KeptAt (tapeIn tape (now (file .entry))) (r .next) (r .kept) ⌝ }
     ensures { λ r. ⌜ left (tapeIn tape (now (file .entry))) (r .next) < left (tapeIn tape (now (file .entry))) (At c) ⌝ }
+    ensures { λ r. ⌜ r .next ≡ nextBy (tapeIn tape (now (file .entry))) span (c .at) Anchor ⌝ }
+    ensures { λ r. ⌜ r .trim ≡ true ⌝ }
 {
     let f = fold_in(
         file,
@@ -240,6 +245,7 @@ fn passed_turn(file: &[u8], tape: Sections, c: Cursor, trim: bool, kept: Step, s
     ensures { λ r. ⌜ r .trim ≡ trim ⌝ }
     ensures { λ r. ⌜ (Kept (tapeIn tape (now (file .entry))) c kept → KeptAt (tapeIn tape (now (file .entry))) (r .next) (r .kept)) ⌝ }
     ensures { λ r. ⌜ r .next ≡ nextSibling (tapeIn tape (now (file .entry))) (c .at) ⌝ }
+    ensures { λ r. ⌜ r .kept ≡ keptPast kept (c .at) (r .next) ⌝ }
 {
     let next = c.next_sibling(file, tape);
     Going {
@@ -268,6 +274,8 @@ pub fn plain_turn(
     ensures { λ r. ⌜ (Kept (tapeIn tape (now (file .entry))) c kept → (node : ℕ → Bool → List Event) → emitAll (deskIn (tapeIn tape (now (file .entry)) .source) (r .sink) (now (out .exit))) (inlineAll node (tapeIn tape (now (file .entry))) behind (r .trim) (nodesIn (tapeIn tape (now (file .entry))) span (r .next))) ≡ emitAll (deskIn (tapeIn tape (now (file .entry)) .source) sink (now (out .entry))) (plainFrom node (tapeIn tape (now (file .entry))) behind trim (c .at) (nodesIn (tapeIn tape (now (file .entry))) span (nextSibling (tapeIn tape (now (file .entry))) (c .at))) child)) ⌝ }
     ensures { λ r. ⌜ (Kept (tapeIn tape (now (file .entry))) c kept → KeptAt (tapeIn tape (now (file .entry))) (r .next) (r .kept)) ⌝ }
     ensures { λ r. ⌜ left (tapeIn tape (now (file .entry))) (r .next) < left (tapeIn tape (now (file .entry))) (At c) ⌝ }
+    ensures { λ r. ⌜ r .next ≡ nextBy (tapeIn tape (now (file .entry))) span (c .at) child ⌝ }
+    ensures { λ r. ⌜ (Kept (tapeIn tape (now (file .entry))) c kept → r .trim ≡ trimBy (tapeIn tape (now (file .entry))) behind trim (c .at) child) ⌝ }
 {
     match child {
         Child::Anchor => anchor_turn(file, tape, solids, span, c, sink, out),
@@ -323,6 +331,7 @@ fn note_words(
     ensures { λ r. ⌜ (Kept (tapeIn tape (now (file .entry))) c kept → (node : ℕ → Bool → List Event) (ks : List ℕ) → emitAll (deskIn (tapeIn tape (now (file .entry)) .source) (r .sink) (now (out .exit))) (noteAll node (tapeIn tape (now (file .entry))) (parent .at + 1) behind (r .trim) ks) ≡ emitAll (deskIn (tapeIn tape (now (file .entry)) .source) sink (now (out .entry))) (notePlain node (tapeIn tape (now (file .entry))) behind trim (parent .at + 1) (c .at) ks Words)) ⌝ }
     ensures { λ r. ⌜ (Kept (tapeIn tape (now (file .entry))) c kept → KeptAt (tapeIn tape (now (file .entry))) (r .next) (r .kept)) ⌝ }
     ensures { λ r. ⌜ r .next ≡ nextSibling (tapeIn tape (now (file .entry))) (c .at) ⌝ }
+    ensures { λ r. ⌜ (Kept (tapeIn tape (now (file .entry))) c kept → r .trim ≡ noteTrimBy (tapeIn tape (now (file .entry))) (parent .at + 1) behind trim (c .at) Words) ⌝ }
 {
     let next = c.next_sibling(file, tape);
     let s = note_text(file, tape, solids, parent, c);
@@ -356,6 +365,8 @@ pub fn note_turn(
     ensures { λ r. ⌜ (Kept (tapeIn tape (now (file .entry))) c kept → (node : ℕ → Bool → List Event) → emitAll (deskIn (tapeIn tape (now (file .entry)) .source) (r .sink) (now (out .exit))) (noteAll node (tapeIn tape (now (file .entry))) (parent .at + 1) behind (r .trim) (walkFrom (tapeIn tape (now (file .entry))) (r .next))) ≡ emitAll (deskIn (tapeIn tape (now (file .entry)) .source) sink (now (out .entry))) (notePlain node (tapeIn tape (now (file .entry))) behind trim (parent .at + 1) (c .at) (walkFrom (tapeIn tape (now (file .entry))) (nextSibling (tapeIn tape (now (file .entry))) (c .at))) child)) ⌝ }
     ensures { λ r. ⌜ (Kept (tapeIn tape (now (file .entry))) c kept → KeptAt (tapeIn tape (now (file .entry))) (r .next) (r .kept)) ⌝ }
     ensures { λ r. ⌜ left (tapeIn tape (now (file .entry))) (r .next) < left (tapeIn tape (now (file .entry))) (At c) ⌝ }
+    ensures { λ r. ⌜ r .next ≡ nextSibling (tapeIn tape (now (file .entry))) (c .at) ⌝ }
+    ensures { λ r. ⌜ (Kept (tapeIn tape (now (file .entry))) c kept → r .trim ≡ noteTrimBy (tapeIn tape (now (file .entry))) (parent .at + 1) behind trim (c .at) child) ⌝ }
 {
     match child {
         Child::Words => note_words(file, tape, solids, parent, c, trim, behind, kept, sink, out),

@@ -34,7 +34,7 @@ use Rattle.lists.specs.Span.{filtered, cutAt, nodesIn}
 use Rattle.lists.specs.declared.Span.{Span}
 use Rattle.events.specs.Event.{Event}
 use Rattle.events.specs.Pairing.{State, lastEnds, paired}
-use Rattle.events.specs.Walk.{blocksE, eventsOf}
+use Rattle.events.specs.Walk.{blocksE, eventsWithin, eventsOf}
 use Rattle.events.specs.Text.{anyChapter, firstState, itemsOfTape, textOf, fitting, outcomeBy, outcome}
 use Rattle.events.specs.Emit.{Desk, lay, emitAll, emitted, afterAll}
 use Rattle.events.proofs.Emits.{paired-emitted, emit-page, emit-state}
@@ -139,9 +139,9 @@ parts-page t out a d e z ea ed ee ez =
 abbrev all : Span
 all = record { cut = false; sifted = false }
 
-events-all : (t : Tape) {s : Step} → s ≡ firstChild t 0 → blocksE t 64 (nodesIn t all s) ≡ eventsOf t
-unfolding nodesIn cutAt filtered eventsOf
-events-all t es = ap (blocksE t 64) (children-walk t 0 es)
+events-all : (t : Tape) {s : Step} → s ≡ firstChild t 0 → blocksE t 64 1 (nodesIn t all s) ≡ eventsOf t
+unfolding nodesIn cutAt filtered eventsOf eventsWithin
+events-all t es = ap (blocksE t 64 1) (children-walk t 0 es)
 
 first-state : (t : Tape) {n : ℕ} {m : Marks} → m ≡ newMarks n → n ≡ firstState t .number → stateIn (t .source) m ≡ firstState t
 unfolding stateIn chapterIn verseIn firstState
@@ -150,7 +150,7 @@ first-state t em en = rw em (ap (λ (k : ℕ). record { book = []; number = k; c
 module _ (t : Tape) (n : ℕ) (m : Marks) (em : m ≡ newMarks n) (out : Bytes) {k : Cursor} (ek : k .at ≡ 0) {s : Step} (es : s ≡ firstChild t (k .at))
     (a d e z : Sink) (o₁ o₂ o₃ o₄ : Bytes)
     (ea : (source : Bytes) → deskIn source a o₁ ≡ putOn (deskIn source (record { at = 0; from = 0; marks = m }) out) opens)
-    (ed : deskIn (t .source) d o₂ ≡ emitAll (deskIn (t .source) a o₁) (blocksE t 64 (nodesIn t all s)))
+    (ed : deskIn (t .source) d o₂ ≡ emitAll (deskIn (t .source) a o₁) (blocksE t 64 1 (nodesIn t all s)))
     (ee : deskIn (t .source) e o₃ ≡ lay (deskIn (t .source) d o₂) (lastEnds (stateIn (t .source) (d .marks))))
     (ez : (source : Bytes) → deskIn source z o₄ ≡ putOn (deskIn source e o₃) ends) where
   whole-page : n ≡ firstState t .number → deskIn (t .source) z o₄ .page ≡ wholeIn t out

@@ -51,7 +51,7 @@ fn write_text(file: &[u8], tape: Sections, solids: &[u32], number: u32, out: &mu
     };
     let first = Cursor::new(0).first_child(file, tape);
     let a = literal(sink, out, b"<usx version=\"3.0\">");
-    let d = blocks(file, tape, solids, false, first, 64, a, out);
+    let d = blocks(file, tape, solids, false, first, 1, a, out);
     let e = milestone::last_ends(file, tape, d, out);
     let z = literal(e, out, b"\n</usx>");
     z.at

@@ -1,14 +1,15 @@
 use borrow.Author.Needs.{needs}
 use mathlib.Core.Path.{_≡_, refl}
-use Prim.Native.Nat.{ℕ, _<_, _+_, _*_}
+use Prim.Native.Nat.{ℕ, _<_, _+_, _*_, _-_}
 use lib.ListN.{length}
 use Rattle.tape.specs.File.{tapeIn}
 use Rattle.tape.specs.Tree.{left}
 use Rattle.tape.proofs.Walk.{left-turn, left-behind}
 use Rattle.lists.specs.Span.{nodesIn}
 use Rattle.events.specs.Emit.{emitAll}
-use Rattle.events.proofs.Turns.{blocksAll}
+use Rattle.events.specs.Walk.{blocksAll}
 use Rattle.sink.specs.Desk.{deskIn}
+use Rattle.tables.specs.Rows.{depthAt}
 use Rattle.blocks.specs.Blocks.{uncut, below}
 use Rattle.blocks.proofs.Steps.{inner-zero, inner-deep, held-whole, held-full, held-bare, blocks-done, blocks-ended, blocks-skipped, blocks-side, blocks-peri, blocks-turned}
 use borrow.Fn.Kinds.{In}
@@ -33,23 +34,23 @@ use Rattle.blocks.proofs.holder_of.Reads as holder-of-reads
 use Rattle.blocks.proofs.open_holder.Reads as open-holder-reads
 use Rattle.lists.proofs.member_of.Reads as member-of-reads
 use Rattle.sink.proofs.line.Reads as line-reads
-use Rattle.tables.proofs.level_of.Reads as level-of-reads
+use Rattle.tables.proofs.depth_at.Reads as depth-at-reads
 use Rattle.tape.proofs.Cursor.first_child.Reads as first-child-reads
 use Rattle.tape.proofs.Cursor.next_sibling.Reads as next-sibling-reads
 use Rattle.blocks.proofs.+blocks+full_holder+held+inner.{statement}
 use Rattle.blocks.proofs.+blocks+full_holder+held+inner.Tie.{close}
 
 abbrev μ-blocks : Measures 3 blocks-kinds.ps ℕ
-μ-blocks κs a = 4 * a .1 .1 .1 .1 .1 .0 + 3
+μ-blocks κs a = 4 * (65 - a .1 .1 .1 .1 .1 .0) + 3
 
 abbrev μ-full-holder : Measures 3 full-holder-kinds.ps ℕ
-μ-full-holder κs a = 4 * a .1 .1 .1 .1 .1 .0 + 1
+μ-full-holder κs a = 4 * (65 - a .1 .1 .1 .1 .1 .0) + 1
 
 abbrev μ-held : Measures 3 held-kinds.ps ℕ
-μ-held κs a = 4 * a .1 .1 .1 .1 .1 .0 + 2
+μ-held κs a = 4 * (65 - a .1 .1 .1 .1 .1 .0) + 2
 
 abbrev μ-inner : Measures 3 inner-kinds.ps ℕ
-μ-inner κs a = 4 * a .1 .1 .1 .1 .1 .0 + 0
+μ-inner κs a = 4 * (65 - a .1 .1 .1 .1 .1 .0) + 0
 
 abbrev blocks-at : ℕ → In 3 blocks-kinds.ps
 blocks-at t = and 3 blocks-kinds.ps (is 3 blocks-kinds.ps μ-blocks t) blocks.Pre
@@ -79,21 +80,21 @@ abbrev blocks-calls : ℕ → blocks-lts.Claims
 blocks-calls t = (member-of-reads.Asked, member-of-reads.Learnt, next-sibling-reads.Asked, next-sibling-reads.Learnt, holder-of-reads.Asked, holder-of-reads.Learnt, held-below t, held.Post, block-turn-reads.Asked, block-turn-reads.Learnt)
 
 abbrev full-holder-calls : ℕ → full-holder-lts.Claims
-full-holder-calls t = (open-holder-reads.Asked, open-holder-reads.Learnt, first-child-reads.Asked, first-child-reads.Learnt, inner-below t, inner.Post, level-of-reads.Asked, level-of-reads.Learnt, close-holder-reads.Asked, close-holder-reads.Learnt)
+full-holder-calls t = (open-holder-reads.Asked, open-holder-reads.Learnt, first-child-reads.Asked, first-child-reads.Learnt, inner-below t, inner.Post, close-holder-reads.Asked, close-holder-reads.Learnt)
 
 abbrev held-calls : ℕ → held-lts.Claims
-held-calls t = (level-of-reads.Asked, level-of-reads.Learnt, line-reads.Asked, line-reads.Learnt, first-child-reads.Asked, first-child-reads.Learnt, has-block-reads.Asked, has-block-reads.Learnt, full-holder-below t, full-holder.Post, empty-holder-reads.Asked, empty-holder-reads.Learnt)
+held-calls t = (line-reads.Asked, line-reads.Learnt, first-child-reads.Asked, first-child-reads.Learnt, has-block-reads.Asked, has-block-reads.Learnt, full-holder-below t, full-holder.Post, empty-holder-reads.Asked, empty-holder-reads.Learnt)
 
 abbrev inner-calls : ℕ → inner-lts.Claims
-inner-calls t = (blocks-below t, blocks.Post)
+inner-calls t = (depth-at-reads.Asked, depth-at-reads.Learnt, blocks-below t, blocks.Post)
 
 -- ---- blocks
 
 abbrev blocks-Inv-loop : blocks-lts.InvT-loop
-blocks-Inv-loop file tape solids sifted depth out₀ span s₀ step₀ out s step = (emitAll (deskIn (tapeIn tape file .source) s out) (blocksAll (below (tapeIn tape file) depth) (tapeIn tape file) depth (nodesIn (tapeIn tape file) (uncut sifted) step)) ≡ emitAll (deskIn (tapeIn tape file .source) s₀ out₀) (blocksAll (below (tapeIn tape file) depth) (tapeIn tape file) depth (nodesIn (tapeIn tape file) (uncut sifted) step₀))) × (length out ≡ length out₀)
+blocks-Inv-loop file tape solids sifted level out₀ span s₀ step₀ out s step = (emitAll (deskIn (tapeIn tape file .source) s out) (blocksAll (below (tapeIn tape file) (depthAt level) level) (tapeIn tape file) (depthAt level) level (nodesIn (tapeIn tape file) (uncut sifted) step)) ≡ emitAll (deskIn (tapeIn tape file .source) s₀ out₀) (blocksAll (below (tapeIn tape file) (depthAt level) level) (tapeIn tape file) (depthAt level) level (nodesIn (tapeIn tape file) (uncut sifted) step₀))) × (length out ≡ length out₀)
 
 abbrev blocks-μ-loop : blocks-lts.MeasureT-loop
-blocks-μ-loop file tape solids sifted depth out₀ span s₀ step₀ out s step = left (tapeIn tape file) step
+blocks-μ-loop file tape solids sifted level out₀ span s₀ step₀ out s step = left (tapeIn tape file) step
 
 blocks-loop-holds : (t : ℕ) → blocks-lts.Need-loop-holds (blocks-calls t) (blocks-at t) blocks.Post blocks-Inv-loop blocks-μ-loop
 blocks-loop-holds t c = (refl, refl)
@@ -180,7 +181,7 @@ blocks-loop-less-4 : (t : ℕ) → blocks-lts.Need-loop-less-4 (blocks-calls t) 
 blocks-loop-less-4 t c = search left-behind
 
 blocks-loop-again-4 : (t : ℕ) → blocks-lts.Need-loop-again-4 (blocks-calls t) (blocks-at t) blocks.Post blocks-Inv-loop blocks-μ-loop
-blocks-loop-again-4 t c = (blocks-turned _ _ _ _ _ _ _ (c .before .before .before .before .before .before .before .before .before .before .before .before .before .before .loop .inv .0) (search needs) (c .before .before .before .before .before .before .before .before .before .before .member-of .ensures) (search needs) (c .before .before .before .before .before .before .before .holder-of .ensures) (search needs) _ _ (c .before .before .before .block-turn .ensures .0), search needs)
+blocks-loop-again-4 t c = (blocks-turned _ _ _ _ _ _ _ _ (c .before .before .before .before .before .before .before .before .before .before .before .before .before .before .loop .inv .0) (search needs) (c .before .before .before .before .before .before .before .before .before .before .member-of .ensures) (search needs) (c .before .before .before .before .before .before .before .holder-of .ensures) (search needs) _ _ (c .before .before .before .block-turn .ensures .0), search needs)
 
 -- ---- full-holder
 
@@ -193,9 +194,6 @@ full-holder-first-child-requires t c κs = search needs
 full-holder-inner-requires : (t : ℕ) → full-holder-lts.Need-inner-requires (full-holder-calls t) (full-holder-at t) full-holder.Post
 full-holder-inner-requires t c κs = search needs
 
-full-holder-level-of-requires : (t : ℕ) → full-holder-lts.Need-level-of-requires (full-holder-calls t) (full-holder-at t) full-holder.Post
-full-holder-level-of-requires t c κs = search needs
-
 full-holder-close-holder-requires : (t : ℕ) → full-holder-lts.Need-close-holder-requires (full-holder-calls t) (full-holder-at t) full-holder.Post
 full-holder-close-holder-requires t c κs = search needs
 
@@ -203,12 +201,9 @@ full-holder-same-length : (t : ℕ) → full-holder-lts.Need-same-length (full-h
 full-holder-same-length t c = search needs
 
 full-holder-returns : (t : ℕ) → full-holder-lts.Need-returns (full-holder-calls t) (full-holder-at t) full-holder.Post
-full-holder-returns t c = held-whole _ _ _ _ _ _ _ _ _ (c .before .before .before .before .before .before .before .before .before .before .before .before .open-holder .ensures) (c .before .before .before .before .before .before .before .before .before .first-child .ensures) (c .before .before .before .before .before .before .before .inner .ensures) (c .before .before .before .before .level-of .ensures .0) (c .before .before .close-holder .ensures)
+full-holder-returns t c = held-whole _ _ _ _ _ _ _ _ _ _ (c .before .before .before .before .before .before .before .before .before .before .before .open-holder .ensures) (c .before .before .before .before .before .before .before .before .first-child .ensures) (c .before .before .before .before .before .before .inner .ensures) (c .before .before .close-holder .ensures)
 
 -- ---- held
-
-held-level-of-requires : (t : ℕ) → held-lts.Need-level-of-requires (held-calls t) (held-at t) held.Post
-held-level-of-requires t c κs = search needs
 
 held-line-requires : (t : ℕ) → held-lts.Need-line-requires (held-calls t) (held-at t) held.Post
 held-line-requires t c κs = search needs
@@ -239,11 +234,14 @@ held-returns-2 t c = search held-bare
 
 -- ---- inner
 
+inner-depth-at-requires : (t : ℕ) → inner-lts.Need-depth-at-requires (inner-calls t) (inner-at t) inner.Post
+inner-depth-at-requires t c κs = search needs
+
 inner-returns : (t : ℕ) → inner-lts.Need-returns (inner-calls t) (inner-at t) inner.Post
 inner-returns t c = search inner-zero
 
-inner-sub-blocks : (t : ℕ) → inner-lts.Need-sub-blocks (inner-calls t) (inner-at t) inner.Post
-inner-sub-blocks t c = search needs
+inner-add-blocks : (t : ℕ) → inner-lts.Need-add-blocks (inner-calls t) (inner-at t) inner.Post
+inner-add-blocks t c = search needs
 
 inner-blocks-requires : (t : ℕ) → inner-lts.Need-blocks-requires (inner-calls t) (inner-at t) inner.Post
 inner-blocks-requires t c κs = search needs
@@ -260,8 +258,8 @@ pub +blocks+full-holder+held+inner-spec : {M : Type 1} → statement M
     (λ t. blocks-lts.spec (blocks-calls t) (blocks-at t) blocks.Post blocks-Inv-loop blocks-μ-loop
     (blocks-loop-holds t) (blocks-enum-told t) (blocks-same-length t) (blocks-returns t) (blocks-enum-known-step t) (blocks-member-of-requires t) (blocks-enum-told-2 t) (blocks-same-length-2 t) (blocks-returns-2 t) (blocks-enum-told-3 t) (blocks-next-sibling-requires t) (blocks-loop-less t) (blocks-loop-again t) (blocks-enum-told-4 t) (blocks-holder-of-requires t) (blocks-enum-told-5 t) (blocks-held-requires t) (blocks-next-sibling-requires-2 t) (blocks-loop-less-2 t) (blocks-loop-again-2 t) (blocks-enum-told-6 t) (blocks-held-requires-2 t) (blocks-next-sibling-requires-3 t) (blocks-loop-less-3 t) (blocks-loop-again-3 t) (blocks-enum-told-7 t) (blocks-block-turn-requires t) (blocks-loop-less-4 t) (blocks-loop-again-4 t))
     (λ t. full-holder-lts.spec (full-holder-calls t) (full-holder-at t) full-holder.Post
-    (full-holder-open-holder-requires t) (full-holder-first-child-requires t) (full-holder-inner-requires t) (full-holder-level-of-requires t) (full-holder-close-holder-requires t) (full-holder-same-length t) (full-holder-returns t))
+    (full-holder-open-holder-requires t) (full-holder-first-child-requires t) (full-holder-inner-requires t) (full-holder-close-holder-requires t) (full-holder-same-length t) (full-holder-returns t))
     (λ t. held-lts.spec (held-calls t) (held-at t) held.Post
-    (held-level-of-requires t) (held-line-requires t) (held-first-child-requires t) (held-has-block-requires t) (held-full-holder-requires t) (held-empty-holder-requires t) (held-same-length t) (held-returns t) (held-same-length-2 t) (held-returns-2 t))
+    (held-line-requires t) (held-first-child-requires t) (held-has-block-requires t) (held-full-holder-requires t) (held-empty-holder-requires t) (held-same-length t) (held-returns t) (held-same-length-2 t) (held-returns-2 t))
     (λ t. inner-lts.spec (inner-calls t) (inner-at t) inner.Post
-    (inner-returns t) (inner-sub-blocks t) (inner-blocks-requires t) (inner-same-length t) (inner-returns-2 t))
+    (inner-depth-at-requires t) (inner-returns t) (inner-add-blocks t) (inner-blocks-requires t) (inner-same-length t) (inner-returns-2 t))

@@ -3,11 +3,11 @@ use borrow.Author.Needs.{needs}
 use Rattle.blocks.proofs.block.Statement.{statement}
 use Rattle.blocks.proofs.block.Tie as tie
 
-level-of-requires : tie.Need-level-of-requires
-level-of-requires c κs = search needs
-
 line-requires : tie.Need-line-requires
 line-requires c κs = search needs
+
+depth-at-requires : tie.Need-depth-at-requires
+depth-at-requires c κs = search needs
 
 node-requires : tie.Need-node-requires
 node-requires c κs = search needs
@@ -25,8 +25,8 @@ pub block-spec : {M : Type 1} → statement M
 block-spec =
     tie.close
     (tie.spec
-    level-of-requires
     line-requires
+    depth-at-requires
     node-requires
     next-sibling-requires
     same-length

@@ -12,9 +12,6 @@ next-sibling-requires c κs = search needs
 fold-in-requires : tie.Need-fold-in-requires
 fold-in-requires c κs = search needs
 
-level-of-requires : tie.Need-level-of-requires
-level-of-requires c κs = search needs
-
 line-requires : tie.Need-line-requires
 line-requires c κs = search needs
 
@@ -37,7 +34,6 @@ chapter-spec =
     new-requires
     next-sibling-requires
     fold-in-requires
-    level-of-requires
     line-requires
     number-requires
     chapter-requires

@@ -3,11 +3,11 @@ use borrow.Author.Needs.{needs}
 use Rattle.blocks.proofs.verse_para.Statement.{statement}
 use Rattle.blocks.proofs.verse_para.Tie as tie
 
-level-of-requires : tie.Need-level-of-requires
-level-of-requires c κs = search needs
-
 open-run-requires : tie.Need-open-run-requires
 open-run-requires c κs = search needs
+
+depth-at-requires : tie.Need-depth-at-requires
+depth-at-requires c κs = search needs
 
 inline-requires : tie.Need-inline-requires
 inline-requires c κs = search needs
@@ -28,8 +28,8 @@ pub verse-para-spec : {M : Type 1} → statement M
 verse-para-spec =
     tie.close
     (tie.spec
-    level-of-requires
     open-run-requires
+    depth-at-requires
     inline-requires
     slice-aggregate-literal
     literal-requires

@@ -5,24 +5,25 @@ use Rattle.tape.specs.File.{tapeIn}
 use Rattle.tape.specs.Tree.{left}
 use Rattle.tape.proofs.Walk.{left-turn}
 use Rattle.lists.proofs.Nodes.{onward, fold-ended, fold-cut, fold-stopped, fold-skipped, fold-passed, fold-took-alt, fold-took-pub, left-on, left-here}
+use Rattle.lists.proofs.Steps.{still, still-ended, still-cut, still-skipped, still-stopped, still-passed, still-alt, still-pub}
 use borrow.Author.Needs.{needs}
 use Rattle.lists.proofs.fold_in.Statement.{statement}
 use Rattle.lists.proofs.fold_in.Tie as tie
 
 abbrev Inv-loop : tie.InvT-loop
-Inv-loop file tape solids span kind alt₀ published₀ rest₀ alt published rest = (onward (tapeIn tape file) span (kind .code) alt published rest ≡ onward (tapeIn tape file) span (kind .code) alt₀ published₀ rest₀) × (left (tapeIn tape file) rest ≤ left (tapeIn tape file) rest₀)
+Inv-loop file tape solids span kind alt₀ published₀ rest₀ alt published rest = (onward (tapeIn tape file) span (kind .code) alt published rest ≡ onward (tapeIn tape file) span (kind .code) alt₀ published₀ rest₀) × ((left (tapeIn tape file) rest ≤ left (tapeIn tape file) rest₀) × (still (tapeIn tape file) span (kind .code) alt published rest ≡ still (tapeIn tape file) span (kind .code) alt₀ published₀ rest₀))
 
 abbrev μ-loop : tie.MeasureT-loop
 μ-loop file tape solids span kind alt₀ published₀ rest₀ alt published rest = left (tapeIn tape file) rest
 
 loop-holds : tie.Need-loop-holds Inv-loop μ-loop
-loop-holds c = (refl, omega arith)
+loop-holds c = (refl, (omega arith, refl))
 
 enum-told : tie.Need-enum-told Inv-loop μ-loop
 enum-told c = search needs
 
 returns : tie.Need-returns Inv-loop μ-loop
-returns c = (search fold-ended, search needs)
+returns c = (search fold-ended, (search needs, search still-ended))
 
 enum-known-rest : tie.Need-enum-known-rest Inv-loop μ-loop
 enum-known-rest c = search needs
@@ -34,7 +35,7 @@ enum-told-2 : tie.Need-enum-told-2 Inv-loop μ-loop
 enum-told-2 c = search needs
 
 returns-2 : tie.Need-returns-2 Inv-loop μ-loop
-returns-2 c = (search fold-cut, search left-here)
+returns-2 c = (search fold-cut, (search left-here, search still-cut))
 
 enum-told-3 : tie.Need-enum-told-3 Inv-loop μ-loop
 enum-told-3 c = search needs
@@ -46,7 +47,7 @@ loop-less : tie.Need-loop-less Inv-loop μ-loop
 loop-less c = search left-turn
 
 loop-again : tie.Need-loop-again Inv-loop μ-loop
-loop-again c = (search fold-skipped, search left-on)
+loop-again c = (search fold-skipped, (search left-on, search still-skipped))
 
 enum-told-4 : tie.Need-enum-told-4 Inv-loop μ-loop
 enum-told-4 c = search needs
@@ -64,7 +65,7 @@ enum-told-5 : tie.Need-enum-told-5 Inv-loop μ-loop
 enum-told-5 c = search needs
 
 returns-3 : tie.Need-returns-3 Inv-loop μ-loop
-returns-3 c = (search fold-stopped, search left-here)
+returns-3 c = (search fold-stopped, (search left-here, search still-stopped))
 
 enum-told-6 : tie.Need-enum-told-6 Inv-loop μ-loop
 enum-told-6 c = search needs
@@ -76,7 +77,7 @@ loop-less-2 : tie.Need-loop-less-2 Inv-loop μ-loop
 loop-less-2 c = search left-turn
 
 loop-again-2 : tie.Need-loop-again-2 Inv-loop μ-loop
-loop-again-2 c = (search fold-passed, search left-on)
+loop-again-2 c = (search fold-passed, (search left-on, search still-passed))
 
 enum-told-7 : tie.Need-enum-told-7 Inv-loop μ-loop
 enum-told-7 c = search needs
@@ -88,7 +89,7 @@ loop-less-3 : tie.Need-loop-less-3 Inv-loop μ-loop
 loop-less-3 c = search left-turn
 
 loop-again-3 : tie.Need-loop-again-3 Inv-loop μ-loop
-loop-again-3 c = (search fold-took-alt, search left-on)
+loop-again-3 c = (search fold-took-alt, (search left-on, search still-alt))
 
 enum-told-8 : tie.Need-enum-told-8 Inv-loop μ-loop
 enum-told-8 c = search needs
@@ -100,7 +101,7 @@ loop-less-4 : tie.Need-loop-less-4 Inv-loop μ-loop
 loop-less-4 c = search left-turn
 
 loop-again-4 : tie.Need-loop-again-4 Inv-loop μ-loop
-loop-again-4 c = (search fold-took-pub, search left-on)
+loop-again-4 c = (search fold-took-pub, (search left-on, search still-pub))
 
 pub fold-in-spec : {M : Type 1} → statement M
 fold-in-spec =

@@ -4,26 +4,27 @@ use native.Mathlib.Omega.{arith}
 use Rattle.tape.specs.File.{tapeIn}
 use Rattle.tape.specs.Tree.{left, fromFirst}
 use Rattle.tape.proofs.Walk.{left-turn}
-use Rattle.lists.specs.Span.{nodesIn, stopsAt}
+use Rattle.lists.specs.Span.{nodesIn, stopsAt, runEnd}
 use Rattle.lists.proofs.Nodes.{left-on, left-here, run-over, run-cut, run-skipped, run-found, run-past}
+use Rattle.lists.proofs.Steps.{end-over, end-cut, end-skipped, end-found, end-past}
 use borrow.Author.Needs.{needs}
 use Rattle.lists.proofs.past_run.Statement.{statement}
 use Rattle.lists.proofs.past_run.Tie as tie
 
 abbrev Inv-loop : tie.InvT-loop
-Inv-loop file tape span stop step₀ step = (fromFirst (stopsAt (tapeIn tape file) stop) (nodesIn (tapeIn tape file) span step) ≡ fromFirst (stopsAt (tapeIn tape file) stop) (nodesIn (tapeIn tape file) span step₀)) × (left (tapeIn tape file) step ≤ left (tapeIn tape file) step₀)
+Inv-loop file tape span stop step₀ step = (fromFirst (stopsAt (tapeIn tape file) stop) (nodesIn (tapeIn tape file) span step) ≡ fromFirst (stopsAt (tapeIn tape file) stop) (nodesIn (tapeIn tape file) span step₀)) × ((left (tapeIn tape file) step ≤ left (tapeIn tape file) step₀) × (runEnd (tapeIn tape file) span stop step ≡ runEnd (tapeIn tape file) span stop step₀))
 
 abbrev μ-loop : tie.MeasureT-loop
 μ-loop file tape span stop step₀ step = left (tapeIn tape file) step
 
 loop-holds : tie.Need-loop-holds Inv-loop μ-loop
-loop-holds c = (refl, omega arith)
+loop-holds c = (refl, (omega arith, refl))
 
 enum-told : tie.Need-enum-told Inv-loop μ-loop
 enum-told c = search needs
 
 returns : tie.Need-returns Inv-loop μ-loop
-returns c = (search run-over, search needs)
+returns c = (search run-over, (search needs, search end-over))
 
 enum-known-step : tie.Need-enum-known-step Inv-loop μ-loop
 enum-known-step c = search needs
@@ -35,7 +36,7 @@ enum-told-2 : tie.Need-enum-told-2 Inv-loop μ-loop
 enum-told-2 c = search needs
 
 returns-2 : tie.Need-returns-2 Inv-loop μ-loop
-returns-2 c = (search run-cut, search left-here)
+returns-2 c = (search run-cut, (search left-here, search end-cut))
 
 enum-told-3 : tie.Need-enum-told-3 Inv-loop μ-loop
 enum-told-3 c = search needs
@@ -47,7 +48,7 @@ loop-less : tie.Need-loop-less Inv-loop μ-loop
 loop-less c = search left-turn
 
 loop-again : tie.Need-loop-again Inv-loop μ-loop
-loop-again c = (search run-skipped, search left-on)
+loop-again c = (search run-skipped, (search left-on, search end-skipped))
 
 enum-told-4 : tie.Need-enum-told-4 Inv-loop μ-loop
 enum-told-4 c = search needs
@@ -56,7 +57,7 @@ stops-requires : tie.Need-stops-requires Inv-loop μ-loop
 stops-requires c κs = search needs
 
 returns-3 : tie.Need-returns-3 Inv-loop μ-loop
-returns-3 c = (search run-found, search left-here)
+returns-3 c = (search run-found, (search left-here, search end-found))
 
 next-sibling-requires-2 : tie.Need-next-sibling-requires-2 Inv-loop μ-loop
 next-sibling-requires-2 c κs = search needs
@@ -65,7 +66,7 @@ loop-less-2 : tie.Need-loop-less-2 Inv-loop μ-loop
 loop-less-2 c = search left-turn
 
 loop-again-2 : tie.Need-loop-again-2 Inv-loop μ-loop
-loop-again-2 c = (search run-past, search left-on)
+loop-again-2 c = (search run-past, (search left-on, search end-past))
 
 pub past-run-spec : {M : Type 1} → statement M
 past-run-spec =

@@ -1,4 +1,4 @@
-use Rattle.turns.proofs.Laws.{anchor-left, anchor-written, kept-here}
+use Rattle.turns.proofs.Laws.{anchor-left, anchor-written, kept-here, anchor-next}
 use borrow.Author.Needs.{needs}
 use Rattle.turns.proofs.anchor_turn.Statement.{statement}
 use Rattle.turns.proofs.anchor_turn.Tie as tie
@@ -19,7 +19,7 @@ same-length : tie.Need-same-length
 same-length c = search needs
 
 returns : tie.Need-returns
-returns c = (search anchor-written, (search kept-here, search anchor-left))
+returns c = (search anchor-written, (search kept-here, (search anchor-left, (search anchor-next, search needs))))
 
 pub anchor-turn-spec : {M : Type 1} → statement M
 anchor-turn-spec =

@@ -1,4 +1,4 @@
-use Rattle.turns.proofs.Laws.{kept-next, kept-solid, look-behind, look-past, look-solid, look-unasked}
+use Rattle.turns.proofs.Laws.{kept-next, kept-solid, look-behind, look-past, look-solid, look-unasked, behind-next, behind-solid, behind-past}
 use borrow.Author.Needs.{needs}
 use Rattle.turns.proofs.look.Statement.{statement}
 use Rattle.turns.proofs.look.Tie as tie
@@ -7,7 +7,7 @@ normalize-text-requires : tie.Need-normalize-text-requires
 normalize-text-requires c κs = search needs
 
 returns : tie.Need-returns
-returns c = (search look-behind, search kept-next)
+returns c = (search look-behind, (search kept-next, search behind-next))
 
 ends-white-requires : tie.Need-ends-white-requires
 ends-white-requires c κs = search needs
@@ -22,7 +22,7 @@ normalize-text-requires-2 : tie.Need-normalize-text-requires-2
 normalize-text-requires-2 c κs = search needs
 
 returns-2 : tie.Need-returns-2
-returns-2 c = (search look-solid, search kept-solid)
+returns-2 c = (search look-solid, (search kept-solid, search behind-solid))
 
 normalize-text-requires-3 : tie.Need-normalize-text-requires-3
 normalize-text-requires-3 c κs = search needs
@@ -31,7 +31,7 @@ past-requires : tie.Need-past-requires
 past-requires c κs = search needs
 
 returns-3 : tie.Need-returns-3
-returns-3 c = (search look-unasked, search look-past)
+returns-3 c = (search look-unasked, (search look-past, search behind-past))
 
 pub look-spec : {M : Type 1} → statement M
 look-spec =

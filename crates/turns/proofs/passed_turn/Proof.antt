@@ -10,7 +10,7 @@ past-requires : tie.Need-past-requires
 past-requires c κs = search needs
 
 returns : tie.Need-returns
-returns c = (search needs, (search needs, (search passed-kept, search needs)))
+returns c = (search needs, (search needs, (search passed-kept, (search needs, search needs))))
 
 pub passed-turn-spec : {M : Type 1} → statement M
 passed-turn-spec = tie.close (tie.spec next-sibling-requires past-requires returns)

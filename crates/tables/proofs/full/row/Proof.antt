@@ -3,9 +3,6 @@ use borrow.Author.Needs.{needs}
 use Rattle.tables.proofs.full.row.Statement.{statement}
 use Rattle.tables.proofs.full.row.Tie as tie
 
-level-of-requires : tie.Need-level-of-requires
-level-of-requires c κs = search needs
-
 add-open-row : tie.Need-add-open-row
 add-open-row c = search needs
 
@@ -14,6 +11,9 @@ open-row-requires c κs = search needs
 
 add-cells : tie.Need-add-cells
 add-cells c = search needs
+
+depth-at-requires : tie.Need-depth-at-requires
+depth-at-requires c κs = search needs
 
 cells-requires : tie.Need-cells-requires
 cells-requires c κs = search needs
@@ -34,10 +34,10 @@ pub row-spec : {M : Type 1} → statement M
 row-spec =
     tie.close
     (tie.spec
-    level-of-requires
     add-open-row
     open-row-requires
     add-cells
+    depth-at-requires
     cells-requires
     add-close-row
     close-row-requires

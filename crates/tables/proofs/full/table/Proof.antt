@@ -3,9 +3,6 @@ use borrow.Author.Needs.{needs}
 use Rattle.tables.proofs.full.table.Statement.{statement}
 use Rattle.tables.proofs.full.table.Tie as tie
 
-level-of-requires : tie.Need-level-of-requires
-level-of-requires c κs = search needs
-
 open-table-requires : tie.Need-open-table-requires
 open-table-requires c κs = search needs
 
@@ -23,11 +20,4 @@ returns c = search table-whole
 
 pub table-spec : {M : Type 1} → statement M
 table-spec =
-    tie.close
-    (tie.spec
-    level-of-requires
-    open-table-requires
-    rows-requires
-    close-table-requires
-    same-length
-    returns)
+    tie.close (tie.spec open-table-requires rows-requires close-table-requires same-length returns)
