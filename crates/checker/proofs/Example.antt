@@ -1,4 +1,4 @@
--- The definition at work: both sides of each rule, and document 01's example 11.
+-- The definition at work: both sides of each rule.
 use mathlib.Core.Path.{_≡_, refl}
 use mathlib.Core.List.{List, [], _∷_, _++_}
 use Prim.Native.Nat.{ℕ, zero, suc}
@@ -9,6 +9,8 @@ use Rattle.checker.specs.View.{keyOf, notedBy, noted, markOn, view}
 use Rattle.checker.specs.Steps.{rise, broke, push, pop, growIn, grow, turn, missed, chapterTo, verseTo, isShut, isMilestone, pairUp}
 use Rattle.checker.specs.Check.{stepOn, foldOn, noneOpen, oneTree, pairedOff, verdictOf, settle, foldVerdict}
 use Rattle.checker.specs.Answer.{Answer, answerOf}
+use Rattle.checker.specs.Words.{Judged}
+use Rattle.checker.proofs.Answers.{answers-exact}
 use Rattle.checker.specs.Place.{isBroken, brokenAt, brokenFrom, brokenPlace, lineEnd, lineEnds, lineOf}
 
 abbrev framed : Bytes → Bytes
@@ -30,8 +32,6 @@ s gives n and c and v = record { text = s; answer = record { number = n; chapter
 abbrev pub table : List Row
 table =
     framed (b "\n  <chapter number=\"2\" style=\"c\" sid=\"GEN 2\" />\n  <para style=\"p\"><verse number=\"1\" style=\"v\" sid=\"GEN 2:1\" />Sing &amp; go</para><verse eid=\"GEN 2:1\" /><chapter eid=\"GEN 2\" />\n") gives 0 and 1 and 1
-    -- example 11: the label 1" with its start escaped and its end raw
-    ∷ framed (b "\n  <para style=\"p\"><verse number=\"1&quot;\" style=\"v\" sid=\" 1:1&quot;\" />x</para><verse eid=\" 1:1\"\" />\n") gives 11 and 0 and 0
     ∷ framed (b "<figure /><table><row><cell>a</cell></row></table><optbreak /><ref></ref>") gives 0 and 0 and 0
     ∷ framed (b "a & b") gives 11 and 0 and 0
     ∷ framed (b "<rows>a</rows>") gives 11 and 0 and 0
@@ -49,13 +49,23 @@ table =
     ∷ framed (b "<chapter></chapter>") gives 14 and 0 and 0
     ∷ []
 
+-- the answer to a text, by computation: every definition that it rests on is opened by this one name
+unfoldable pub computed : Bytes → Answer
+unfolding plain escapeAt keyByte ok run which elementAt pairAt pairsAt pairsFrom closeHead openHead textHead headAt tailAt ended tagged headed next tokensAt tokensFrom tokens notedBy noted markOn view rise broke push pop growIn grow turn missed chapterTo verseTo isShut isMilestone pairUp stepOn foldOn noneOpen oneTree pairedOff verdictOf settle foldVerdict same begins answerOf keyOf
+computed s = answerOf (foldVerdict s)
+
+-- what is computed is document 01's answer
+pub judged-by : (s : Bytes) {a : Answer} → computed s ≡ a → Judged s a
+unfolding computed
+judged-by s e = answers-exact s _ .0 e
+
 abbrev Each : List Row → Type 0
 Each [] = Unit {0}
-Each (r ∷ rs) = (answerOf (foldVerdict (r .text)) ≡ r .answer) × Each rs
+Each (r ∷ rs) = (computed (r .text) ≡ r .answer) × Each rs
 
 pub examples : Each table
-unfolding plain escapeAt keyByte ok run which elementAt pairAt pairsAt pairsFrom closeHead openHead textHead headAt tailAt ended tagged headed next tokensAt tokensFrom tokens notedBy noted markOn view rise broke push pop growIn grow turn missed chapterTo verseTo isShut isMilestone pairUp stepOn foldOn noneOpen oneTree pairedOff verdictOf settle foldVerdict same begins answerOf keyOf
-examples = (refl, (refl, (refl, (refl, (refl, (refl, (refl, (refl, (refl, (refl, (refl, (refl, (refl, (refl, (refl, (refl, (refl, tt)))))))))))))))))
+unfolding computed
+examples = (refl, (refl, (refl, (refl, (refl, (refl, (refl, (refl, (refl, (refl, (refl, (refl, (refl, (refl, (refl, (refl, tt))))))))))))))))
 
 -- a text, and the bytes before the place where its first rule breaks, and the line of it
 pub record Spot : Type 0 where

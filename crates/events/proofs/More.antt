@@ -3,7 +3,27 @@ use mathlib.Core.Path.{refl}
 use mathlib.Core.List.{List, [], _∷_, _++_}
 use Rattle.parts.specs.Bytes.{b}
 use Rattle.events.proofs.Answered.{answered}
-use Rattle.events.proofs.Tapes.{unknown, words, attribute, error, chapter, verse, leaf, block, inline, nested, unclosed, row, Holds, Each, Example, _by_, rows, each, usxOf, usx, para, id, usfm, c, v, p, cp, vb, tr, nd, xt, ref, va, vp, ca, cat, fig, tc, f, ts, esb, periph, tapeOf}
+use Rattle.events.specs.Tapes.{unknown, words, attribute, error, chapter, verse, leaf, block, inline, nested, unclosed, usxOf, usx, para, id, usfm, c, v, p, cp, vb, tr, nd, xt, ref, va, vp, ca, cat, fig, tc, f, ts, esb, periph, tapeOf}
+use Rattle.events.specs.Rows.{Row, row, Holds, Each}
+
+-- ---- rows that hold
+
+-- a row and its proof: a wrong row is refused where it stands
+pub record Example : Type 0 where
+  pub row : Row
+  pub holds : Holds row
+
+infix 70 _by_
+abbrev pub _by_ : (r : Row) → Holds r → Example
+r by h = record { row = r; holds = h }
+
+abbrev pub rows : List Example → List Row
+rows [] = []
+rows (e ∷ es) = e .row ∷ rows es
+
+pub each : (es : List Example) → Each Holds (rows es)
+each [] = tt
+each (e ∷ es) = (e .holds, each es)
 
 -- ---- the table
 

@@ -3,3 +3,5 @@ pub mod Pairing
 pub mod Walk
 pub mod Text
 pub mod Emit
+pub mod Tapes
+pub mod Rows
