@@ -8,7 +8,10 @@ use Rattle.tape.specs.declared.Sections.{Sections}
 use Rattle.admit.specs.Refusal.{Refusal, numberOf}
 use Rattle.admit.specs.declared.Admitted.{Admitted}
 use Rattle.admit.specs.declared.Admitted.the-variants.{Tape, Refused as Refused-tape}
-use Rattle.checker.specs.Check.{answerOf, numberOf as numberOfV}
+use Rattle.checker.specs.Answer.{Answer as AnswerV, answerOf}
+use Rattle.checker.specs.Check.{foldVerdict}
+use Rattle.checker.specs.Words.{Judged}
+use Rattle.checker.proofs.Answers.{judged-one}
 use Rattle.checker.specs.declared.Verdict.{Verdict}
 use Rattle.events.specs.Text.{Outcome, outcome}
 use Rattle.bounds.proofs.Whole.{given-small}
@@ -38,8 +41,8 @@ unfolding numberOf
 number-given file h e w = subst (λ (z : ℕ). Refusal file z) (sym w) (subst (λ (z : Admitted). Refusal file (numberOf z)) e h)
 
 -- the number of a verdict that is told
-pub number-told : (x : Bytes) {r v : Verdict} → r ≡ answerOf x → r ≡ v → numberOfV v ≡ numberOfV (answerOf x)
-number-told x e i = ap numberOfV (sym i ∙ e)
+pub number-told : (x : Bytes) (r : Verdict) {v : Verdict} → Judged x (answerOf r) → r ≡ v → answerOf v .number ≡ answerOf (foldVerdict x) .number
+number-told x r h i = ap (λ (a : AnswerV). a .number) (ap answerOf (sym i) ∙ sym (judged-one x (answerOf r) h))
 
 -- what an answer tells of the outcome, and that its sum has room
 module _ (file out : Bytes) (r : Answer) (last : Bytes) (e : outcomeOf r last ≡ outcome file out) where

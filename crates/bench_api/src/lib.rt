@@ -8,7 +8,8 @@ ghost use Rattle.chars.specs.Decimal.{decimal};
 ghost use Rattle.texts.specs.Text.{bodyOf};
 ghost use Rattle.window.specs.Page.{paint};
 ghost use Rattle.admit.specs.Refusal.{Refusal};
-ghost use Rattle.checker.specs.Check.{answerOf, numberOf};
+ghost use Rattle.checker.specs.Answer.{answerOf};
+ghost use Rattle.checker.specs.Check.{foldVerdict};
 ghost use Rattle.events.specs.Text.{outcome};
 use admit::Admitted;
 use checker::Verdict;
@@ -83,7 +84,7 @@ pub extern "C" fn bench_admit(file: &[u8]) -> u32
 // The number that a finished text is given, 0 where it is accepted.
 #[no_mangle]
 pub extern "C" fn bench_check(text: &[u8]) -> u32
-    ensures { λ r. ⌜ r ≡ numberOf (answerOf (now (text .entry))) ⌝ }
+    ensures { λ r. ⌜ r ≡ answerOf (foldVerdict (now (text .entry))) .number ⌝ }
 {
     match checker::check(text) {
         Verdict::Accepted {

@@ -11,7 +11,7 @@ use Rattle.checker.specs.Check.{Run, stepOn, atStart}
 use Rattle.checker.specs.declared.Verdict.{Verdict}
 use Rattle.checker.specs.declared.Verdict.the-variants.{Accepted, NotTags, TooHigh, NoTree, BadMarks}
 
--- whether the rule of an answer is broken behind a row of tokens, where 13 comes behind 12; that of 11 is a matter of reading them
+-- whether the rule of an answer is broken behind a row of tokens: that of 13 by a height over 160 too, that of 11 is a matter of reading them
 unfoldable pub isBroken : Verdict → Run → Bool
 isBroken (Accepted c v) r = false
 isBroken NotTags r = false

@@ -1,4 +1,5 @@
--- What the rules see of a token: which element it opens or closes, and of a tag ending in ` />` whether it is a start or an end.
+-- What the rules see of a token: which element it opens or closes, and of a tag ending in ` />` whether it is a start or an end:
+-- exactly where `IsStart` and `IsEnd` of Words hold of its attributes (`start-exact`, `end-exact`).
 use Prim.Native.Nat.{ℕ}
 use mathlib.Core.List.{List, [], _∷_}
 use mathlib.Core.Bool.{cond}

@@ -147,8 +147,7 @@ pub record HasStart (k : ℕ) (i : Bytes) (a : List View) : Type 0 where
 abbrev pub IsOpen : ℕ → List View → Type 0
 IsOpen k a = (i : Bytes) × HasStart k i a
 
--- demand 3's milestones: every start has one later end of equal identifier before the next start of its kind, no end lacks
--- a start, no verse is open where a chapter starts or ends
+-- demand 3: every start has one later end of equal identifier before the next start of its kind, no end lacks a start, no verse is open where a chapter starts or ends
 pub record Demand (vs : List View) : Type 0 where
   pub form : (a : List View) (v : View) (z : List View) → vs ≡ a ++ v ∷ z → Proper v
   pub starts : (k : ℕ) → Kind k → (a : List View) (i : Bytes) (z : List View) → vs ≡ a ++ single k (start i) ∷ z → HasEnd k i z
@@ -169,8 +168,7 @@ startsIn k (single n (ends i) ∷ vs) = startsIn k vs
 
 -- ---- the answers
 
--- "0 with the numbers of chapter and verse starts; 11 not tag form; 12 some height over 160; 13 not one usx tree; 14 milestones
--- against demand 3. The lowest that applies; 11 to 14 give zero counts."
+-- "0 with the numbers of chapter and verse starts; 11 not tag form; 12 some height over 160; 13 not one usx tree; 14 milestones against demand 3. The lowest that applies"
 pub data Judged (s : Bytes) : Answer → Type 0 where
   is-11 : ((ts : List Token) → TagForm s ts → ⊥) → Judged s (refused 11)
   is-12 : (ts : List Token) → TagForm s ts → SomeHigh (views ts) → Judged s (refused 12)

@@ -314,7 +314,7 @@ fn popped(t: Tree, stack: &[u8], n: u8, height: i64) -> Tree
     }
 }
 
-// The height behind the tag is that of the elements open then.
+// One tag more, and the height behind it, which is not over 160 and tells how many elements are open then.
 fn grown(t: Tree, stack: &mut [u8], tag: Tag, height: i64) -> Tree
     requires { ⌜ (length (now stack) ≡ room) × (t .depth ≤ room) × TellsNext t tag height × (ltZ (pos highest) height ≡ false) ⌝ }
     ensures { λ r. ⌜ ((s : List ℕ) → trunkOf r (now (stack .exit)) ≡ grow (trunkOf t (now (stack .entry))) (viewIn s tag)) ⌝ }

@@ -1,4 +1,4 @@
-use Rattle.checker.specs.Check.{numberOf}
+use Rattle.checker.specs.Answer.{answerOf}
 use Rattle.bench_api.proofs.Laws.{number-told}
 use borrow.Author.Needs.{needs}
 use Rattle.bench_api.proofs.bench_check.Statement.{statement}
@@ -23,24 +23,24 @@ enum-told-5 : tie.Need-enum-told-5
 enum-told-5 c = search needs
 
 returns : tie.Need-returns
-unfolding numberOf
-returns c = number-told _ (c .before .before .check .ensures) (c .enum-told .given .1)
+unfolding answerOf
+returns c = number-told _ _ (c .before .before .check .ensures) (c .enum-told .given .1)
 
 returns-2 : tie.Need-returns-2
-unfolding numberOf
-returns-2 c = number-told _ (c .before .before .check .ensures) (c .enum-told2 .given .1)
+unfolding answerOf
+returns-2 c = number-told _ _ (c .before .before .check .ensures) (c .enum-told2 .given .1)
 
 returns-3 : tie.Need-returns-3
-unfolding numberOf
-returns-3 c = number-told _ (c .before .before .check .ensures) (c .enum-told3 .given .1)
+unfolding answerOf
+returns-3 c = number-told _ _ (c .before .before .check .ensures) (c .enum-told3 .given .1)
 
 returns-4 : tie.Need-returns-4
-unfolding numberOf
-returns-4 c = number-told _ (c .before .before .check .ensures) (c .enum-told4 .given .1)
+unfolding answerOf
+returns-4 c = number-told _ _ (c .before .before .check .ensures) (c .enum-told4 .given .1)
 
 returns-5 : tie.Need-returns-5
-unfolding numberOf
-returns-5 c = number-told _ (c .before .before .check .ensures) (c .enum-told5 .given .1)
+unfolding answerOf
+returns-5 c = number-told _ _ (c .before .before .check .ensures) (c .enum-told5 .given .1)
 
 pub bench-check-spec : {M : Type 1} → statement M
 bench-check-spec =
