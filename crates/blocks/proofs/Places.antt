@@ -15,9 +15,10 @@ use Rattle.tape.proofs.Walk.{left-turn, up-to-go}
 use Rattle.render.specs.Shape.{isRow, isChapter, isVerse, isElement, isTopLevelBlock}
 use Rattle.render.proofs.Shapes.{kind-is, kind-not}
 use Rattle.fold.specs.Fold.{Folded, foldAt, numberOf}
-use Rattle.lists.specs.Span.{nodesIn, memberOf, foldedIn, cutAt}
+use Rattle.lists.specs.Span.{nodesIn, memberOf, foldedIn, cutAt, runEnd, foldsAt}
 use Rattle.lists.specs.declared.Span.{Span}
 use Rattle.lists.specs.declared.Member.the-variants.{Listed}
+use Rattle.lists.specs.declared.Stop.the-variants.{Block, NoRow}
 use Rattle.lists.specs.declared.Folds.{Folds}
 use Rattle.lists.proofs.Nodes.{nodes-go}
 use Rattle.tags.specs.Items.{start, close, line, valueOf, attrBytes, attrsBytes, bytesOf}
@@ -32,7 +33,7 @@ use Rattle.sink.specs.declared.Sink.{Sink}
 use Rattle.sink.proofs.Chains.{item-on}
 use Rattle.tables.specs.Rows.{isNoRow}
 use Rattle.tables.proofs.Spans.{up-row}
-use Rattle.blocks.specs.Blocks.{holderOf, runOpens, runIn, uncut}
+use Rattle.blocks.specs.Blocks.{holderOf, runOpens, runIn, uncut, stepBehind}
 use Rattle.blocks.specs.declared.Holder.the-variants.{Sidebar, Periph, Neither}
 
 -- ---- places
@@ -248,3 +249,39 @@ module _ (t : Tape) (span : Span) (c : Cursor) (d level : ℕ) (s : Desk) {x : B
     where
       body : emitAll s (blocksAll B t d level (nodesIn t span m)) ≡ emitAll s (blocksOn B t d level (c .at) (nodesIn t span (nextSibling t (c .at))) dropped)
       body = ap (λ (u : Step). emitAll s (blocksAll B t d level (nodesIn t span u))) em
+
+-- ---- the step behind a node
+
+pub behind-chapter : (t : Tape) (span : Span) (k : ℕ) {z : Kind} → z .code ≡ 6 → {n : Step} → n ≡ nextSibling t k → (f : Folds) → f ≡ foldsAt t span (z .code) n
+    → f .rest ≡ stepBehind t span k aChapter
+unfolding stepBehind
+behind-chapter t span k ez en f e = ap (λ (h : Folds). h .rest) e ∙ rw (ez, en)
+
+module _ (t : Tape) (span : Span) (k : ℕ) {n : Step} (en : n ≡ nextSibling t k) where
+  pub behind-run : {m : Step} → m ≡ runEnd t span Block n → m ≡ stepBehind t span k aVerse
+  unfolding stepBehind
+  behind-run e = e ∙ rw en
+
+  pub behind-block : n ≡ stepBehind t span k aBlock
+  unfolding stepBehind
+  behind-block = en
+
+module _ (t : Tape) (span : Span) (k : ℕ) {x : Bool} (ex : x ≡ isRow t k) where
+  pub row-behind : x ≡ true → {n m : Step} → n ≡ nextSibling t k → m ≡ runEnd t span NoRow n → holderOf t k ≡ Neither → m ≡ stepBehind t span k (placeOf t k)
+  unfolding stepBehind
+  row-behind hx en em hn = rw (place-row t k (sym ex ∙ hx)) (em ∙ rw en)
+
+  module _ (hx : x ≡ false) {z : Kind} (ek : z .code ≡ kindAt t k) {m : Step} where
+    pub chapter-behind : z .code ≡ 6 → m ≡ stepBehind t span k aChapter → holderOf t k ≡ Neither → m ≡ stepBehind t span k (placeOf t k)
+    chapter-behind h em hn = rw (place-chapter t k (sym ex ∙ hx) (kind-is t k ek 6 h)) em
+
+    module _ (n₆ : z .code ≡ 6 → ⊥) {y : Bool} (ey : y ≡ isTopLevelBlock t k) where
+      pub block-behind : y ≡ true → m ≡ stepBehind t span k aBlock → holderOf t k ≡ Neither → m ≡ stepBehind t span k (placeOf t k)
+      block-behind hy em hn = rw (place-others t k (sym ex ∙ hx) (kind-not t k ek 6 n₆) hn, sym ey ∙ hy) em
+
+      pub verse-behind : y ≡ false → z .code ≡ 7 → m ≡ stepBehind t span k aVerse → holderOf t k ≡ Neither → m ≡ stepBehind t span k (placeOf t k)
+      verse-behind hy h em hn = rw (place-others t k (sym ex ∙ hx) (kind-not t k ek 6 n₆) hn, sym ey ∙ hy, kind-is t k ek 7 h) em
+
+      pub drop-behind : y ≡ false → (z .code ≡ 7 → ⊥) → m ≡ nextSibling t k → holderOf t k ≡ Neither → m ≡ stepBehind t span k (placeOf t k)
+      unfolding stepBehind
+      drop-behind hy n₇ em hn = rw (place-others t k (sym ex ∙ hx) (kind-not t k ek 6 n₆) hn, sym ey ∙ hy, kind-not t k ek 7 n₇) em

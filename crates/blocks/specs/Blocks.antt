@@ -4,16 +4,20 @@ use mathlib.Core.List.{List, [], _∷_, _++_}
 use mathlib.Core.Bool.{Bool, true, false, cond, _||_}
 use Rattle.parts.specs.Bytes.{b}
 use Rattle.tape.specs.File.{Tape, infoAt}
-use Rattle.tape.specs.Tree.{upTo}
+use Rattle.tape.specs.declared.Step.{Step}
+use Rattle.tape.specs.Tree.{nextSibling, upTo}
 use Rattle.render.specs.Shape.{isRow, isChapter, isElement, isTopLevelBlock}
 use Rattle.render.specs.Note.{categoryOf, periphAlt}
 use Rattle.attrs.specs.Attr.{attributesOf}
 use Rattle.tags.specs.Items.{Attr, start, line}
+use Rattle.lists.specs.Span.{runEnd, foldsAt}
 use Rattle.lists.specs.declared.Span.{Span}
+use Rattle.lists.specs.declared.Stop.the-variants.{Block, NoRow}
 use Rattle.events.specs.Event.{Event, item, perhaps, collected, element}
-use Rattle.events.specs.Walk.{style, styled, unclosed, unfollowed, trimming, nodeIn, inside, inlineAll, sidebarIn, periphIn, blocksE}
+use Rattle.events.specs.Walk.{style, styled, unclosed, unfollowed, trimming, nodeIn, inside, inlineAll, sidebarIn, periphIn, Place, aRow, aChapter, aSidebar, aPeriph, aBlock, aVerse, dropped, blocksE}
 use Rattle.blocks.specs.declared.Holder.{Holder}
 use Rattle.blocks.specs.declared.Holder.the-variants.{Sidebar, Periph, Neither}
+use Rattle.tape.specs.Kind as kinds
 use Rattle.tape.specs.Element as elements
 use Rattle.tags.specs.Element as el
 
@@ -66,3 +70,13 @@ runOpens level = item (line level) ∷ item (start el.para (styled (b "p"))) ∷
 -- a paragraph around a verse and what follows it up to the next block
 unfoldable pub runIn : Tape → ℕ → ℕ → ℕ → List ℕ → List Event
 runIn t d level k ks = item (line level) ∷ element el.para (styled (b "p")) (inlineAll (nodeIn (inside t d) t) t unfollowed trimming (k ∷ upTo (isTopLevelBlock t) ks))
+
+-- the step behind a node at block level, by what it is there: past the rows or the run that it starts, or where its fold stops
+unfoldable pub stepBehind : Tape → Span → ℕ → Place → Step
+stepBehind t span k aRow = runEnd t span NoRow (nextSibling t k)
+stepBehind t span k aChapter = foldsAt t span kinds.chapter (nextSibling t k) .rest
+stepBehind t span k aSidebar = nextSibling t k
+stepBehind t span k aPeriph = nextSibling t k
+stepBehind t span k aBlock = nextSibling t k
+stepBehind t span k aVerse = runEnd t span Block (nextSibling t k)
+stepBehind t span k dropped = nextSibling t k

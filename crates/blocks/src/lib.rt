@@ -15,13 +15,13 @@ ghost use Rattle.render.specs.Shape.{isTopLevelBlock};
 ghost use Rattle.render.specs.Note.{periphAlt};
 ghost use Rattle.tags.specs.Items.{attrsBytes, line as lineItem, close, start, empty};
 ghost use Rattle.events.specs.Event.{Event, item, perhaps};
-ghost use Rattle.events.specs.Walk.{aChapter, aBlock, aVerse, blocksAll, blocksOn, blocksE};
+ghost use Rattle.events.specs.Walk.{aChapter, aBlock, aVerse, placeOf, blocksAll, blocksOn, blocksE};
 ghost use Rattle.events.specs.Emit.{emit, emitAll};
 ghost use Rattle.sink.specs.Desk.{deskIn};
 ghost use Rattle.lists.specs.Span.{nodesIn, memberOf};
 ghost use Rattle.lists.specs.declared.Member.the-variants.{Listed};
 ghost use Rattle.tables.specs.Rows.{depthAt};
-ghost use Rattle.blocks.specs.Blocks.{uncut, holderOf, isBlockOrRow, below, sidebarAttrs, periphAttrs, attrsOf, elementNo, holderIn, runOpens, runIn};
+ghost use Rattle.blocks.specs.Blocks.{uncut, holderOf, isBlockOrRow, below, sidebarAttrs, periphAttrs, attrsOf, elementNo, holderIn, runOpens, runIn, stepBehind};
 use lists::Member;
 use lists::Span;
 use lists::Stop;
@@ -90,6 +90,7 @@ fn chapter(
     requires { ⌜ Solids (tapeIn tape (now file)) (now solids) ⌝ }
     ensures { λ r. ⌜ ((B : List ℕ → List Event) → emitAll (deskIn (tapeIn tape (now (file .entry)) .source) (r .sink) (now (out .exit))) (blocksAll B (tapeIn tape (now (file .entry))) (depthAt level) level (nodesIn (tapeIn tape (now (file .entry))) span (r .next))) ≡ emitAll (deskIn (tapeIn tape (now (file .entry)) .source) sink (now (out .entry))) (blocksOn B (tapeIn tape (now (file .entry))) (depthAt level) level (c .at) (nodesIn (tapeIn tape (now (file .entry))) span (nextSibling (tapeIn tape (now (file .entry))) (c .at))) aChapter)) ⌝ }
     ensures { λ r. ⌜ left (tapeIn tape (now (file .entry))) (r .next) < left (tapeIn tape (now (file .entry))) (At c) ⌝ }
+    ensures { λ r. ⌜ r .next ≡ stepBehind (tapeIn tape (now (file .entry))) span (c .at) aChapter ⌝ }
 {
     let f = fold_in(
         file,
@@ -150,6 +151,7 @@ fn verse_run(
     requires { ⌜ Solids (tapeIn tape (now file)) (now solids) ⌝ }
     ensures { λ r. ⌜ (memberOf (tapeIn tape (now (file .entry))) (uncut sifted) (c .at) ≡ Listed → isTopLevelBlock (tapeIn tape (now (file .entry))) (c .at) ≡ false → (B : List ℕ → List Event) → emitAll (deskIn (tapeIn tape (now (file .entry)) .source) (r .sink) (now (out .exit))) (blocksAll B (tapeIn tape (now (file .entry))) (depthAt level) level (nodesIn (tapeIn tape (now (file .entry))) (uncut sifted) (r .next))) ≡ emitAll (deskIn (tapeIn tape (now (file .entry)) .source) sink (now (out .entry))) (blocksOn B (tapeIn tape (now (file .entry))) (depthAt level) level (c .at) (nodesIn (tapeIn tape (now (file .entry))) (uncut sifted) (nextSibling (tapeIn tape (now (file .entry))) (c .at))) aVerse)) ⌝ }
     ensures { λ r. ⌜ left (tapeIn tape (now (file .entry))) (r .next) < left (tapeIn tape (now (file .entry))) (At c) ⌝ }
+    ensures { λ r. ⌜ r .next ≡ stepBehind (tapeIn tape (now (file .entry))) (uncut sifted) (c .at) aVerse ⌝ }
 {
     let span = Span { cut: false, sifted };
     let s = verse_para(file, tape, solids, sifted, c, level, sink, out);
@@ -171,6 +173,7 @@ fn block(
     requires { ⌜ Solids (tapeIn tape (now file)) (now solids) ⌝ }
     ensures { λ r. ⌜ ((B : List ℕ → List Event) → emitAll (deskIn (tapeIn tape (now (file .entry)) .source) (r .sink) (now (out .exit))) (blocksAll B (tapeIn tape (now (file .entry))) (depthAt level) level (nodesIn (tapeIn tape (now (file .entry))) span (r .next))) ≡ emitAll (deskIn (tapeIn tape (now (file .entry)) .source) sink (now (out .entry))) (blocksOn B (tapeIn tape (now (file .entry))) (depthAt level) level (c .at) (nodesIn (tapeIn tape (now (file .entry))) span (nextSibling (tapeIn tape (now (file .entry))) (c .at))) aBlock)) ⌝ }
     ensures { λ r. ⌜ left (tapeIn tape (now (file .entry))) (r .next) < left (tapeIn tape (now (file .entry))) (At c) ⌝ }
+    ensures { λ r. ⌜ r .next ≡ stepBehind (tapeIn tape (now (file .entry))) span (c .at) aBlock ⌝ }
 {
     let a = line(sink, out, level as usize);
     Going {
@@ -193,6 +196,7 @@ fn block_turn(
     requires { ⌜ Solids (tapeIn tape (now file)) (now solids) ⌝ }
     ensures { λ r. ⌜ (memberOf (tapeIn tape (now (file .entry))) (uncut sifted) (c .at) ≡ Listed → holderOf (tapeIn tape (now (file .entry))) (c .at) ≡ Holder.Neither → (B : List ℕ → List Event) → emitAll (deskIn (tapeIn tape (now (file .entry)) .source) (r .sink) (now (out .exit))) (blocksAll B (tapeIn tape (now (file .entry))) (depthAt level) level (nodesIn (tapeIn tape (now (file .entry))) (uncut sifted) (r .next))) ≡ emitAll (deskIn (tapeIn tape (now (file .entry)) .source) sink (now (out .entry))) (blocksAll B (tapeIn tape (now (file .entry))) (depthAt level) level (nodesIn (tapeIn tape (now (file .entry))) (uncut sifted) (At c)))) ⌝ }
     ensures { λ r. ⌜ left (tapeIn tape (now (file .entry))) (r .next) < left (tapeIn tape (now (file .entry))) (At c) ⌝ }
+    ensures { λ r. ⌜ (holderOf (tapeIn tape (now (file .entry))) (c .at) ≡ Holder.Neither → r .next ≡ stepBehind (tapeIn tape (now (file .entry))) (uncut sifted) (c .at) (placeOf (tapeIn tape (now (file .entry))) (c .at))) ⌝ }
 {
     let span = Span { cut: false, sifted };
     if render::is_row(file, tape, c) {

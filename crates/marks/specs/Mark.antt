@@ -17,6 +17,7 @@ namedBook m book = record { book = book; number = m .number; chapter = m .chapte
 abbrev pub openedChapter : Marks → ℕ → Marks
 openedChapter m n = record { book = m .book; number = n; chapter = Chapter (m .book) n; verse = m .verse }
 
+-- the open chapter ends
 abbrev pub closedChapter : Marks → Marks
 closedChapter m = record { book = m .book; number = m .number; chapter = NoChapter; verse = m .verse }
 
@@ -24,15 +25,18 @@ closedChapter m = record { book = m .book; number = m .number; chapter = NoChapt
 abbrev pub openedVerse : Marks → Part → Marks
 openedVerse m label = record { book = m .book; number = m .number; chapter = m .chapter; verse = Verse (m .book) (m .number) label }
 
+-- the open verse ends
 abbrev pub closedVerse : Marks → Marks
 closedVerse m = record { book = m .book; number = m .number; chapter = m .chapter; verse = NoVerse }
 
--- what a verse, a chapter and the end of the text make of it
+-- a verse starts: the open one ends first
 unfoldable pub nextVerse : Marks → Part → Marks
 nextVerse m label = openedVerse (closedVerse m) label
 
+-- a chapter starts: the open verse and chapter end first
 unfoldable pub nextChapter : Marks → ℕ → Marks
 nextChapter m n = openedChapter (closedChapter (closedVerse m)) n
 
+-- the text ends, and the open verse and chapter with it
 unfoldable pub allClosed : Marks → Marks
 allClosed m = closedChapter (closedVerse m)

@@ -103,6 +103,10 @@ pub body-rest : (s : Bytes) → bodyOf s ≡ restOf (trimStart Ascii s)
 unfolding bodyOf
 body-rest s = ap hardSpaces (sym (told-words s) ∙ told-trim s) ∙ sym (rest-more (trimStart Ascii s))
 
+-- a body behind any plain byte goes on as behind the letter of `restOf`
+pub rest-any : (x : ℕ) (s : Bytes) → plain x ≡ true → bodyOf (x ∷ s) ≡ x ∷ restOf s
+rest-any x s e = body-rest (x ∷ s) ∙ ap restOf (trim-solid x s (plain-both x e .0)) ∙ rest-plain x s e
+
 lead-some : (t : Bytes) → 0 < length t → lead t ≡ 32 ∷ t
 lead-some [] h = absurd (omega arith)
 lead-some (x ∷ t) h = refl

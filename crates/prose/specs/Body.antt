@@ -2,10 +2,10 @@
 use Prim.Native.Nat.{ℕ, _+_, _≤_}
 use mathlib.Core.Path.{_≡_}
 use mathlib.Core.Bool.{Bool, false, true, cond, not, _&&_, _||_}
-use mathlib.Core.List.{[], _∷_}
+use mathlib.Core.List.{[], _∷_, _++_}
 use lib.ListN.{length, drop}
 use lib.Dec.{eqb, ltb}
-use Rattle.parts.specs.Bytes.{Bytes, firstAt}
+use Rattle.parts.specs.Bytes.{Bytes, b, firstAt}
 use Rattle.chars.specs.Space.{isAsciiWhite}
 use Rattle.words.specs.Words.{whiteLen}
 use Rattle.words.specs.declared.Set.the-variants.{Ascii}
@@ -14,9 +14,9 @@ use Rattle.prose.specs.declared.Mark.{Mark}
 use Rattle.prose.specs.declared.Mark.the-variants.{Nothing, Space, Hard}
 use Rattle.prose.specs.declared.Gap.{Gap}
 
--- what a body goes on with where this follows a solid byte, such as A
+-- what a body goes on with behind a plain byte: the letter stands for any, since all give the same (proofs/Rest.antt, `rest-any`)
 unfoldable pub restOf : Bytes → Bytes
-restOf s = drop 1 (bodyOf (65 ∷ s))
+restOf s = drop 1 (bodyOf (b "A" ++ s))
 
 -- a byte that a body holds as it is: neither white space nor `~`
 unfoldable pub plain : ℕ → Bool

@@ -16,15 +16,17 @@ use Rattle.events.specs.Event.{Event, item, book, escaped, perhaps, collected, 
 use Rattle.events.specs.Walk.{style, styled, unclosed, Role, unknownBlock, unknownInline, unwritten, figure, ref, id, note, ms, char, para, linkOf}
 use Rattle.tags.specs.Element as el
 
--- the `ref` around what an `xt` links
+-- the start of the `ref` around what an `xt` links
 unfoldable pub linkOpens : Option Bytes → List Event
 linkOpens none = []
 linkOpens (some loc) = item (start el.ref (escaped (b "loc") loc ∷ [])) ∷ []
 
+-- the end of that `ref`
 unfoldable pub linkCloses : Option Bytes → List Event
 linkCloses none = []
 linkCloses (some loc) = item (close el.ref) ∷ []
 
+-- what stands before the events inside a marker, by its role
 unfoldable pub opening : Tape → ℕ → Role → List Event
 opening t k unknownBlock = item (start el.para (style t k ∷ escaped (b "status") (b "unknown") ∷ [])) ∷ []
 opening t k unknownInline = item (start el.char (style t k ∷ escaped (b "status") (b "unknown") ∷ [])) ∷ []
@@ -37,6 +39,7 @@ opening t k ms = []
 opening t k char = item (start el.char (style t k ∷ (unclosed t k ++ collected (attributesOf t k (markerName t k))))) ∷ linkOpens (linkOf t k)
 opening t k para = item (start el.para (style t k ∷ [])) ∷ []
 
+-- what stands behind the events inside a marker
 unfoldable pub closing : Tape → ℕ → Role → List Event
 closing t k unknownBlock = item (close el.para) ∷ []
 closing t k unknownInline = item (close el.char) ∷ []
@@ -54,6 +57,7 @@ unfoldable pub oldFigure : Tape → ℕ → Step → List Event
 oldFigure t k Done = []
 oldFigure t k (At a) = element el.figure (styled (b "fig") ++ collected (legacyPairs t k (a .at))) (item (text (captionOf t (a .at))) ∷ [])
 
+-- what a marker is written as where nothing stands inside
 unfoldable pub leafOf : Tape → ℕ → Role → List Event
 leafOf t k unknownBlock = []
 leafOf t k unknownInline = []

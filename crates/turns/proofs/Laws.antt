@@ -1,6 +1,6 @@
 -- One law for each return of a turn.
 use mathlib.Core.Path.{_≡_, refl, sym, ap, _∙_}
-use mathlib.Core.Bool.{Bool, true, false, not, _&&_, _||_, or-true, or-false}
+use mathlib.Core.Bool.{Bool, true, false, cond, not, _&&_, _||_, or-true, or-false}
 use mathlib.Core.List.{List, _++_}
 use Prim.Native.Nat.{ℕ, _+_, _-_, _≤_, _<_}
 use native.Mathlib.Omega.{arith}
@@ -19,7 +19,7 @@ use Rattle.tape.specs.declared.Step.{Step}
 use Rattle.tape.specs.declared.Step.the-variants.{At, Done}
 use Rattle.tape.proofs.Walk.{left-turn}
 use Rattle.lean.specs.Lean.{lean}
-use Rattle.lean.proofs.Leans.{normalize-lean, body-lean}
+use Rattle.lean.proofs.Leans.{normalize-lean, body-lean, ends-lean}
 use Rattle.render.specs.Follow.{nextSolid, inlineAt, inlineFollows, Kept}
 use Rattle.render.specs.Label.{labelOf}
 use Rattle.render.specs.Note.{remainder}
@@ -34,7 +34,7 @@ use Rattle.events.specs.Emit.{Desk, emit, emitAll}
 use Rattle.events.proofs.Emits.{emit-append}
 use Rattle.sink.specs.Desk.{deskIn}
 use Rattle.sink.specs.declared.Sink.{Sink}
-use Rattle.turns.specs.Turn.{plainFrom, notePlain, nextBy, trimBy, noteTrimBy, KeptAt, keptPast, keptBehind}
+use Rattle.turns.specs.Turn.{plainFrom, notePlain, nextBy, trimBy, noteTrimBy, KeptAt, keptPast, keptBehind, keptBy, noteKeptBy}
 use Rattle.turns.specs.declared.Child.{Child}
 use Rattle.turns.specs.declared.Going.{Going}
 use Rattle.turns.specs.declared.Child.the-variants.{Skipped, Anchor, Words, Passed}
@@ -361,3 +361,49 @@ module _ (t : Tape) (c : Cursor) (trim behind : Bool) (kept : Step) {x : Bool} w
     pub note-trim-skipped : (first : ℕ) → child ≡ Skipped → x ≡ trim → Kept t c kept → x ≡ noteTrimBy t first behind trim (c .at) child
     unfolding noteTrimBy
     note-trim-skipped first ec e h = rw ec e
+
+-- ---- what a turn keeps
+
+module _ (t : Tape) (c : Cursor) (behind : Bool) (kept : Step) {r : Step} where
+  -- behind a text, by what its lean form is
+  pub words-keeps : (u : Bytes) {s : Bytes} → s ≡ lean u → (next : Step) → (Kept t c kept → r ≡ keptBehind t behind s kept (c .at) next) → Kept t c kept
+      → r ≡ keptBehind t behind u kept (c .at) next
+  unfolding keptBehind
+  words-keeps u es next er h =
+      er h ∙ ap (λ (x : Bool). cond behind next (cond x (nextSolid t (c .at)) (keptPast kept (c .at) next))) (ap endsWhite es ∙ ends-lean u)
+
+  module _ (span : Span) {child : Child} {next : Step} where
+    pub keeps-anchor : child ≡ Anchor → next ≡ nextBy t span (c .at) Anchor → r ≡ next → Kept t c kept → r ≡ keptBy t span behind kept (c .at) child
+    unfolding keptBy
+    keeps-anchor ec en er h = rw ec (er ∙ en)
+
+    module _ (en : next ≡ nextSibling t (c .at)) where
+      pub keeps-words : child ≡ Words → (Kept t c kept → r ≡ keptBehind t behind (textAt t (c .at)) kept (c .at) next) → Kept t c kept → r ≡ keptBy t span behind kept (c .at) child
+      unfolding keptBy
+      keeps-words ec er h = rw (ec, ← en) (er h)
+
+      pub keeps-passed : child ≡ Passed → r ≡ keptPast kept (c .at) next → Kept t c kept → r ≡ keptBy t span behind kept (c .at) child
+      unfolding keptBy
+      keeps-passed ec er h = rw (ec, ← en) er
+
+      pub keeps-skipped : child ≡ Skipped → r ≡ keptPast kept (c .at) next → Kept t c kept → r ≡ keptBy t span behind kept (c .at) child
+      unfolding keptBy
+      keeps-skipped ec er h = rw (ec, ← en) er
+
+  module _ (first : ℕ) {child : Child} {next : Step} (en : next ≡ nextSibling t (c .at)) where
+    pub note-keeps-words : child ≡ Words → (Kept t c kept → r ≡ keptBehind t behind (noteText t first (c .at)) kept (c .at) next) → Kept t c kept
+        → r ≡ noteKeptBy t first behind kept (c .at) child
+    unfolding noteKeptBy
+    note-keeps-words ec er h = rw (ec, ← en) (er h)
+
+    pub note-keeps-passed : child ≡ Passed → r ≡ keptPast kept (c .at) next → Kept t c kept → r ≡ noteKeptBy t first behind kept (c .at) child
+    unfolding noteKeptBy
+    note-keeps-passed ec er h = rw (ec, ← en) er
+
+    pub note-keeps-anchor : child ≡ Anchor → r ≡ keptPast kept (c .at) next → Kept t c kept → r ≡ noteKeptBy t first behind kept (c .at) child
+    unfolding noteKeptBy
+    note-keeps-anchor ec er h = rw (ec, ← en) er
+
+    pub note-keeps-skipped : child ≡ Skipped → r ≡ keptPast kept (c .at) next → Kept t c kept → r ≡ noteKeptBy t first behind kept (c .at) child
+    unfolding noteKeptBy
+    note-keeps-skipped ec er h = rw (ec, ← en) er

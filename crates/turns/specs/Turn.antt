@@ -90,7 +90,7 @@ trimBy t behind trim k Anchor = true
 trimBy t behind trim k Words = trim && not (normalized t k (textAt t k) trim behind .shows)
 trimBy t behind trim k Passed = trim
 
--- the same in a note whose first child has this index
+-- whether a text behind such a child of a note, whose first child has this index, loses its leading space
 unfoldable pub noteTrimBy : Tape → ℕ → Bool → Bool → ℕ → Child → Bool
 noteTrimBy t first behind trim k Skipped = trim
 noteTrimBy t first behind trim k Anchor = trim
@@ -112,3 +112,17 @@ keptPast (At d) k next = cond (eqb (d .at) k) next (At d)
 -- what is kept behind a text: the solid sibling where it was looked for, which is where the text ends with white space and nothing follows the parent
 unfoldable pub keptBehind : Tape → Bool → Bytes → Step → ℕ → Step → Step
 keptBehind t behind s kept k next = cond behind next (cond (endsWhite s) (nextSolid t k) (keptPast kept k next))
+
+-- what is kept behind a child that no marker is entered for: behind a verse it is the step that the turn leads to
+unfoldable pub keptBy : Tape → Span → Bool → Step → ℕ → Child → Step
+keptBy t span behind kept k Skipped = keptPast kept k (nextSibling t k)
+keptBy t span behind kept k Anchor = nextBy t span k Anchor
+keptBy t span behind kept k Words = keptBehind t behind (textAt t k) kept k (nextSibling t k)
+keptBy t span behind kept k Passed = keptPast kept k (nextSibling t k)
+
+-- what is kept behind such a child of a note whose first child has this index
+unfoldable pub noteKeptBy : Tape → ℕ → Bool → Step → ℕ → Child → Step
+noteKeptBy t first behind kept k Skipped = keptPast kept k (nextSibling t k)
+noteKeptBy t first behind kept k Anchor = keptPast kept k (nextSibling t k)
+noteKeptBy t first behind kept k Words = keptBehind t behind (noteText t first k) kept k (nextSibling t k)
+noteKeptBy t first behind kept k Passed = keptPast kept k (nextSibling t k)

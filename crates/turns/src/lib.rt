@@ -4,7 +4,7 @@ ghost use mathlib.Core.Bool.{Bool, true, not, _&&_};
 ghost use mathlib.Core.List.{List};
 ghost use Prim.Native.Nat.{ℕ, _+_, _<_};
 ghost use lib.Dec.{eqb};
-ghost use Rattle.tape.specs.File.{Tape, tapeIn};
+ghost use Rattle.tape.specs.File.{Tape, tapeIn, textAt};
 ghost use Rattle.tape.specs.Tree.{nextSibling, walkFrom, left};
 ghost use Rattle.tape.specs.declared.Step.the-variants.{At};
 ghost use Rattle.lean.specs.Lean.{lean, Solids};
@@ -14,7 +14,7 @@ ghost use Rattle.events.specs.Walk.{normalized, inlineAll, noteText, noteAll};
 ghost use Rattle.events.specs.Emit.{emitAll};
 ghost use Rattle.sink.specs.Desk.{deskIn};
 ghost use Rattle.lists.specs.Span.{nodesIn};
-ghost use Rattle.turns.specs.Turn.{sortOf, sortIn, noteSort, plainFrom, notePlain, nextBy, trimBy, noteTrimBy, KeptAt, keptPast, keptBehind};
+ghost use Rattle.turns.specs.Turn.{sortOf, sortIn, noteSort, plainFrom, notePlain, nextBy, trimBy, noteTrimBy, KeptAt, keptPast, keptBehind, keptBy, noteKeptBy};
 ghost use Rattle.turns.specs.declared.Child.the-variants.{Anchor, Words};
 use lean::lean_of;
 use lean::lean_text;
@@ -187,6 +187,7 @@ fn words_turn(
     ensures { λ r. ⌜ (Kept (tapeIn tape (now (file .entry))) c kept → KeptAt (tapeIn tape (now (file .entry))) (r .next) (r .kept)) ⌝ }
     ensures { λ r. ⌜ r .next ≡ nextSibling (tapeIn tape (now (file .entry))) (c .at) ⌝ }
     ensures { λ r. ⌜ (Kept (tapeIn tape (now (file .entry))) c kept → r .trim ≡ trimBy (tapeIn tape (now (file .entry))) behind trim (c .at) Words) ⌝ }
+    ensures { λ r. ⌜ (Kept (tapeIn tape (now (file .entry))) c kept → r .kept ≡ keptBehind (tapeIn tape (now (file .entry))) behind (textAt (tapeIn tape (now (file .entry))) (c .at)) kept (c .at) (r .next)) ⌝ }
 {
     let next = c.next_sibling(file, tape);
     let s = lean_text(file, tape, solids, c);
@@ -218,6 +219,7 @@ fn anchor_turn(
     ensures { λ r. ⌜ left (tapeIn tape (now (file .entry))) (r .next) < left (tapeIn tape (now (file .entry))) (At c) ⌝ }
     ensures { λ r. ⌜ r .next ≡ nextBy (tapeIn tape (now (file .entry))) span (c .at) Anchor ⌝ }
     ensures { λ r. ⌜ r .trim ≡ true ⌝ }
+    ensures { λ r. ⌜ r .kept ≡ r .next ⌝ }
 {
     let f = fold_in(
         file,
@@ -276,6 +278,7 @@ pub fn plain_turn(
     ensures { λ r. ⌜ left (tapeIn tape (now (file .entry))) (r .next) < left (tapeIn tape (now (file .entry))) (At c) ⌝ }
     ensures { λ r. ⌜ r .next ≡ nextBy (tapeIn tape (now (file .entry))) span (c .at) child ⌝ }
     ensures { λ r. ⌜ (Kept (tapeIn tape (now (file .entry))) c kept → r .trim ≡ trimBy (tapeIn tape (now (file .entry))) behind trim (c .at) child) ⌝ }
+    ensures { λ r. ⌜ (Kept (tapeIn tape (now (file .entry))) c kept → r .kept ≡ keptBy (tapeIn tape (now (file .entry))) span behind kept (c .at) child) ⌝ }
 {
     match child {
         Child::Anchor => anchor_turn(file, tape, solids, span, c, sink, out),
@@ -332,6 +335,7 @@ fn note_words(
     ensures { λ r. ⌜ (Kept (tapeIn tape (now (file .entry))) c kept → KeptAt (tapeIn tape (now (file .entry))) (r .next) (r .kept)) ⌝ }
     ensures { λ r. ⌜ r .next ≡ nextSibling (tapeIn tape (now (file .entry))) (c .at) ⌝ }
     ensures { λ r. ⌜ (Kept (tapeIn tape (now (file .entry))) c kept → r .trim ≡ noteTrimBy (tapeIn tape (now (file .entry))) (parent .at + 1) behind trim (c .at) Words) ⌝ }
+    ensures { λ r. ⌜ (Kept (tapeIn tape (now (file .entry))) c kept → r .kept ≡ keptBehind (tapeIn tape (now (file .entry))) behind (noteText (tapeIn tape (now (file .entry))) (parent .at + 1) (c .at)) kept (c .at) (r .next)) ⌝ }
 {
     let next = c.next_sibling(file, tape);
     let s = note_text(file, tape, solids, parent, c);
@@ -367,6 +371,7 @@ pub fn note_turn(
     ensures { λ r. ⌜ left (tapeIn tape (now (file .entry))) (r .next) < left (tapeIn tape (now (file .entry))) (At c) ⌝ }
     ensures { λ r. ⌜ r .next ≡ nextSibling (tapeIn tape (now (file .entry))) (c .at) ⌝ }
     ensures { λ r. ⌜ (Kept (tapeIn tape (now (file .entry))) c kept → r .trim ≡ noteTrimBy (tapeIn tape (now (file .entry))) (parent .at + 1) behind trim (c .at) child) ⌝ }
+    ensures { λ r. ⌜ (Kept (tapeIn tape (now (file .entry))) c kept → r .kept ≡ noteKeptBy (tapeIn tape (now (file .entry))) (parent .at + 1) behind kept (c .at) child) ⌝ }
 {
     match child {
         Child::Words => note_words(file, tape, solids, parent, c, trim, behind, kept, sink, out),

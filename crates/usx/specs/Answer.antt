@@ -7,13 +7,13 @@ use Rattle.events.specs.Text.{Outcome, textOf}
 use Rattle.usx.specs.declared.Answer.{Answer}
 use Rattle.usx.specs.declared.Answer.the-variants.{Written, Refused, NoRoom}
 
--- document 01's number
+-- document 01's number of an answer: 0 where the text is written, 8 where there is no room
 unfoldable pub numberOf : Answer → ℕ
 numberOf (Written n) = 0
 numberOf (Refused n) = n
 numberOf (NoRoom n) = 8
 
--- the length that goes with it
+-- the length that an answer gives: none where the tape is refused
 unfoldable pub givenOf : Answer → ℕ
 givenOf (Written n) = n
 givenOf (Refused n) = 0

@@ -19,7 +19,7 @@ use Rattle.attrs.proofs.Values.{piece-some, piece-last, piece-in}
 use Rattle.fold.specs.Number.{spaceIf}
 use Rattle.tags.specs.Items.{attrBytes, valueOf as valueWritten}
 use Rattle.events.specs.Event.{escaped}
-use Rattle.values.specs.Parts.{opening}
+use Rattle.values.specs.Parts.{keyOpens}
 
 -- two texts in a row, each with its escapes
 pub escape-two : (p : Page) {q r : Page} (x y : Bytes) → q ≡ paint p (escape true x) → r ≡ paint q (escape true y) → r ≡ paint p (escape true (x ++ y))
@@ -73,16 +73,16 @@ module _ (source : Bytes) (v : Value) {s : Bytes} (es : s ≡ part source (v .st
 
 -- ---- an attribute
 
-pub key-opens : (p q r : Page) {z : Page} (key : Bytes) → q ≡ paint p (b " ") → r ≡ paint q key → z ≡ paint r (b "=\"") → z ≡ paint p (opening key)
-unfolding opening
+pub key-opens : (p q r : Page) {z : Page} (key : Bytes) → q ≡ paint p (b " ") → r ≡ paint q key → z ≡ paint r (b "=\"") → z ≡ paint p (keyOpens key)
+unfolding keyOpens
 key-opens p q r key eq er ez = paint-two p (b " ") (key ++ b "=\"") eq (paint-two q key (b "=\"") er ez)
 
-pub attr-written : (p q r : Page) {z : Page} (key value : Bytes) → q ≡ paint p (opening key) → r ≡ paint q (escape true value) → z ≡ paint r (b "\"")
+pub attr-written : (p q r : Page) {z : Page} (key value : Bytes) → q ≡ paint p (keyOpens key) → r ≡ paint q (escape true value) → z ≡ paint r (b "\"")
     → z ≡ paint p (attrBytes (escaped key value))
-unfolding opening attrBytes escaped valueWritten
+unfolding keyOpens attrBytes escaped valueWritten
 attr-written p q r key value eq er ez =
     let rest : Bytes = escape true value ++ b "\"" in
-    paint-two p (opening key) rest eq (paint-two q (escape true value) (b "\"") er ez)
+    paint-two p (keyOpens key) rest eq (paint-two q (escape true value) (b "\"") er ez)
     ∙ ap (λ (y : Bytes). paint p (32 ∷ y)) (append-assoc key (b "=\"") rest)
 
 pub next-written : (source : Bytes) (k : Key) (v : Value) {x : Bytes} → x ≡ keyOf source fixedKeys k → (p : Page) {q : Page}

@@ -6,14 +6,14 @@ use Rattle.tape.specs.File.{Tape}
 use Rattle.attrs.specs.Attr.{Pair}
 use Rattle.figure.specs.Figure.{fieldAt, describedBy, valued}
 
--- what stands before the value of an attribute
-unfoldable pub opening : Bytes → Bytes
-opening key = b " " ++ (key ++ b "=\"")
+-- what stands before the value of an attribute: its key
+unfoldable pub keyOpens : Bytes → Bytes
+keyOpens key = b " " ++ (key ++ b "=\"")
 
 -- the first three attributes of a figure of old
 unfoldable pub aboutPairs : Tape → ℕ → ℕ → List Pair
 aboutPairs t k a = valued (b "alt") (describedBy t k) ++ (valued (b "file") (fieldAt t a 0) ++ valued (b "size") (fieldAt t a 1))
 
--- and its last three
+-- the last three attributes of a figure of old
 unfoldable pub placePairs : Tape → ℕ → List Pair
 placePairs t a = valued (b "loc") (fieldAt t a 2) ++ (valued (b "copy") (fieldAt t a 3) ++ valued (b "ref") (fieldAt t a 5))

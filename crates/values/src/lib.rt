@@ -25,7 +25,7 @@ ghost use Rattle.fold.specs.Number.{spaceIf};
 ghost use Rattle.figure.specs.Figure.{fieldAt, valued, legacyPairs};
 ghost use Rattle.tags.specs.Items.{attrBytes, attrsBytes};
 ghost use Rattle.events.specs.Event.{escaped, perhaps, collected};
-ghost use Rattle.values.specs.Parts.{opening, aboutPairs, placePairs};
+ghost use Rattle.values.specs.Parts.{keyOpens, aboutPairs, placePairs};
 
 // ---- values
 
@@ -69,7 +69,7 @@ pub fn put_value(w: Window, out: &mut [u8], source: &[u8], v: Value) -> Window
 
 // A space, the key, and the front of the value.
 fn put_key(w: Window, out: &mut [u8], key: &[u8]) -> Window
-    ensures { λ r. ⌜ pageOf r (now (out .exit)) ≡ paint (pageOf w (now (out .entry))) (opening (now (key .entry))) ⌝ }
+    ensures { λ r. ⌜ pageOf r (now (out .exit)) ≡ paint (pageOf w (now (out .entry))) (keyOpens (now (key .entry))) ⌝ }
 {
     let v = window::put_run(w, out, b" ");
     let u = window::put_run(v, out, key);

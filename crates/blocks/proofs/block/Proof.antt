@@ -1,4 +1,4 @@
-use Rattle.blocks.proofs.Places.{block-step, left-next}
+use Rattle.blocks.proofs.Places.{block-step, left-next, behind-block}
 use borrow.Author.Needs.{needs}
 use Rattle.blocks.proofs.block.Statement.{statement}
 use Rattle.blocks.proofs.block.Tie as tie
@@ -19,7 +19,7 @@ same-length : tie.Need-same-length
 same-length c = search needs
 
 returns : tie.Need-returns
-returns c = (search block-step, search left-next)
+returns c = (search block-step, (search left-next, search behind-block))
 
 pub block-spec : {M : Type 1} → statement M
 block-spec =

@@ -1,4 +1,4 @@
-use Rattle.blocks.proofs.Places.{chapter-turn, left-past}
+use Rattle.blocks.proofs.Places.{chapter-turn, left-past, behind-chapter}
 use borrow.Author.Needs.{needs}
 use Rattle.blocks.proofs.chapter.Statement.{statement}
 use Rattle.blocks.proofs.chapter.Tie as tie
@@ -25,7 +25,7 @@ same-length : tie.Need-same-length
 same-length c = search needs
 
 returns : tie.Need-returns
-returns c = (search chapter-turn, search left-past)
+returns c = (search chapter-turn, (search left-past, search behind-chapter))
 
 pub chapter-spec : {M : Type 1} → statement M
 chapter-spec =

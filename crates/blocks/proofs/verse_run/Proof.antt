@@ -1,4 +1,4 @@
-use Rattle.blocks.proofs.Places.{verse-turn, left-past}
+use Rattle.blocks.proofs.Places.{verse-turn, left-past, behind-run}
 use borrow.Author.Needs.{needs}
 use Rattle.blocks.proofs.verse_run.Statement.{statement}
 use Rattle.blocks.proofs.verse_run.Tie as tie
@@ -16,7 +16,7 @@ same-length : tie.Need-same-length
 same-length c = search needs
 
 returns : tie.Need-returns
-returns c = (search verse-turn, search left-past)
+returns c = (search verse-turn, (search left-past, search behind-run))
 
 pub verse-run-spec : {M : Type 1} → statement M
 verse-run-spec =

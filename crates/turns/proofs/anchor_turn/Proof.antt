@@ -19,7 +19,7 @@ same-length : tie.Need-same-length
 same-length c = search needs
 
 returns : tie.Need-returns
-returns c = (search anchor-written, (search kept-here, (search anchor-left, (search anchor-next, search needs))))
+returns c = (search anchor-written, (search kept-here, (search anchor-left, (search anchor-next, (search needs, search needs)))))
 
 pub anchor-turn-spec : {M : Type 1} → statement M
 anchor-turn-spec =

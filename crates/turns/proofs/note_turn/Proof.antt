@@ -1,4 +1,4 @@
-use Rattle.turns.proofs.Laws.{note-turn-anchor, note-turn-passed, note-turn-skipped, note-turn-words, turn-left, note-trim-words, note-trim-passed, note-trim-anchor, note-trim-skipped}
+use Rattle.turns.proofs.Laws.{note-turn-anchor, note-turn-passed, note-turn-skipped, note-turn-words, turn-left, note-trim-words, note-trim-passed, note-trim-anchor, note-trim-skipped, note-keeps-words, note-keeps-passed, note-keeps-anchor, note-keeps-skipped}
 use borrow.Author.Needs.{needs}
 use Rattle.turns.proofs.note_turn.Statement.{statement}
 use Rattle.turns.proofs.note_turn.Tie as tie
@@ -31,16 +31,16 @@ same-length : tie.Need-same-length
 same-length c = search needs
 
 returns : tie.Need-returns
-returns c = (search note-turn-words, (search needs, (search turn-left, (search needs, search note-trim-words))))
+returns c = (search note-turn-words, (search needs, (search turn-left, (search needs, (search note-trim-words, search note-keeps-words)))))
 
 returns-2 : tie.Need-returns-2
-returns-2 c = (search note-turn-passed, (search needs, (search turn-left, (search needs, search note-trim-passed))))
+returns-2 c = (search note-turn-passed, (search needs, (search turn-left, (search needs, (search note-trim-passed, search note-keeps-passed)))))
 
 returns-3 : tie.Need-returns-3
-returns-3 c = (search note-turn-anchor, (search needs, (search turn-left, (search needs, search note-trim-anchor))))
+returns-3 c = (search note-turn-anchor, (search needs, (search turn-left, (search needs, (search note-trim-anchor, search note-keeps-anchor)))))
 
 returns-4 : tie.Need-returns-4
-returns-4 c = (search note-turn-skipped, (search needs, (search turn-left, (search needs, search note-trim-skipped))))
+returns-4 c = (search note-turn-skipped, (search needs, (search turn-left, (search needs, (search note-trim-skipped, search note-keeps-skipped)))))
 
 pub note-turn-spec : {M : Type 1} → statement M
 note-turn-spec =

@@ -1,4 +1,4 @@
-use Rattle.turns.proofs.Laws.{note-written, words-kept, note-words-trim}
+use Rattle.turns.proofs.Laws.{note-written, words-kept, note-words-trim, words-keeps}
 use borrow.Author.Needs.{needs}
 use Rattle.turns.proofs.note_words.Statement.{statement}
 use Rattle.turns.proofs.note_words.Tie as tie
@@ -22,7 +22,7 @@ same-length : tie.Need-same-length
 same-length c = search needs
 
 returns : tie.Need-returns
-returns c = (search note-written, (search words-kept, (search needs, search note-words-trim)))
+returns c = (search note-written, (search words-kept, (search needs, (search note-words-trim, search words-keeps))))
 
 pub note-words-spec : {M : Type 1} → statement M
 note-words-spec =

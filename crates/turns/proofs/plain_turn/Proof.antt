@@ -1,4 +1,4 @@
-use Rattle.turns.proofs.Laws.{anchor-kept, plain-anchor, plain-passed, plain-skipped, plain-words, turn-left, next-anchor, next-words, next-passed, next-skipped, trim-anchor, trim-words, trim-passed, trim-skipped}
+use Rattle.turns.proofs.Laws.{anchor-kept, plain-anchor, plain-passed, plain-skipped, plain-words, turn-left, next-anchor, next-words, next-passed, next-skipped, trim-anchor, trim-words, trim-passed, trim-skipped, keeps-anchor, keeps-words, keeps-passed, keeps-skipped}
 use borrow.Author.Needs.{needs}
 use Rattle.turns.proofs.plain_turn.Statement.{statement}
 use Rattle.turns.proofs.plain_turn.Tie as tie
@@ -31,19 +31,19 @@ same-length : tie.Need-same-length
 same-length c = search needs
 
 returns : tie.Need-returns
-returns c = (search plain-anchor, (search anchor-kept, (search needs, (search next-anchor, search trim-anchor))))
+returns c = (search plain-anchor, (search anchor-kept, (search needs, (search next-anchor, (search trim-anchor, search keeps-anchor)))))
 
 same-length-2 : tie.Need-same-length-2
 same-length-2 c = search needs
 
 returns-2 : tie.Need-returns-2
-returns-2 c = (search plain-words, (search needs, (search turn-left, (search next-words, search trim-words))))
+returns-2 c = (search plain-words, (search needs, (search turn-left, (search next-words, (search trim-words, search keeps-words)))))
 
 returns-3 : tie.Need-returns-3
-returns-3 c = (search plain-passed, (search needs, (search turn-left, (search next-passed, search trim-passed))))
+returns-3 c = (search plain-passed, (search needs, (search turn-left, (search next-passed, (search trim-passed, search keeps-passed)))))
 
 returns-4 : tie.Need-returns-4
-returns-4 c = (search plain-skipped, (search needs, (search turn-left, (search next-skipped, search trim-skipped))))
+returns-4 c = (search plain-skipped, (search needs, (search turn-left, (search next-skipped, (search trim-skipped, search keeps-skipped)))))
 
 pub plain-turn-spec : {M : Type 1} → statement M
 plain-turn-spec =

@@ -1,4 +1,4 @@
-use Rattle.turns.proofs.Laws.{words-kept, words-written, words-trim}
+use Rattle.turns.proofs.Laws.{words-kept, words-written, words-trim, words-keeps}
 use borrow.Author.Needs.{needs}
 use Rattle.turns.proofs.words_turn.Statement.{statement}
 use Rattle.turns.proofs.words_turn.Tie as tie
@@ -22,7 +22,7 @@ same-length : tie.Need-same-length
 same-length c = search needs
 
 returns : tie.Need-returns
-returns c = (search words-written, (search words-kept, (search needs, search words-trim)))
+returns c = (search words-written, (search words-kept, (search needs, (search words-trim, search words-keeps))))
 
 pub words-turn-spec : {M : Type 1} → statement M
 words-turn-spec =
