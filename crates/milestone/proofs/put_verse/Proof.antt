@@ -31,7 +31,11 @@ same-length : tie.Need-same-length
 same-length c = search needs
 
 returns : tie.Need-returns
-returns c = search verse-tag
+returns c =
+    let a = c .before .before .before .before .before .before .before .before .before .before .before .before .before .before .before .before .before .before .before .before .before .before .args in
+    verse-tag (a .tape) (a .file .now) (a .code) (a .number) (a .label) (a .alt) (a .published) (c .before .before .before .before .before .before .before .before .before .before .before .before .before .before .before .before .before .before .before .source .ensures .0) (c .before .before .before .before .before .before .before .before .before .before .before .before .before .before .before .before .before .before .part .ensures .0)
+    (c .before .before .before .before .before .before .before .before .before .before .before .before .before .before .before .before .before .part2 .ensures .0) _ _ _ _ (c .before .before .before .before .before .before .before .before .before .before .before .before .before .before .before .put-verse-head .ensures) (c .before .before .before .before .before .before .before .before .before .before .put-numbered .ensures) (c .before .before .before .before .before .before .put-verse-sid .ensures)
+    (c .before .before .put-verse-tail .ensures)
 
 pub put-verse-spec : {M : Type 1} → statement M
 put-verse-spec =
