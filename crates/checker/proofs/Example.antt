@@ -9,6 +9,8 @@ use Rattle.checker.specs.View.{keyOf, notedBy, noted, markOn, view}
 use Rattle.checker.specs.Steps.{rise, broke, push, pop, growIn, grow, turn, missed, chapterTo, verseTo, isShut, isMilestone, pairUp}
 use Rattle.checker.specs.Check.{stepOn, foldOn, noneOpen, oneTree, pairedOff, verdictOf, settle, foldVerdict}
 use Rattle.checker.specs.Answer.{Answer, answerOf}
+use Rattle.checker.specs.Words.{Judged}
+use Rattle.checker.proofs.Answers.{answers-exact}
 use Rattle.checker.specs.Place.{isBroken, brokenAt, brokenFrom, brokenPlace, lineEnd, lineEnds, lineOf}
 
 abbrev framed : Bytes → Bytes
@@ -51,11 +53,15 @@ table =
 
 abbrev Each : List Row → Type 0
 Each [] = Unit {0}
-Each (r ∷ rs) = (answerOf (foldVerdict (r .text)) ≡ r .answer) × Each rs
+Each (r ∷ rs) = Judged (r .text) (r .answer) × Each rs
 
+computed : {s : Bytes} {a : Answer} → answerOf (foldVerdict s) ≡ a → Judged s a
+computed {s} {a} e = answers-exact s a .0 e
+
+-- each is judged so by document 01's rules
 pub examples : Each table
 unfolding plain escapeAt keyByte ok run which elementAt pairAt pairsAt pairsFrom closeHead openHead textHead headAt tailAt ended tagged headed next tokensAt tokensFrom tokens notedBy noted markOn view rise broke push pop growIn grow turn missed chapterTo verseTo isShut isMilestone pairUp stepOn foldOn noneOpen oneTree pairedOff verdictOf settle foldVerdict same begins answerOf keyOf
-examples = (refl, (refl, (refl, (refl, (refl, (refl, (refl, (refl, (refl, (refl, (refl, (refl, (refl, (refl, (refl, (refl, (refl, tt)))))))))))))))))
+examples = (computed refl, (computed refl, (computed refl, (computed refl, (computed refl, (computed refl, (computed refl, (computed refl, (computed refl, (computed refl, (computed refl, (computed refl, (computed refl, (computed refl, (computed refl, (computed refl, (computed refl, tt)))))))))))))))))
 
 -- a text, and the bytes before the place where its first rule breaks, and the line of it
 pub record Spot : Type 0 where
