@@ -61,11 +61,12 @@ judged-by s e = answers-exact s _ .0 e
 
 abbrev Each : List Row → Type 0
 Each [] = Unit {0}
-Each (r ∷ rs) = (computed (r .text) ≡ r .answer) × Each rs
+Each (r ∷ rs) = Judged (r .text) (r .answer) × Each rs
 
+-- each is judged so by document 01's rules
 pub examples : Each table
 unfolding computed
-examples = (refl, (refl, (refl, (refl, (refl, (refl, (refl, (refl, (refl, (refl, (refl, (refl, (refl, (refl, (refl, (refl, tt))))))))))))))))
+examples = (judged-by _ refl, (judged-by _ refl, (judged-by _ refl, (judged-by _ refl, (judged-by _ refl, (judged-by _ refl, (judged-by _ refl, (judged-by _ refl, (judged-by _ refl, (judged-by _ refl, (judged-by _ refl, (judged-by _ refl, (judged-by _ refl, (judged-by _ refl, (judged-by _ refl, (judged-by _ refl, tt))))))))))))))))
 
 -- a text, and the bytes before the place where its first rule breaks, and the line of it
 pub record Spot : Type 0 where
