@@ -21,6 +21,7 @@ deepFrom t (suc n) i o c =
       | false ↦ deepFrom t n (i + 1) (o + cond (container t i) 1 0) (c + cond (close t i) 1 0)
     ]
 
+-- refusal 6: over 64 containers are open before some node
 unfoldable pub tooDeep : List Node → Bool
 tooDeep t = deepFrom t (length t) 0 0 0
 
@@ -37,15 +38,18 @@ unfoldable pub matchFrom : List Node → ℕ → ℕ → Option (List ℕ) → O
 matchFrom t zero i s = s
 matchFrom t (suc n) i s = matchFrom t n (i + 1) (stepOf (partOf t i) i s)
 
+-- no rule was broken, and no close is awaited
 unfoldable pub allMatched : Option (List ℕ) → Bool
 allMatched none = false
 allMatched (some []) = true
 allMatched (some (c ∷ s)) = false
 
+-- Root's link is the node count, or the last node where that is a BlockEnd
 unfoldable pub rootEnds : List Node → Bool
 rootEnds t =
     eqb (linkAt t 0) (length t)
     || (eqb (linkAt t 0 + 1) (length t) && eqb (kindAt t (linkAt t 0)) kinds.blockEnd)
 
+-- neither 6 nor 7 applies: Root ends as it should, and every close before Root's link is the one awaited
 unfoldable pub sound : List Node → Bool
 sound t = rootEnds t && allMatched (matchFrom t (linkAt t 0) 0 (some []))

@@ -20,9 +20,11 @@ container t i = eqb (kindAt t i) kinds.markerOpen && not (eqb (linkAt t i) i)
 unfoldable pub close : List Node → ℕ → Bool
 close t i = eqb (kindAt t i) kinds.markerClose || eqb (kindAt t i) kinds.blockEnd
 
+-- a node is a container
 abbrev pub Container : List Node → ℕ → Type 0
 Container t i = container t i ≡ true
 
+-- a node is a close
 abbrev pub Close : List Node → ℕ → Type 0
 Close t i = close t i ≡ true
 

@@ -38,10 +38,12 @@ pub record Row (t : List Node) (a b : ℕ) : Type 0 where
   pub nodes : List ℕ
   pub tiles : Tiles t a b nodes
 
+-- a node stands in a list
 abbrev pub In : ℕ → List ℕ → Type 0
 In j [] = ⊥
 In j (k ∷ ks) = (j ≡ k) ⊎ In j ks
 
+-- the sum of a measure over a list of nodes
 unfoldable pub sumOf : (ℕ → ℕ) → List ℕ → ℕ
 sumOf f [] = 0
 sumOf f (k ∷ ks) = f k + sumOf f ks
