@@ -7,7 +7,7 @@ use lib.ListN.{length}
 use lib.Dec.{eqb, ltb}
 use Rattle.tape.specs.declared.Node.{Node}
 use Rattle.nest.specs.Tape.{kindAt, linkAt}
-use Rattle.nest.specs.Nest.{container, close, partOf}
+use Rattle.nest.specs.Nest.{container, close, partOf, mostOpen}
 use Rattle.nest.specs.declared.Part.{Part}
 use Rattle.nest.specs.declared.Part.the-variants.{Opens, Closes, Leaf}
 use Rattle.tape.specs.Kind as kinds
@@ -16,7 +16,7 @@ use Rattle.tape.specs.Kind as kinds
 unfoldable pub deepFrom : List Node → ℕ → ℕ → ℕ → ℕ → Bool
 deepFrom t zero i o c = false
 deepFrom t (suc n) i o c =
-    elim (ltb (c + 64) o) [
+    elim (ltb (c + mostOpen) o) [
       | true ↦ true
       | false ↦ deepFrom t n (i + 1) (o + cond (container t i) 1 0) (c + cond (close t i) 1 0)
     ]
@@ -28,7 +28,7 @@ tooDeep t = deepFrom t (length t) 0 0 0
 -- the awaited closes past node i; none where a rule is broken
 unfoldable pub stepOf : Part → ℕ → Option (List ℕ) → Option (List ℕ)
 stepOf p i none = none
-stepOf (Opens l) i (some s) = cond (eqb (length s) 64) none (some (l ∷ s))
+stepOf (Opens l) i (some s) = cond (eqb (length s) mostOpen) none (some (l ∷ s))
 stepOf Closes i (some []) = none
 stepOf Closes i (some (c ∷ s)) = cond (eqb c i) (some s) none
 stepOf Leaf i (some s) = some s
