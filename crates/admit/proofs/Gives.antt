@@ -23,10 +23,10 @@ use Rattle.tape.proofs.Laws.{node-count, entry-count}
 use Rattle.tape.proofs.Walk.{walk-done, walk-at}
 use Rattle.nest.specs.Tape.{linkAt}
 use Rattle.nest.specs.Nest.{container, close, Container, Close, count, Nested, RootEnds, Sound}
-use Rattle.nest.specs.Walk.{past, stops, children as nestChildren, Tiles, In}
+use Rattle.nest.specs.Walk.{past, Tiles, Row, In}
 use Rattle.nest.proofs.Tape.{clash, kind-opens, close-5, close-inside}
 use Rattle.nest.proofs.Nested.{order, ends-in, before-root}
-use Rattle.nest.proofs.Walk.{past-forward, children-tile, root-tile, tiles-in, InOne, in-one}
+use Rattle.nest.proofs.Walk.{stops, past-forward, children-row, root-row, tiles-in, InOne, in-one}
 use Rattle.nest.proofs.Depth.{Open, depth-left, child-open, root-open}
 use Rattle.admit.specs.Rules.{GoodEntry, GoodNode}
 use Rattle.admit.specs.Pieces.{GoodSpan}
@@ -216,22 +216,28 @@ module _ (file : Bytes) (z : Kept₇ file) where
 
   -- ---- children
 
-  -- the cursor's children are those of the nesting
-  pub children-same : (k : ℕ) → Container (t .nodes) k → children t k ≡ nestChildren (t .nodes) k
+  -- the ranges of a container's children are what lies between it and its link
+  pub children-cover : (k : ℕ) → Container (t .nodes) k → Tiles (t .nodes) (k + 1) (linkAt (t .nodes) k) (children t k)
   unfolding holds nodeAt
-  children-same k o =
+  children-cover k o =
       let l = link-ahead k o in
-      children-are t (z .nested) root-only (linkAt (t .nodes) k) (stops-close t (z .nested) (linkAt (t .nodes) k) (l .2)) (omega (arith, l .1)) (nestChildren (t .nodes) k) k
-      (rw (kind-opens (t .nodes) k o)) refl (children-tile (t .nodes) (z .nested) k o)
+      let row : Row (t .nodes) (k + 1) (linkAt (t .nodes) k) = children-row (t .nodes) (z .nested) k o in
+      rw
+      (children-are t (z .nested) root-only (linkAt (t .nodes) k) (stops-close t (z .nested) (linkAt (t .nodes) k) (l .2)) (omega (arith, l .1)) (row .nodes) k
+      (rw (kind-opens (t .nodes) k o)) refl (row .tiles))
+      (row .tiles)
 
   root-inside : linkAt (t .nodes) 0 ≤ length (t .nodes)
   root-inside = ⊎-elim (λ e. omega arith) (λ e. omega (arith, e .0)) (z .nested .root)
 
-  pub root-same : children t 0 ≡ nestChildren (t .nodes) 0
+  -- and those of Root's what lies between it and its end
+  pub root-cover : Tiles (t .nodes) 1 (linkAt (t .nodes) 0) (children t 0)
   unfolding holds nodeAt
-  root-same =
-      children-are t (z .nested) root-only (linkAt (t .nodes) 0) (stops-end t (z .nested) (z .nested .root)) root-inside (nestChildren (t .nodes) 0) 0
-      (rw root-first) refl (root-tile (t .nodes) (z .nested) root-first (node-limit .0))
+  root-cover =
+      let row : Row (t .nodes) 1 (linkAt (t .nodes) 0) = root-row (t .nodes) (z .nested) root-first (node-limit .0) in
+      rw
+      (children-are t (z .nested) root-only (linkAt (t .nodes) 0) (stops-end t (z .nested) (z .nested .root)) root-inside (row .nodes) 0 (rw root-first) refl (row .tiles))
+      (row .tiles)
 
   -- what is neither Root nor a container has none
   pub leaf-children : (k : ℕ) → container (t .nodes) k ≡ false → (k ≡ 0 → ⊥) → children t k ≡ []
@@ -244,14 +250,6 @@ module _ (file : Bytes) (z : Kept₇ file) where
       go true true e d = rw (le-ltb (k + 1) (nodeAt t k .link) (omega (arith, eqb-true (nodeAt t k .link) k e))) (walk-done t)
       go true false e d = absurd (clash refl d)
       go false y e d = walk-done t
-
-  -- the ranges of a container's children are what lies between it and its link
-  pub children-cover : (k : ℕ) → Container (t .nodes) k → Tiles (t .nodes) (k + 1) (linkAt (t .nodes) k) (children t k)
-  children-cover k o = rw (children-same k o) (children-tile (t .nodes) (z .nested) k o)
-
-  pub root-cover : Tiles (t .nodes) 1 (linkAt (t .nodes) 0) (children t 0)
-  unfolding nodeAt
-  root-cover = rw root-same (root-tile (t .nodes) (z .nested) root-first (node-limit .0))
 
   -- each node between lies in the range of exactly one
   pub in-one-child : (k j : ℕ) → Container (t .nodes) k → k < j → j < linkAt (t .nodes) k → InOne (t .nodes) (children t k) j
@@ -267,10 +265,10 @@ module _ (file : Bytes) (z : Kept₇ file) where
   -- none is open before a child of Root, and one more before each child of a container; at a container depth is left
   pub root-depth : (c : ℕ) → In c (children t 0) → Open (t .nodes) c 0
   unfolding nodeAt
-  root-depth c i = root-open (t .nodes) (z .nested) root-first (node-limit .0) c (rw root-same at i)
+  root-depth c i = root-open (t .nodes) (z .nested) root-first (children t 0) root-cover c i
 
   pub child-depth : (k h : ℕ) → Container (t .nodes) k → Open (t .nodes) k h → (c : ℕ) → In c (children t k) → Open (t .nodes) c (h + 1)
-  child-depth k h o e c i = child-open (t .nodes) (z .nested) k h o e c (rw (children-same k o) at i)
+  child-depth k h o e c i = child-open (t .nodes) (z .nested) k h o e (children t k) (children-cover k o) c i
 
   pub left-depth : (k h d : ℕ) → Container (t .nodes) k → Open (t .nodes) k h → h + d ≡ 64 → 0 < d
   left-depth = depth-left (t .nodes) sound-of

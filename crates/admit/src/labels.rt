@@ -94,13 +94,30 @@ fn tabled(file: &[u8], t: Sections, enders: &mut [u32], gaps: &mut [u32]) -> boo
     good_verses(file, t, enders, gaps)
 }
 
-// The same with tables that have a place for each 64 bytes of the longest source.
-fn judged(file: &[u8], t: Sections) -> bool
+// The same with tables that have a place for each block of 64 bytes of the longest source.
+fn judged_long(file: &[u8], t: Sections) -> bool
     ensures { λ r. ⌜ (SoundNodes (tapeIn t (now (file .entry))) → (r ≡ true) ↔ GoodVerses (tapeIn t (now (file .entry)))) ⌝ }
 {
     let mut enders = [0u32; 65536];
     let mut gaps = [0u32; 65536];
     tabled(file, t, &mut enders, &mut gaps)
+}
+
+// The same with tables that are lent, where they have a place for each block of the source, or else with longer ones. It calls itself, so the
+// compiler leaves the longest tables to a function of their own: short sources take no stack for them.
+fn judged(file: &[u8], t: Sections, enders: &mut [u32], gaps: &mut [u32]) -> bool
+    ensures { λ r. ⌜ (SoundNodes (tapeIn t (now (file .entry))) → (r ≡ true) ↔ GoodVerses (tapeIn t (now (file .entry)))) ⌝ }
+{
+    let blocks = enders.len();
+    if long(t.source) / 64 < blocks {
+        return tabled(file, t, enders, gaps);
+    }
+    if blocks < 1024 {
+        let mut more_enders = [0u32; 1024];
+        let mut more_gaps = [0u32; 1024];
+        return judged(file, t, &mut more_enders, &mut more_gaps);
+    }
+    judged_long(file, t)
 }
 
 // 5: every label is good. Tables are made only where the byte behind some cut continues a character.
@@ -110,5 +127,7 @@ pub fn good_labels(file: &[u8], t: Sections) -> bool
     if all_clear(file, t) {
         return true;
     }
-    judged(file, t)
+    let mut enders = [0u32; 64];
+    let mut gaps = [0u32; 64];
+    judged(file, t, &mut enders, &mut gaps)
 }

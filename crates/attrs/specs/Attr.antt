@@ -60,9 +60,11 @@ valueAt s at = valueFrom s (at + whiteLen Unicode (drop at s))
 
 -- ---- pairs
 
+-- where the first `=` stands; the length where there is none
 unfoldable pub equals : Bytes → ℕ
 equals s = find (b "=") s
 
+-- whether a text holds a `=`
 unfoldable pub hasEquals : Bytes → Bool
 hasEquals s = ltb (equals s) (length s)
 
@@ -108,6 +110,7 @@ defaultKey m =
 unfoldable pub keyFor : Bytes → Bytes → Bytes
 keyFor marker key = cond (same marker (b "fig") && same key (b "src")) (b "file") key
 
+-- a pair with the key that a marker gives it
 unfoldable pub keyedFor : Bytes → Pair → Pair
 keyedFor marker p = record { key = keyFor marker (p .key); value = p .value }
 
@@ -127,6 +130,7 @@ pairsOf marker (x ∷ s) =
 unfoldable pub pairsAt : Tape → Bytes → ℕ → List Pair
 pairsAt t marker k = cond (eqb (kindAt t k) kinds.attribute) (pairsOf marker (bodyOf (textAt t k))) []
 
+-- the pairs of a list of nodes
 unfoldable pub pairsAlong : Tape → Bytes → List ℕ → List Pair
 pairsAlong t marker [] = []
 pairsAlong t marker (k ∷ ks) = pairsAt t marker k ++ pairsAlong t marker ks

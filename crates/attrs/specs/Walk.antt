@@ -89,6 +89,7 @@ unfoldable pub firstOf : Bytes → List Pair → Option Bytes
 firstOf key [] = none
 firstOf key (p ∷ ps) = cond (same (p .key) key) (some (p .value)) (firstOf key ps)
 
+-- the value that was sought, as bytes
 unfoldable pub soughtOf : Bytes → Sought → Option Bytes
 soughtOf source (At v) = some (valueOf source v)
 soughtOf source Nowhere = none

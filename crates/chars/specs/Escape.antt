@@ -11,6 +11,7 @@ escaped attr x =
     cond (eqb x 60) (b "&lt;")
     (cond (eqb x 62) (b "&gt;") (cond (eqb x 38) (b "&amp;") (cond (attr && eqb x 34) (b "&quot;") (x ∷ []))))
 
+-- a text with its escapes, as text or as a value of an attribute
 unfoldable pub escape : Bool → Bytes → Bytes
 escape attr [] = []
 escape attr (x ∷ s) = escaped attr x ++ escape attr s

@@ -51,12 +51,14 @@ unfoldable pub step : Bytes → ℕ
 step [] = 0
 step (x ∷ s) = max 1 (seqLen (x ∷ s))
 
--- a text cut into pieces, where `size` gives the length of the first; `k` bytes belong to one that is taken already
+-- a text cut into pieces, where `size` gives the length of the first of what is left. A definition by cases goes on a byte at a time:
+-- `k` counts the bytes of a piece that is taken already and are still to be passed
 unfoldable pub cutAt : (Bytes → ℕ) → ℕ → Bytes → List Bytes
 cutAt size k [] = []
 cutAt size (suc k) (x ∷ s) = cutAt size k s
 cutAt size zero (x ∷ s) = take (size (x ∷ s)) (x ∷ s) ∷ cutAt size (size (x ∷ s) - 1) s
 
+-- a text cut into pieces, where `size` gives the length of the first
 abbrev pub cut : (Bytes → ℕ) → Bytes → List Bytes
 cut size s = cutAt size zero s
 
@@ -68,6 +70,7 @@ characters s = cut step s
 unfoldable pub isSequence : Bytes → Bool
 isSequence c = eqb (seqLen c) (length c)
 
+-- whether each of some pieces passes a test
 unfoldable pub every : (Bytes → Bool) → List Bytes → Bool
 every p [] = true
 every p (c ∷ cs) = p c && every p cs

@@ -17,6 +17,7 @@ use Rattle.render.specs.Shape.{isAttribute}
 use Rattle.render.specs.Children.{firstText}
 use Rattle.attrs.specs.Attr.{Pair, hasEquals}
 
+-- an Attribute whose text holds no `=`
 unfoldable pub ifLegacy : Tape → Step → Step
 ifLegacy t Done = Done
 ifLegacy t (At a) = cond (hasEquals (strip 124 (textAt t (a .at)))) Done (At a)
@@ -34,6 +35,7 @@ split x (y ∷ s) = cond (eqb y x) ([] ∷ split x s) (onto (y ∷ []) (split x 
 unfoldable pub fieldAt : Tape → ℕ → ℕ → Bytes
 fieldAt t a n = trim Unicode (getD (split 124 (strip 124 (textAt t a))) n [])
 
+-- the text of a node without white space at both ends
 unfoldable pub trimmedAt : Tape → Step → Bytes
 trimmedAt t Done = []
 trimmedAt t (At c) = trim Unicode (textAt t (c .at))

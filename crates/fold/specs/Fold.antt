@@ -18,6 +18,7 @@ use Rattle.fold.specs.declared.Claim.{Claim}
 use Rattle.fold.specs.declared.Claim.the-variants.{Blank, Alt, Pub, Stops}
 use Rattle.tape.specs.Kind as kinds
 
+-- what a marker claims by its name: the alternate number, the published one, or neither
 unfoldable pub slotBy : Bytes → Bytes → Bytes → Claim
 slotBy name alt published = cond (same name alt) Alt (cond (same name published) Pub Stops)
 
@@ -58,10 +59,12 @@ pub record Folded : Type 0 where
   pub published : Option Bytes
   pub rest : List ℕ
 
+-- whether a number is taken
 unfoldable pub isSome : Option Bytes → Bool
 isSome none = false
 isSome (some s) = true
 
+-- the numbers and what is left behind them, from the numbers so far
 unfoldable pub foldFrom : Tape → ℕ → Option Bytes → Option Bytes → List ℕ → Folded
 foldFrom t anchor alt published [] = record { alt = alt; published = published; rest = [] }
 foldFrom t anchor alt published (k ∷ ks) =

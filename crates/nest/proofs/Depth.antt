@@ -9,9 +9,9 @@ use lib.ListN.{length}
 use Rattle.tape.specs.declared.Node.{Node}
 use Rattle.nest.specs.Tape.{kindAt, linkAt}
 use Rattle.nest.specs.Nest.{container, close, Container, Close, count, Nested, Sound}
-use Rattle.nest.specs.Walk.{past, children, Tiles, In}
+use Rattle.nest.specs.Walk.{past, Tiles, In}
 use Rattle.nest.proofs.Tape.{clash, opens-not, close-not, one-part, close-inside, count-yes, count-no}
-use Rattle.nest.proofs.Walk.{past-open, past-leaf, past-forward, by-test, by-part, children-tile, root-tile, tiles-in}
+use Rattle.nest.proofs.Walk.{past-open, past-leaf, past-forward, by-test, by-part, children-row, tiles-in}
 
 -- h containers are open before node i
 abbrev pub Open : List Node → ℕ → ℕ → Type 0
@@ -47,19 +47,20 @@ module _ (t : List Node) (z : Nested t) where
           let end = linkAt t a in
           let shut : Close t end = z .later a o .1 in
           let none : container t end ≡ false = by-test (container t end) (λ u. clash shut (one-part t end u)) in
-          let inner = tiles-even n f (children t a) (a + 1) end (h + 1) (children-tile t z a o) (omega (arith, past-open t a o)) (open-next a h o e) in
+          let row = children-row t z a o in
+          let inner = tiles-even n f (row .nodes) (a + 1) end (h + 1) (row .tiles) (omega (arith, past-open t a o)) (open-next a h o e) in
           subst (λ (i : ℕ). Open t i h) (sym (past-open t a o)) (omega (arith, inner .0, count-yes (close t) end shut, count-no (container t) end none))
 
-  -- one more is open before each child of a container
-  pub child-open : (k h : ℕ) → Container t k → Open t k h → (c : ℕ) → In c (children t k) → Open t c (h + 1)
-  child-open k h o e c i =
-      tiles-even (linkAt t k) (node-even (linkAt t k)) (children t k) (k + 1) (linkAt t k) (h + 1) (children-tile t z k o) (omega arith) (open-next k h o e) .1 c i
+  -- one more is open before each of the siblings in a container
+  pub child-open : (k h : ℕ) → Container t k → Open t k h → (ks : List ℕ) → Tiles t (k + 1) (linkAt t k) ks → (c : ℕ) → In c ks → Open t c (h + 1)
+  child-open k h o e ks s c i =
+      tiles-even (linkAt t k) (node-even (linkAt t k)) ks (k + 1) (linkAt t k) (h + 1) s (omega arith) (open-next k h o e) .1 c i
 
-  -- none is open before a child of Root
-  pub root-open : kindAt t 0 ≡ 0 → 0 < length t → (c : ℕ) → In c (children t 0) → Open t c 0
+  -- none is open before each of those in Root
+  pub root-open : kindAt t 0 ≡ 0 → (ks : List ℕ) → Tiles t 1 (linkAt t 0) ks → (c : ℕ) → In c ks → Open t c 0
   unfolding count
-  root-open r h c i =
-      tiles-even (linkAt t 0) (node-even (linkAt t 0)) (children t 0) 1 (linkAt t 0) 0 (root-tile t z r h) (omega arith) first .1 c i
+  root-open r ks s c i =
+      tiles-even (linkAt t 0) (node-even (linkAt t 0)) ks 1 (linkAt t 0) 0 s (omega arith) first .1 c i
     where
       none : close t 0 ≡ false
       none = close-not t 0 (λ e. omega arith) (λ e. omega arith)

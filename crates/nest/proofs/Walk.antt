@@ -1,10 +1,9 @@
--- On a tape that nests the children of a container, and of Root, tile the nodes between it and its end.
+-- On a tape that nests a row of siblings covers the nodes between a container, or Root, and its end.
 use mathlib.Core.Path.{_≡_, refl, sym, ap, _∙_, subst}
 use mathlib.Core.Bool.{Bool, true, false, _||_, or-true}
 use mathlib.Core.List.{List, [], _∷_}
 use mathlib.Core.Logic.{inl, inr, ⊎-elim}
-use Prim.Native.Nat.{ℕ, zero, suc, _+_, _*_, _≤_, _<_}
-use native.Mathlib.Nat.{mul-add, mul-one, mul-le-mul-left}
+use Prim.Native.Nat.{ℕ, zero, suc, _+_, _≤_, _<_}
 use native.Mathlib.Omega.{arith}
 use lib.ListN.{length}
 use lib.Dec.{leb}
@@ -12,9 +11,18 @@ use borrow.Author.Tests.{le-leb, lt-leb}
 use Rattle.tape.specs.declared.Node.{Node}
 use Rattle.nest.specs.Tape.{kindAt, linkAt}
 use Rattle.nest.specs.Nest.{container, close, Container, Close, Nested}
-use Rattle.nest.specs.Walk.{past, stops, along, children, Tiles, Row, In, sumOf}
+use Rattle.nest.specs.Walk.{past, Tiles, Row, In}
 use Rattle.nest.proofs.Tape.{clash, one-part, opens-not, close-5, close-inside}
 use Rattle.nest.proofs.Nested.{order, ends-in, before-root}
+
+-- a row of siblings ends before a close and at the tape's end
+unfoldable pub stops : List Node → ℕ → Bool
+stops t a = leb (length t) a || close t a
+
+-- the row from a on, at most n
+unfoldable row : List Node → ℕ → ℕ → List ℕ
+row t zero a = []
+row t (suc n) a = elim (stops t a) [ true ↦ [] | false ↦ a ∷ row t n (past t a) ]
 
 pub past-open : (t : List Node) (a : ℕ) → Container t a → past t a ≡ linkAt t a + 1
 unfolding past
@@ -125,55 +133,40 @@ module _ (t : List Node) (k b : ℕ) (s : Span t k b) where
       let m = s .closes a h l (close-of t a (omega (arith, s .short)) e) in
       omega (arith, m .4, v (m .0) (m .1) (m .2) (m .3))
 
-  tile : (n a : ℕ) → k < a → a ≤ b → Level a → b ≤ n + a → Tiles t a b (along t n a)
-  unfolding along
+  tile : (n a : ℕ) → k < a → a ≤ b → Level a → b ≤ n + a → Tiles t a b (row t n a)
+  unfolding row
   tile zero a h l v f = omega arith
   tile (suc n) a h l v f = go (stops t a) refl (tile n (past t a))
     where
       go : (x : Bool) → stops t a ≡ x
-          → (k < past t a → past t a ≤ b → Level (past t a) → b ≤ n + past t a → Tiles t (past t a) b (along t n (past t a)))
-          → Tiles t a b (elim x [ true ↦ [] | false ↦ a ∷ along t n (past t a) ])
+          → (k < past t a → past t a ≤ b → Level (past t a) → b ≤ n + past t a → Tiles t (past t a) b (row t n (past t a)))
+          → Tiles t a b (elim x [ true ↦ [] | false ↦ a ∷ row t n (past t a) ])
       go true e r = order a b (λ g. absurd (goes-on a h g v e)) (λ g. absurd (omega arith)) (λ g. g)
       go false e r =
           order a b
           (λ g. let p = past-in a h g in (refl, open-of t a e, p .0, r (omega (arith, p .0)) (p .1) (level-past a h g v) (omega (arith, p .0))))
           (λ g. absurd (omega arith)) (λ g. absurd (clash (s .ends) (sym (ap (stops t) g) ∙ e)))
 
-  tile-all : k < b → Tiles t (k + 1) b (children t k)
-  unfolding children
-  tile-all h = tile (length t) (k + 1) (omega arith) (omega arith) (λ m g d. absurd (omega arith)) (omega (arith, s .short))
+  row-of : k < b → Row t (k + 1) b
+  row-of h =
+      record {
+        nodes = row t (length t) (k + 1);
+        tiles = tile (length t) (k + 1) (omega arith) (omega arith) (λ m g d. absurd (omega arith)) (omega (arith, s .short));
+      }
 
 root-leaf : (t : List Node) → kindAt t 0 ≡ 0 → container t 0 ≡ false
 root-leaf t r = opens-not t 0 (λ e. omega arith)
 
--- the children of a container tile what lies between it and its link
-pub children-tile : (t : List Node) → Nested t → (k : ℕ) → Container t k → Tiles t (k + 1) (linkAt t k) (children t k)
-children-tile t z k o = tile-all t k (linkAt t k) (span-of t z k o) (z .later k o .0)
+-- siblings cover what lies between a container and its link
+pub children-row : (t : List Node) → Nested t → (k : ℕ) → Container t k → Row t (k + 1) (linkAt t k)
+children-row t z k o = row-of t k (linkAt t k) (span-of t z k o) (z .later k o .0)
 
--- those of Root what lies between it and its end
-pub root-tile : (t : List Node) → Nested t → kindAt t 0 ≡ 0 → 0 < length t → Tiles t 1 (linkAt t 0) (children t 0)
-root-tile t z r h = tile-all t 0 (linkAt t 0) (span-root t z (root-leaf t r)) (⊎-elim {C = 0 < linkAt t 0} (λ p. omega arith) (λ p. last (p .1)) (z .root))
+-- and what lies between Root and its end
+pub root-row : (t : List Node) → Nested t → kindAt t 0 ≡ 0 → 0 < length t → Row t 1 (linkAt t 0)
+root-row t z r h = row-of t 0 (linkAt t 0) (span-root t z (root-leaf t r)) (⊎-elim {C = 0 < linkAt t 0} (λ p. omega arith) (λ p. last (p .1)) (z .root))
   where
     last : kindAt t (linkAt t 0) ≡ 5 → 0 < linkAt t 0
     last p = order 0 (linkAt t 0) (λ g. g) (λ g. absurd (omega arith)) (λ g. absurd (omega (arith, ap (kindAt t) g)))
-
--- siblings lead from node 0 to Root's end, whatever node 0 is
-pub root-row : (t : List Node) → Nested t → Row t 0 (linkAt t 0)
-root-row t z = order 0 (linkAt t 0) long (λ g. absurd (omega arith)) (λ g. record { nodes = []; tiles = g })
-  where
-    no-close : 0 < linkAt t 0 → close t 0 ≡ false
-    no-close h = by-test (close t 0) (λ c. ⊎-elim {C = ⊥} (λ r. omega (arith, r .0)) (λ r. omega (arith, z .later (r .1 .0) (r .1 .1) .0, r .1 .2)) (z .named 0 c))
-
-    no-open : container t 0 ≡ false
-    no-open = by-test (container t 0) (λ o. omega (arith, before-root t z 0 o))
-
-    long : 0 < linkAt t 0 → Row t 0 (linkAt t 0)
-    long h =
-        let one : past t 0 ≡ 1 = past-leaf t 0 no-open in
-        record {
-          nodes = 0 ∷ children t 0;
-          tiles = (refl, no-close h, omega arith, subst (λ (a : ℕ). Tiles t a (linkAt t 0) (children t 0)) (sym one) (tile-all t 0 (linkAt t 0) (span-root t z no-open) h));
-        }
 
 -- ---- what tiles give
 
@@ -215,34 +208,3 @@ in-one t (x ∷ ks) a b j e h l =
       r .3,
       λ m i u v. ⊎-elim (λ p. absurd (omega (arith, same, ap (past t) p))) (λ i. r .4 m i u v) i,
     )
-
--- what costs at most c a node costs at most c for each node from a to b
-pub sum-tiles : (t : List Node) (f : ℕ → ℕ) (c : ℕ) → ((k : ℕ) → f k + c * k ≤ c * past t k)
-    → (ks : List ℕ) (a b : ℕ) → Tiles t a b ks → sumOf f ks + c * a ≤ c * b
-unfolding sumOf
-sum-tiles t f c w [] a b e = omega (arith, ap (λ (k : ℕ). c * k) e)
-sum-tiles t f c w (x ∷ ks) a b e =
-    omega (arith, w a, ap f (e .0), sum-tiles t f c w ks (past t a) b (e .3))
-
--- a walk that costs at most c at a node, besides what its children cost one level down, costs at most c
--- for each node that it covers
-module _ (t : List Node) (z : Nested t) (c : ℕ) (cost : ℕ → ℕ → ℕ)
-    (bottom : (k : ℕ) → cost 0 k ≤ c)
-    (leaf : (d k : ℕ) → container t k ≡ false → cost (suc d) k ≤ c)
-    (whole : (d k : ℕ) → Container t k → cost (suc d) k ≤ c + sumOf (cost d) (children t k)) where
-  -- a node has room for its own cost
-  room : (k : ℕ) → c + c * k ≤ c * past t k
-  room k = omega (arith, mul-le-mul-left c (past-forward t z k), mul-add c k 1, mul-one c)
-
-  pub node-cost : (d k : ℕ) → cost d k + c * k ≤ c * past t k
-  node-cost zero k = omega (arith, bottom k, room k)
-  node-cost (suc d) k = by-part t k (open-cost (node-cost d)) (λ o. omega (arith, leaf d k o, room k))
-    where
-      open-cost : ((k : ℕ) → cost d k + c * k ≤ c * past t k) → Container t k → cost (suc d) k + c * k ≤ c * past t k
-      open-cost w o =
-          let inner : sumOf (cost d) (children t k) + c * (k + 1) ≤ c * linkAt t k = sum-tiles t (cost d) c w (children t k) (k + 1) (linkAt t k) (children-tile t z k o) in
-          omega (arith, whole d k o, inner, mul-add c k 1, mul-one c, ap (λ (n : ℕ). c * n) (past-open t k o), mul-add c (linkAt t k) 1)
-
-  pub tape-cost : kindAt t 0 ≡ 0 → 0 < length t → (d : ℕ) → sumOf (cost d) (children t 0) ≤ c * length t
-  tape-cost r h d =
-      omega (arith, sum-tiles t (cost d) c (node-cost d) (children t 0) 1 (linkAt t 0) (root-tile t z r h), mul-le-mul-left c (span-root t z (root-leaf t r) .short))

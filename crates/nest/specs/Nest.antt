@@ -20,9 +20,11 @@ container t i = eqb (kindAt t i) kinds.markerOpen && not (eqb (linkAt t i) i)
 unfoldable pub close : List Node → ℕ → Bool
 close t i = eqb (kindAt t i) kinds.markerClose || eqb (kindAt t i) kinds.blockEnd
 
+-- a node is a container
 abbrev pub Container : List Node → ℕ → Type 0
 Container t i = container t i ≡ true
 
+-- a node is a close
 abbrev pub Close : List Node → ℕ → Type 0
 Close t i = close t i ≡ true
 
@@ -35,9 +37,13 @@ unfoldable pub count : (ℕ → Bool) → ℕ → ℕ
 count f zero = 0
 count f (suc n) = count f n + cond (f n) 1 0
 
+-- the most containers that are open at once
+abbrev pub mostOpen : ℕ
+mostOpen = 64
+
 -- containers less closes before node i, over 64; closes may take the difference below zero
 abbrev pub DeepAt : List Node → ℕ → Type 0
-DeepAt t i = count (close t) i + 64 < count (container t) i
+DeepAt t i = count (close t) i + mostOpen < count (container t) i
 
 -- refusal 6
 abbrev pub TooDeep : List Node → Type 0

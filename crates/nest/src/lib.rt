@@ -8,6 +8,9 @@ ghost use Rattle.nest.specs.Nest.{partOf, TooDeep, RootEnds, Sound};
 use tape::Kind;
 use tape::Sections;
 
+// The most containers that are open at once.
+const MOST_OPEN: usize = 64;
+
 // What a node does to the nesting; a container opens up to its link.
 pub enum Part {
     Opens(u32),
@@ -40,7 +43,7 @@ pub fn too_deep(file: &[u8], t: Sections) -> bool
     let mut closes: usize = 0;
     let mut i: u32 = 0;
     while i < n {
-        if closes + 64 < opens {
+        if closes + MOST_OPEN < opens {
             return true;
         }
         let p = part_at(file, t, i);
@@ -83,7 +86,7 @@ pub fn nests(file: &[u8], t: Sections) -> bool
         return false;
     }
     let end = root_link(file, t);
-    let mut awaited = [0u32; 64];
+    let mut awaited = [0u32; MOST_OPEN];
     let mut top: usize = 0;
     let mut i: u32 = 0;
     while i < end {
@@ -91,7 +94,7 @@ pub fn nests(file: &[u8], t: Sections) -> bool
         i += 1;
         match part_at(file, t, at) {
             Part::Opens(l) => {
-                if top == 64 {
+                if top == MOST_OPEN {
                     return false;
                 }
                 awaited[top] = l;

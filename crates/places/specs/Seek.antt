@@ -36,6 +36,7 @@ gapAt u = whiteAt u && solidAt (drop (step u) u)
 unfoldable pub solidByte : Bytes → Bool
 solidByte u = ltb 0 (length u) && not (isAsciiWhite (getD u 0 0))
 
+-- whether the front of a text passes a test
 unfoldable pub passesAt : Test → Bytes → Bool
 passesAt Ender u = endsAt u
 passesAt Gap u = gapAt u

@@ -97,6 +97,7 @@ pub record IsCode (t : Tape) (k : ℕ) (p : Part) : Type 0 where
 unfoldable pub bookRest : Tape → ℕ → Bytes
 bookRest t k = joined (drop 1 (firstWords t k))
 
+-- a text that is not empty
 unfoldable pub unlessEmpty : Bytes → Option Bytes
 unlessEmpty [] = none
 unlessEmpty (x ∷ s) = some (x ∷ s)

@@ -18,9 +18,11 @@ use Rattle.tape.specs.Element as elements
 
 -- ---- kinds
 
+-- whether a node is a Text
 abbrev pub isText : Tape → ℕ → Bool
 isText t k = eqb (kindAt t k) kinds.text
 
+-- whether a node is an Attribute
 abbrev pub isAttribute : Tape → ℕ → Bool
 isAttribute t k = eqb (kindAt t k) kinds.attribute
 
@@ -28,12 +30,15 @@ isAttribute t k = eqb (kindAt t k) kinds.attribute
 abbrev pub isOpen : Tape → ℕ → Bool
 isOpen t k = eqb (kindAt t k) kinds.markerOpen
 
+-- whether a node is a Chapter
 abbrev pub isChapter : Tape → ℕ → Bool
 isChapter t k = eqb (kindAt t k) kinds.chapter
 
+-- whether a node is a Verse
 abbrev pub isVerse : Tape → ℕ → Bool
 isVerse t k = eqb (kindAt t k) kinds.verse
 
+-- whether a node is an Error
 abbrev pub isError : Tape → ℕ → Bool
 isError t k = eqb (kindAt t k) kinds.error
 
@@ -43,6 +48,7 @@ isError t k = eqb (kindAt t k) kinds.error
 unfoldable pub closedBy : ℕ → Shape
 closedBy kind = cond (eqb kind kinds.blockEnd) Block (cond (eqb kind kinds.markerClose) Inline Leaf)
 
+-- the shape of a MarkerOpen by its entry: of one that is unknown, by the kind of its close
 unfoldable pub shapeBy : Tape → ℕ → Info → Shape
 shapeBy t k (Known e) = Other
 shapeBy t k Unknown = closedBy (kindAt t (nodeAt t k .link))
@@ -51,12 +57,14 @@ shapeBy t k Unknown = closedBy (kindAt t (nodeAt t k .link))
 unfoldable pub unknownShape : Tape → ℕ → Shape
 unknownShape t k = cond (isOpen t k) (shapeBy t k (infoAt t k)) Other
 
+-- whether an unknown marker is inline
 unfoldable pub isInlineShape : Shape → Bool
 isInlineShape Block = false
 isInlineShape Inline = true
 isInlineShape Leaf = false
 isInlineShape Other = false
 
+-- whether an unknown marker is a block
 unfoldable pub isBlockShape : Shape → Bool
 isBlockShape Block = true
 isBlockShape Inline = false

@@ -32,9 +32,11 @@ bodyTail s = hardSpaces (spaced (words Ascii s))
 
 -- ---- the edges
 
+-- whether a text begins with ASCII white space
 unfoldable pub startsWhite : Bytes → Bool
 startsWhite s = isAsciiWhite (getD s 0 0)
 
+-- whether a text ends with ASCII white space
 unfoldable pub endsWhite : Bytes → Bool
 endsWhite s = isAsciiWhite (getD s (length s - 1) 0)
 
@@ -49,6 +51,7 @@ normalizeText s keepLead keepTrail =
     (record { lead = blankLead s keepLead keepTrail; trail = false; shows = blankLead s keepLead keepTrail })
     (record { lead = startsWhite s && keepLead; trail = endsWhite s && keepTrail; shows = true })
 
+-- one space, or nothing
 unfoldable pub spaceIf : Bool → Bytes
 spaceIf true = 32 ∷ []
 spaceIf false = []

@@ -26,6 +26,7 @@ unfoldable pub white : Set → Bytes → Bool
 white Ascii c = isAsciiWhite (getD c 0 0)
 white Unicode c = isWhite (codeOf c)
 
+-- a character that is no white space
 unfoldable pub solid : Set → Bytes → Bool
 solid set c = not (white set c)
 
@@ -61,6 +62,7 @@ unfoldable pub pieces : (Bytes → Bool) → List Bytes → List Bytes
 pieces p [] = [] ∷ []
 pieces p (c ∷ cs) = cond (p c) ([] ∷ pieces p cs) (onto c (pieces p cs))
 
+-- the pieces that are not empty
 unfoldable pub nonempty : List Bytes → List Bytes
 nonempty [] = []
 nonempty ([] ∷ ws) = nonempty ws
@@ -72,12 +74,15 @@ nonempty ((x ∷ w) ∷ ws) = (x ∷ w) ∷ nonempty ws
 unfoldable pub words : Set → Bytes → List Bytes
 words set s = nonempty (pieces (white set) (charsOf set s))
 
+-- a text without the white space that it begins with
 unfoldable pub trimStart : Set → Bytes → Bytes
 trimStart set s = flatten (dropWhile (white set) (charsOf set s))
 
+-- a text without the white space that it ends with
 unfoldable pub trimEnd : Set → Bytes → Bytes
 trimEnd set s = flatten (dropEnd (white set) (charsOf set s))
 
+-- a text without white space at both ends
 unfoldable pub trim : Set → Bytes → Bytes
 trim set s = trimEnd set (trimStart set s)
 
