@@ -10,18 +10,18 @@ use Rattle.tape.specs.declared.Sections.{Sections}
 use Rattle.nest.specs.Nest.{TooDeep, Sound}
 use Rattle.nest.proofs.Tape.{clash}
 use Rattle.admit.specs.Rules.{LaidOut, Small, GoodNames, GoodNodes}
-use Rattle.admit.specs.Refusal.{Kept₁, Kept₂, Kept₃, Kept₄, Kept₅, Kept₆, Refusal, none, first, second, third, fourth, fifth, sixth, seventh, numberOf, answerWith}
+use Rattle.admit.specs.Refusal.{Kept₁, Kept₂, Kept₃, Kept₄, Kept₅, Kept₆, Refusal, none, first, second, third, fourth, fifth, sixth, seventh, refusalNumber, answerWith}
 use Rattle.admit.specs.declared.Admitted.{Admitted}
 use Rattle.admit.specs.declared.Admitted.the-variants.{Tape, Refused}
 use Rattle.admit.proofs.All.{holds, fails}
 
 -- what the contract says of an answer
 abbrev pub Right : Bytes → Admitted → Type 0
-Right file r = Refusal file (numberOf r) × (r ≡ answerWith file (numberOf r))
+Right file r = Refusal file (refusalNumber r) × (r ≡ answerWith file (refusalNumber r))
 
 module _ (file : Bytes) {b₁ : Bool} (a₁ : (b₁ ≡ true) ↔ LaidOut file) where
   pub gives-1 : not b₁ ≡ true → Right file (Refused 1)
-  unfolding numberOf answerWith
+  unfolding refusalNumber answerWith
   gives-1 h = (first (fails a₁ h), refl)
 
   module _ {b₂ : Bool} (h₁ : not b₁ ≡ false) (a₂ : (b₂ ≡ true) ↔ Small file) where
@@ -29,7 +29,7 @@ module _ (file : Bytes) {b₁ : Bool} (a₁ : (b₁ ≡ true) ↔ LaidOut file) 
     kept₁ = record { laid = holds a₁ h₁ }
 
     pub gives-2 : not b₂ ≡ true → Right file (Refused 2)
-    unfolding numberOf answerWith
+    unfolding refusalNumber answerWith
     gives-2 h = (second kept₁ (fails a₂ h), refl)
 
     module _ {t : Sections} {s : Bytes} {b₃ : Bool} (h₂ : not b₂ ≡ false) (et : t ≡ sectionsOf file) (es : s ≡ tapeIn t file .source) (e₃ : b₃ ≡ isUtf8 s) where
@@ -44,7 +44,7 @@ module _ (file : Bytes) {b₁ : Bool} (a₁ : (b₁ ≡ true) ↔ LaidOut file) 
       utf8-is = e₃ ∙ rw (es, tape-is)
 
       pub gives-3 : not b₃ ≡ true → Right file (Refused 3)
-      unfolding numberOf answerWith
+      unfolding refusalNumber answerWith
       gives-3 h = (third kept₂ (λ u. clash (utf8-is ∙ u) (not-true b₃ h)), refl)
 
       module _ {b₄ : Bool} (h₃ : not b₃ ≡ false) (a₄ : (b₄ ≡ true) ↔ GoodNames (tapeIn t file)) where
@@ -52,7 +52,7 @@ module _ (file : Bytes) {b₁ : Bool} (a₁ : (b₁ ≡ true) ↔ LaidOut file) 
         kept₃ = record { kept = kept₂; utf8 = sym utf8-is ∙ not-false b₃ h₃ }
 
         pub gives-4 : not b₄ ≡ true → Right file (Refused 4)
-        unfolding numberOf answerWith
+        unfolding refusalNumber answerWith
         gives-4 h = (fourth kept₃ (fails (rw tape-is at a₄) h), refl)
 
         module _ {b₅ : Bool} (h₄ : not b₄ ≡ false) (a₅ : (b₅ ≡ true) ↔ GoodNodes (tapeIn t file)) where
@@ -60,7 +60,7 @@ module _ (file : Bytes) {b₁ : Bool} (a₁ : (b₁ ≡ true) ↔ LaidOut file) 
           kept₄ = record { kept = kept₃; names = holds (rw tape-is at a₄) h₄ }
 
           pub gives-5 : not b₅ ≡ true → Right file (Refused 5)
-          unfolding numberOf answerWith
+          unfolding refusalNumber answerWith
           gives-5 h = (fifth kept₄ (fails (rw tape-is at a₅) h), refl)
 
           module _ {b₆ : Bool} (h₅ : not b₅ ≡ false) (a₆ : (b₆ ≡ true) ↔ TooDeep (tapeIn t file .nodes)) where
@@ -71,7 +71,7 @@ module _ (file : Bytes) {b₁ : Bool} (a₁ : (b₁ ≡ true) ↔ LaidOut file) 
             deep-is = rw tape-is at a₆
 
             pub gives-6 : b₆ ≡ true → Right file (Refused 6)
-            unfolding numberOf answerWith
+            unfolding refusalNumber answerWith
             gives-6 h = (sixth kept₅ (deep-is .0 h), refl)
 
             module _ {b₇ : Bool} (h₆ : b₆ ≡ false) (a₇ : (b₇ ≡ true) ↔ Sound (tapeIn t file .nodes)) where
@@ -82,9 +82,9 @@ module _ (file : Bytes) {b₁ : Bool} (a₁ : (b₁ ≡ true) ↔ LaidOut file) 
               sound-is = rw tape-is at a₇
 
               pub gives-7 : not b₇ ≡ true → Right file (Refused 7)
-              unfolding numberOf answerWith
+              unfolding refusalNumber answerWith
               gives-7 h = (seventh kept₆ (λ n. fails sound-is h (record { shallow = kept₆ .shallow; nested = n })), refl)
 
               pub gives-0 : not b₇ ≡ false → Right file (Tape t)
-              unfolding numberOf answerWith
+              unfolding refusalNumber answerWith
               gives-0 h = (none (record { kept = kept₆; nested = holds sound-is h .nested }), ap Tape et)

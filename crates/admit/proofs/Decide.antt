@@ -18,7 +18,7 @@ use Rattle.nest.proofs.Walk.{by-test}
 use Rattle.nest.proofs.Decide.{decides-6, decides-7}
 use Rattle.admit.specs.Rules.{LaidOut, Small, GoodEntry, GoodNames, GoodNode, GoodNodes, LabelCut}
 use Rattle.admit.specs.Pieces.{GoodByte}
-use Rattle.admit.specs.Refusal.{Kept₁, Kept₂, Kept₃, Kept₄, Kept₅, Kept₆, Refusal, none, first, second, third, fourth, fifth, sixth, seventh, numberOf, answerWith}
+use Rattle.admit.specs.Refusal.{Kept₁, Kept₂, Kept₃, Kept₄, Kept₅, Kept₆, Refusal, none, first, second, third, fourth, fifth, sixth, seventh, refusalNumber, answerWith}
 use Rattle.admit.specs.Decide.{allBelow, laidOut, small, goodByte, goodEntry, goodNames, labelCut, goodNode, goodNodes, refusalIn, refusal}
 use Rattle.admit.specs.declared.Admitted.{Admitted}
 use Rattle.admit.proofs.All.{eq-is, le-is, same-is}
@@ -253,7 +253,7 @@ refusal-unique {file} p q = sym (computed file p) ∙ computed file q
 -- ---- what the contract of admit settles
 
 -- the number of an answer is the one computed
-pub number-computed : {file : Bytes} {r : Admitted} → Right file r → numberOf r ≡ refusal file
+pub number-computed : {file : Bytes} {r : Admitted} → Right file r → refusalNumber r ≡ refusal file
 number-computed {file} h = sym (computed file (h .0))
 
 -- the answer is the one with that number

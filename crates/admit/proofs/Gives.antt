@@ -13,7 +13,7 @@ use Rattle.parts.specs.Bytes.{Bytes}
 use Rattle.chars.specs.Utf8.{isUtf8, isBoundary}
 use Rattle.chars.proofs.Characters.{boundary-between}
 use Rattle.tape.specs.File.{Tape, tapeIn, tapeOf, sectionsOf, nowhere, nameless, nodeAt, entryAt, kindAt, textAt, bearsMarker, infoAt}
-use Rattle.tape.specs.Tree.{isClose, holds, childBefore, firstChild, lastOf, siblingPast, nextSibling, walkFrom, children}
+use Rattle.tape.specs.Tree.{isClose, holds, childBefore, firstChild, lastHeld, siblingPast, nextSibling, walkFrom, children}
 use Rattle.tape.specs.declared.Node.{Node}
 use Rattle.tape.specs.declared.Entry.{Entry}
 use Rattle.tape.specs.declared.Info.the-variants.{Known, Unknown}
@@ -40,8 +40,8 @@ module _ (t : Tape) (z : Nested (t .nodes)) where
   stepAt : ℕ → Step
   stepAt a = cond (stops (t .nodes) a) Done (At (record { at = a }))
 
-  last-is : (a : ℕ) → (kindAt t a ≡ 0 → ⊥) → lastOf t a + 1 ≡ past (t .nodes) a
-  unfolding lastOf holds past container nodeAt
+  last-is : (a : ℕ) → (kindAt t a ≡ 0 → ⊥) → lastHeld t a + 1 ≡ past (t .nodes) a
+  unfolding lastHeld holds past container nodeAt
   last-is a n = rw (ne-eqb (kindAt t a) 0 n) (go (eqb (kindAt t a) 3) (eqb (nodeAt t a .link) a) refl)
     where
       go : (x y : Bool) → eqb (nodeAt t a .link) a ≡ y
@@ -63,7 +63,7 @@ module _ (t : Tape) (z : Nested (t .nodes)) where
   unfolding nextSibling siblingPast
   next-is a n =
       let e = last-is a n in
-      rw (le-ltb (lastOf t a) a (omega (arith, e, past-forward (t .nodes) z a)), e) (step-is (past (t .nodes) a))
+      rw (le-ltb (lastHeld t a) a (omega (arith, e, past-forward (t .nodes) z a)), e) (step-is (past (t .nodes) a))
 
   stops-at : (a : ℕ) → stops (t .nodes) a ≡ true → stepAt a ≡ Done
   unfolding stepAt

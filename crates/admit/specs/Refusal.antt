@@ -55,9 +55,9 @@ pub data Refusal (file : Bytes) : ℕ → Type 0 where
   seventh : Kept₆ file → (Nested (tapeOf file .nodes) → ⊥) → Refusal file 7
 
 -- the number of an answer, 0 for an admitted tape
-unfoldable pub numberOf : Admitted → ℕ
-numberOf (Tape c) = 0
-numberOf (Refused n) = n
+unfoldable pub refusalNumber : Admitted → ℕ
+refusalNumber (Tape c) = 0
+refusalNumber (Refused n) = n
 
 -- the answer with a number: an admitted file gives its sections
 unfoldable pub answerWith : Bytes → ℕ → Admitted

@@ -5,7 +5,7 @@ mod names;
 mod nodes;
 
 ghost use mathlib.Core.Path.{_≡_};
-ghost use Rattle.admit.specs.Refusal.{Refusal, numberOf, answerWith};
+ghost use Rattle.admit.specs.Refusal.{Refusal, refusalNumber, answerWith};
 use tape::Sections;
 
 // The sections of an admitted file, or the number of its refusal.
@@ -16,8 +16,8 @@ pub enum Admitted {
 
 // Judges a file.
 pub fn admit(file: &[u8]) -> Admitted
-    ensures number { λ r. ⌜ Refusal (now (file .entry)) (numberOf r) ⌝ }
-    ensures answer { λ r. ⌜ r ≡ answerWith (now (file .entry)) (numberOf r) ⌝ }
+    ensures number { λ r. ⌜ Refusal (now (file .entry)) (refusalNumber r) ⌝ }
+    ensures answer { λ r. ⌜ r ≡ answerWith (now (file .entry)) (refusalNumber r) ⌝ }
 {
     if !header::laid_out(file) {
         return Admitted::Refused(1);

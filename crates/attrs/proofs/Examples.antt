@@ -7,7 +7,7 @@ use Rattle.chars.specs.Range.{within, inAny}
 use Rattle.chars.specs.Space.{whiteSpace, isWhite}
 use Rattle.words.specs.Words.{stepOf, charsOf, white, solid, takeWhile, dropWhile, keep, dropEnd, onto, pieces, nonempty, words, trimStart, trimEnd, trim, whiteLen, wordLen, lastOf}
 use Rattle.tape.specs.Name.{strip}
-use Rattle.attrs.specs.Attr.{Pair, closesAt, quotedFrom, quotedLen, unquoted, shown, valueFrom, valueAt, equals, hasEquals, keyIn, keyed, pairsFrom, pairsIn, isWordMarker, defaultKey, keyFor, keyedFor, bodyOf, pairsOf}
+use Rattle.attrs.specs.Attr.{Pair, closesAt, quotedFrom, quotedLen, unquoted, shown, valueFrom, valueAt, equals, hasEquals, keyIn, keyed, pairsFrom, pairsIn, isWordMarker, defaultKey, keyFor, keyedFor, attributeBody, bodyPairs}
 
 -- an Attribute of a marker, and the pairs that it gives
 pub record Row : Type 0 where
@@ -36,6 +36,6 @@ rows =
     ∷ row (b "w") (b "| ") []
     ∷ []
 
-pub attribute-examples : map (λ (r : Row). pairsOf (r .marker) (bodyOf (r .text))) rows ≡ map (λ (r : Row). r .pairs) rows
-unfolding within inAny whiteSpace isWhite table37 fits rowLen seqLen step cutAt isSequence every point codeOf same begins firstAt strip stepOf charsOf white solid takeWhile dropWhile keep dropEnd onto pieces nonempty words trimStart trimEnd trim whiteLen wordLen lastOf closesAt quotedFrom quotedLen unquoted shown valueFrom valueAt equals hasEquals keyIn keyed pairsFrom pairsIn isWordMarker defaultKey keyFor keyedFor bodyOf pairsOf flatten
+pub attribute-examples : map (λ (r : Row). bodyPairs (r .marker) (attributeBody (r .text))) rows ≡ map (λ (r : Row). r .pairs) rows
+unfolding within inAny whiteSpace isWhite table37 fits rowLen seqLen step cutAt isSequence every point codeOf same begins firstAt strip stepOf charsOf white solid takeWhile dropWhile keep dropEnd onto pieces nonempty words trimStart trimEnd trim whiteLen wordLen lastOf closesAt quotedFrom quotedLen unquoted shown valueFrom valueAt equals hasEquals keyIn keyed pairsFrom pairsIn isWordMarker defaultKey keyFor keyedFor attributeBody bodyPairs flatten
 attribute-examples = refl

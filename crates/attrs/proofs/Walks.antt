@@ -22,7 +22,7 @@ use Rattle.tape.specs.declared.Cursor.{Cursor}
 use Rattle.tape.specs.declared.Step.{Step}
 use Rattle.tape.specs.declared.Step.the-variants.{At, Done}
 use Rattle.tape.proofs.Walk.{walk-turn, walk-end, children-walk}
-use Rattle.attrs.specs.Attr.{Pair, shown, equals, hasEquals, pairsIn, defaultKey, keyFor, keyedFor, bodyOf, pairsOf, pairsAt, pairsAlong, attributesOf}
+use Rattle.attrs.specs.Attr.{Pair, shown, equals, hasEquals, pairsIn, defaultKey, keyFor, keyedFor, attributeBody, bodyPairs, pairsAt, pairsAlong, attributesOf}
 use Rattle.attrs.specs.Walk.{fixedKeys, Spot, valueOf, keyOf, itemList, gotList, remaining, nextList, firstOf, soughtOf}
 use Rattle.attrs.specs.declared.Value.{Value}
 use Rattle.attrs.specs.declared.Key.{Key}
@@ -54,33 +54,33 @@ module _ (source m : Bytes) (p : Part) {f : Item} (ei : pairsIn (bytesOf source 
 -- ---- a body
 
 pairs-of-some : (m s : Bytes) → (length s ≡ 0 → ⊥)
-    → pairsOf m s ≡ cond (hasEquals s) (map (keyedFor m) (pairsIn s)) (record { key = defaultKey m; value = s } ∷ [])
-unfolding pairsOf
+    → bodyPairs m s ≡ cond (hasEquals s) (map (keyedFor m) (pairsIn s)) (record { key = defaultKey m; value = s } ∷ [])
+unfolding bodyPairs
 pairs-of-some m [] h = absurd (h refl)
 pairs-of-some m (x ∷ s) h = refl
 
-pairs-of-none : (m s : Bytes) → length s ≡ 0 → pairsOf m s ≡ []
-unfolding pairsOf
+pairs-of-none : (m s : Bytes) → length s ≡ 0 → bodyPairs m s ≡ []
+unfolding bodyPairs
 pairs-of-none m [] h = refl
 pairs-of-none m (x ∷ s) h = absurd (omega arith)
 
 module _ (source m : Bytes) (body : Part) {s : Bytes} (es : s ≡ part source (body .start) (body .len)) where
-  pub of-empty : length s ≡ 0 → pairsOf m (bytesOf source body) ≡ gotList source m GotNone
+  pub of-empty : length s ≡ 0 → bodyPairs m (bytesOf source body) ≡ gotList source m GotNone
   unfolding gotList
-  of-empty h = ap (pairsOf m) (sym es) ∙ pairs-of-none m s h
+  of-empty h = ap (bodyPairs m) (sym es) ∙ pairs-of-none m s h
 
   module _ (ns : length s ≡ 0 → ⊥) {e : ℕ} (ee : e ≡ find (b "=") s) where
     pub of-pairs : e < length s → (g : Got) → map (keyedFor m) (pairsIn (bytesOf source body)) ≡ gotList source m g
-        → pairsOf m (bytesOf source body) ≡ gotList source m g
+        → bodyPairs m (bytesOf source body) ≡ gotList source m g
     unfolding hasEquals equals
-    of-pairs h g eg = ap (pairsOf m) (sym es) ∙ pairs-of-some m s ns ∙ rw (lt-ltb (find (b "=") s) (length s) (omega arith), es) eg
+    of-pairs h g eg = ap (bodyPairs m) (sym es) ∙ pairs-of-some m s ns ∙ rw (lt-ltb (find (b "=") s) (length s) (omega arith), es) eg
 
     pub of-default : length s ≤ e → (k : Part) → bytesOf fixedKeys k ≡ defaultKey m
-        → pairsOf m (bytesOf source body)
+        → bodyPairs m (bytesOf source body)
         ≡ gotList source m (GotPair (Fixed k) (record { start = body .start; len = body .len; quoted = false }) (record { start = body .start; len = 0 }))
     unfolding hasEquals equals gotList keyOf valueOf shown
     of-default h k ek =
-        ap (pairsOf m) (sym es)
+        ap (bodyPairs m) (sym es)
         ∙ pairs-of-some m s ns
         ∙ rw (le-ltb (find (b "=") s) (length s) (omega arith), es, ek, pairs-nil)
 
@@ -99,8 +99,8 @@ module _ (s : Bytes) {bar w : ℕ} {f : Bytes} (eb : (bar ≤ length s) × (drop
   pub body-starts : bar + w ≤ length s
   body-starts = omega (arith, eb .0, ap length ef, length-drop bar s, white-le Unicode f)
 
-  pub body-found : {u : Bytes} {n : ℕ} → u ≡ drop (bar + w) s → n ≡ length (trimEnd Unicode u) → Spot s (record { start = bar + w; len = n }) (bodyOf s)
-  unfolding bodyOf trim
+  pub body-found : {u : Bytes} {n : ℕ} → u ≡ drop (bar + w) s → n ≡ length (trimEnd Unicode u) → Spot s (record { start = bar + w; len = n }) (attributeBody s)
+  unfolding attributeBody trim
   body-found {u} {n} eu en =
       record {
         inside = omega (arith, body-starts, ap length eu, length-drop (bar + w) s, trim-end-le Unicode u);
@@ -115,14 +115,14 @@ module _ (s : Bytes) {bar w : ℕ} {f : Bytes} (eb : (bar ≤ length s) × (drop
           ∙ sym (trim-start-drop Unicode f)
           ∙ ap (trimStart Unicode) (ef ∙ eb .1)
 
-pub body-placed : (t : Tape) (k : ℕ) {n : Node} {x : Bytes} {body : Part} {a : ℕ} → n ≡ nodeAt t k → x ≡ textAt t k → Spot x body (bodyOf x) → a ≡ n .start
-    → bytesOf (t .source) (record { start = a + body .start; len = body .len }) ≡ bodyOf (textAt t k)
+pub body-placed : (t : Tape) (k : ℕ) {n : Node} {x : Bytes} {body : Part} {a : ℕ} → n ≡ nodeAt t k → x ≡ textAt t k → Spot x body (attributeBody x) → a ≡ n .start
+    → bytesOf (t .source) (record { start = a + body .start; len = body .len }) ≡ attributeBody (textAt t k)
 unfolding textAt
 body-placed t k {n} {x} {body} {a} en ex sp ea =
     rw (ea, en) (sym (part-part (t .source) (nodeAt t k .start) (nodeAt t k .len) (body .start) (body .len) (rw ex at (sp .inside))))
     ∙ ap (λ (z : Bytes). bytesOf z body) (sym ex)
     ∙ sp .here
-    ∙ ap bodyOf ex
+    ∙ ap attributeBody ex
 
 -- ---- a node
 
@@ -131,8 +131,8 @@ module _ (t : Tape) (m : Bytes) (k : ℕ) {z : Kind} (ez : z .code ≡ kindAt t 
   unfolding pairsAt gotList
   at-other h = rw (ne-eqb (kindAt t k) 2 (λ e. h (ez ∙ e)))
 
-  pub at-attribute : z .code ≡ 2 → {s : Bytes} (body : Part) (g : Got) → s ≡ t .source → bytesOf (t .source) body ≡ bodyOf (textAt t k)
-      → pairsOf m (bytesOf s body) ≡ gotList s m g → pairsAt t m k ≡ gotList (t .source) m g
+  pub at-attribute : z .code ≡ 2 → {s : Bytes} (body : Part) (g : Got) → s ≡ t .source → bytesOf (t .source) body ≡ attributeBody (textAt t k)
+      → bodyPairs m (bytesOf s body) ≡ gotList s m g → pairsAt t m k ≡ gotList (t .source) m g
   unfolding pairsAt
   at-attribute h {s} body g es eb eg = rw (eq-eqb (kindAt t k) 2 (sym ez ∙ h), ← eb) (rw es at eg)
 

@@ -117,18 +117,18 @@ keyedFor marker p = record { key = keyFor marker (p .key); value = p .value }
 -- ---- attributes
 
 -- the body of an attribute: its text without one `|` in front, trimmed
-unfoldable pub bodyOf : Bytes → Bytes
-bodyOf s = trim Unicode (strip 124 s)
+unfoldable pub attributeBody : Bytes → Bytes
+attributeBody s = trim Unicode (strip 124 s)
 
 -- the pairs of a body; a body with no `=` is the value of the default key, as it stands
-unfoldable pub pairsOf : Bytes → Bytes → List Pair
-pairsOf marker [] = []
-pairsOf marker (x ∷ s) =
+unfoldable pub bodyPairs : Bytes → Bytes → List Pair
+bodyPairs marker [] = []
+bodyPairs marker (x ∷ s) =
     cond (hasEquals (x ∷ s)) (map (keyedFor marker) (pairsIn (x ∷ s))) (record { key = defaultKey marker; value = x ∷ s } ∷ [])
 
 -- the pairs of a node: an Attribute has those of its body, others have none
 unfoldable pub pairsAt : Tape → Bytes → ℕ → List Pair
-pairsAt t marker k = cond (eqb (kindAt t k) kinds.attribute) (pairsOf marker (bodyOf (textAt t k))) []
+pairsAt t marker k = cond (eqb (kindAt t k) kinds.attribute) (bodyPairs marker (attributeBody (textAt t k))) []
 
 -- the pairs of a list of nodes
 unfoldable pub pairsAlong : Tape → Bytes → List ℕ → List Pair

@@ -15,7 +15,7 @@ ghost use Rattle.parts.specs.Bytes.{Bytes, same};
 ghost use Rattle.words.specs.Words.{words as wordsOf, lastOf, bytesOf};
 ghost use Rattle.words.specs.declared.Set.the-variants.{Unicode};
 ghost use Rattle.tape.specs.File.{tapeIn, textAt};
-ghost use Rattle.attrs.specs.Attr.{closesAt, quotedLen, pieceLen, valueAt, pairsIn, isWordMarker, defaultKey, keyFor, keyedFor, bodyOf, pairsOf, pairsAt, pairsAlong, attributesOf};
+ghost use Rattle.attrs.specs.Attr.{closesAt, quotedLen, pieceLen, valueAt, pairsIn, isWordMarker, defaultKey, keyFor, keyedFor, attributeBody, bodyPairs, pairsAt, pairsAlong, attributesOf};
 ghost use Rattle.attrs.specs.Walk.{fixedKeys, Spot, keyOf, FirstOf, itemList, gotList, remaining, attrsOf, nextList, firstOf, soughtOf};
 ghost use Rattle.tape.specs.Tree.{walkFrom};
 
@@ -309,7 +309,7 @@ fn pair_in(source: &[u8], marker: &[u8], part: Part) -> Got
 
 // The first pair of a body.
 fn pair_of(source: &[u8], marker: &[u8], body: Part) -> Got
-    ensures { λ r. ⌜ pairsOf (now (marker .entry)) (bytesOf (now (source .entry)) body) ≡ gotList (now (source .entry)) (now (marker .entry)) r ⌝ }
+    ensures { λ r. ⌜ bodyPairs (now (marker .entry)) (bytesOf (now (source .entry)) body) ≡ gotList (now (source .entry)) (now (marker .entry)) r ⌝ }
 {
     let s = parts::part(source, body.start, body.len);
     if s.len() == 0 {
@@ -341,7 +341,7 @@ fn bar_len(s: &[u8]) -> usize
 
 // The body of an Attribute, as a part of its text.
 fn body_in(s: &[u8]) -> Part
-    ensures { λ r. ⌜ Spot (now (s .entry)) r (bodyOf (now (s .entry))) ⌝ }
+    ensures { λ r. ⌜ Spot (now (s .entry)) r (attributeBody (now (s .entry))) ⌝ }
 {
     let bar = bar_len(s);
     let start = bar + words::white_len(parts::from(s, bar), Set::Unicode);
@@ -353,7 +353,7 @@ fn body_in(s: &[u8]) -> Part
 
 // The body of an Attribute, as a part of the source.
 fn body_at(file: &[u8], tape: Sections, c: Cursor) -> Part
-    ensures { λ r. ⌜ bytesOf (tapeIn tape (now (file .entry)) .source) r ≡ bodyOf (textAt (tapeIn tape (now (file .entry))) (c .at)) ⌝ }
+    ensures { λ r. ⌜ bytesOf (tapeIn tape (now (file .entry)) .source) r ≡ attributeBody (textAt (tapeIn tape (now (file .entry))) (c .at)) ⌝ }
 {
     let n = c.node(file, tape);
     let body = body_in(c.text(file, tape));

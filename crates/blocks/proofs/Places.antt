@@ -14,8 +14,8 @@ use Rattle.tape.specs.declared.Step.the-variants.{At}
 use Rattle.tape.proofs.Walk.{left-turn, up-to-go}
 use Rattle.render.specs.Shape.{isRow, isChapter, isVerse, isElement, isTopLevelBlock}
 use Rattle.render.proofs.Shapes.{kind-is, kind-not}
-use Rattle.fold.specs.Fold.{Folded, foldAt, numberOf}
-use Rattle.lists.specs.Span.{nodesIn, memberOf, foldedIn, cutAt, runEnd, foldsAt}
+use Rattle.fold.specs.Fold.{Folded, foldAt, foldedNumber}
+use Rattle.lists.specs.Span.{nodesIn, memberOf, foldedIn, cutBy, runEnd, foldsAt}
 use Rattle.lists.specs.declared.Span.{Span}
 use Rattle.lists.specs.declared.Member.the-variants.{Listed}
 use Rattle.lists.specs.declared.Stop.the-variants.{Block, NoRow}
@@ -100,7 +100,7 @@ module _ (t : Tape) (k : ℕ) where
 pub chapter-turn : (t : Tape) (span : Span) (k d level : ℕ) {z : Kind} {n : Step} (f : Folds) {m : ℕ} → z .code ≡ 6 → n ≡ nextSibling t k
     → foldedIn t span f ≡ foldAt t (z .code) (nodesIn t span n) → (sink a : Sink) (out mid : Bytes) {r : Desk}
     → ((source : Bytes) → deskIn source a mid ≡ emit (deskIn source sink out) (item (line level))) → m ≡ numberAt t k
-    → r ≡ emit (deskIn (t .source) a mid) (chapter m (numberOf t (f .alt)) (numberOf t (f .published)))
+    → r ≡ emit (deskIn (t .source) a mid) (chapter m (foldedNumber t (f .alt)) (foldedNumber t (f .published)))
     → (B : List ℕ → List Event)
     → emitAll r (blocksAll B t d level (nodesIn t span (f .rest))) ≡ emitAll (deskIn (t .source) sink out) (blocksOn B t d level k (nodesIn t span (nextSibling t k)) aChapter)
 unfolding blocksOn blockTurn foldedIn emitAll
@@ -109,8 +109,8 @@ chapter-turn t span k d level {z} {n} f {m} ez en ef sink a out mid {r} ea em er
     let same : foldedIn t span f ≡ g = ef ∙ rw (ez, en) in
     let s : Desk = deskIn (t .source) sink out in
     ap (λ (u : Desk). emitAll u (blocksAll B t d level (nodesIn t span (f .rest))))
-    (er ∙ ap (λ (u : Desk). emit u (chapter m (numberOf t (f .alt)) (numberOf t (f .published)))) (ea (t .source)))
-    ∙ ap (λ (i : ℕ). emitAll (emit (emit s (item (line level))) (chapter i (numberOf t (f .alt)) (numberOf t (f .published)))) (blocksAll B t d level (nodesIn t span (f .rest)))) em
+    (er ∙ ap (λ (u : Desk). emit u (chapter m (foldedNumber t (f .alt)) (foldedNumber t (f .published)))) (ea (t .source)))
+    ∙ ap (λ (i : ℕ). emitAll (emit (emit s (item (line level))) (chapter i (foldedNumber t (f .alt)) (foldedNumber t (f .published)))) (blocksAll B t d level (nodesIn t span (f .rest)))) em
     ∙ ap (λ (h : Folded). emitAll (emit (emit s (item (line level))) (chapter (numberAt t k) (h .alt) (h .published))) (blocksAll B t d level (h .rest))) same
 
 pub left-past : (t : Tape) (c : Cursor) {n : Step} (r : Step) → n ≡ nextSibling t (c .at) → left t r ≤ left t n → left t r < left t (At c)
@@ -136,7 +136,7 @@ block-step t span k d level {n = n} sink a out mid {r} ea ed er en B =
 
 run-nodes : (t : Tape) (sifted : Bool) (c : Cursor) → memberOf t (uncut sifted) (c .at) ≡ Listed → isTopLevelBlock t (c .at) ≡ false
     → nodesIn t (record { cut = true; sifted = sifted }) (At c) ≡ c .at ∷ upTo (isTopLevelBlock t) (nodesIn t (uncut sifted) (nextSibling t (c .at)))
-unfolding nodesIn cutAt
+unfolding nodesIn cutBy
 run-nodes t sifted c hm hb =
     ap (upTo (isTopLevelBlock t)) (nodes-go t (uncut sifted) refl (sym hm) refl refl)
     ∙ up-to-go (isTopLevelBlock t) (c .at) (nodesIn t (uncut sifted) (nextSibling t (c .at))) hb

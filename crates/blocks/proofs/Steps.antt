@@ -11,7 +11,7 @@ use Rattle.tape.specs.declared.Cursor.{Cursor}
 use Rattle.tape.specs.declared.Step.{Step}
 use Rattle.tape.specs.declared.Step.the-variants.{At, Done}
 use Rattle.render.specs.First.{any}
-use Rattle.lists.specs.Span.{nodesIn, memberOf, cutAt, filtered}
+use Rattle.lists.specs.Span.{nodesIn, memberOf, cutBy, filtered}
 use Rattle.lists.specs.declared.Span.{Span}
 use Rattle.lists.specs.declared.Member.{Member}
 use Rattle.lists.specs.declared.Member.the-variants.{End, Skipped, Listed}
@@ -71,7 +71,7 @@ held-by : (t : Tape) (d level : ℕ) (sidebar : Bool) (k : ℕ) → holderIn t d
     ≡ cond (any (isBlockOrRow t) (nodesIn t (uncut sidebar) (firstChild t k)))
     (item (start (elementNo sidebar) (attrsOf t k sidebar)) ∷ (below t d level (nodesIn t (uncut sidebar) (firstChild t k)) ++ (item (line level) ∷ item (close (elementNo sidebar)) ∷ [])))
     (item (empty (elementNo sidebar) (attrsOf t k sidebar)) ∷ [])
-unfolding holderIn sidebarIn periphIn holder elementNo attrsOf sidebarAttrs periphAttrs nodesIn cutAt filtered children isBlockOrRow
+unfolding holderIn sidebarIn periphIn holder elementNo attrsOf sidebarAttrs periphAttrs nodesIn cutBy filtered children isBlockOrRow
 held-by t d level true k = refl
 held-by t d level false k = refl
 

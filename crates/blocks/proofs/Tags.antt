@@ -21,7 +21,7 @@ use Rattle.tape.specs.declared.kinds.Kind.{Kind}
 use Rattle.tape.specs.declared.Info.{Info}
 use Rattle.render.specs.Shape.{isRow, isElement, isTopLevelBlock}
 use Rattle.render.specs.Children.{firstText}
-use Rattle.render.specs.Note.{categoryOf, textOf, firstWords, unlessEmpty, periphAlt}
+use Rattle.render.specs.Note.{writtenCategory, stepText, firstWords, unlessEmpty, periphAlt}
 use Rattle.render.proofs.Shapes.{kind-is, kind-not}
 use Rattle.attrs.specs.Attr.{attributesOf}
 use Rattle.tags.specs.Items.{Attr, start, empty, close, line, valueOf, attrBytes, attrsBytes, bytesOf}
@@ -79,13 +79,13 @@ unfolding attrsBytes attrBytes valueOf rawly
 side-bytes name ps us = ap (λ (z : Bytes). b "<sidebar style=\"" ++ ((name ++ b "\"") ++ z)) (sym (attrs-append ps us))
 
 pub sidebar-put : (t : Tape) (k : ℕ) (p : Page) {q u r : Page} {name : Bytes} → name ≡ markerName t k → q ≡ paint p (b "<sidebar style=\"" ++ (name ++ b "\""))
-    → u ≡ paint q (attrsBytes (perhaps (b "category") (categoryOf t k))) → r ≡ paint u (attrsBytes (unclosed t k))
+    → u ≡ paint q (attrsBytes (perhaps (b "category") (writtenCategory t k))) → r ≡ paint u (attrsBytes (unclosed t k))
     → r ≡ paint p (b "<sidebar" ++ attrsBytes (sidebarAttrs t k))
 unfolding sidebarAttrs style
 sidebar-put t k p {name = name} en eq eu er =
-    paint-three p (b "<sidebar style=\"" ++ (name ++ b "\"")) (attrsBytes (perhaps (b "category") (categoryOf t k))) (attrsBytes (unclosed t k)) eq eu er
-    ∙ ap (paint p) (side-bytes name (perhaps (b "category") (categoryOf t k)) (unclosed t k))
-    ∙ ap (λ (z : Bytes). paint p (b "<sidebar" ++ attrsBytes (rawly (b "style") z ∷ (perhaps (b "category") (categoryOf t k) ++ unclosed t k)))) en
+    paint-three p (b "<sidebar style=\"" ++ (name ++ b "\"")) (attrsBytes (perhaps (b "category") (writtenCategory t k))) (attrsBytes (unclosed t k)) eq eu er
+    ∙ ap (paint p) (side-bytes name (perhaps (b "category") (writtenCategory t k)) (unclosed t k))
+    ∙ ap (λ (z : Bytes). paint p (b "<sidebar" ++ attrsBytes (rawly (b "style") z ∷ (perhaps (b "category") (writtenCategory t k) ++ unclosed t k)))) en
 
 -- ---- a periph's attributes
 
@@ -104,7 +104,7 @@ alt-bytes : (s : Bytes) → b " alt=\"" ++ (escape true s ++ b "\"") ≡ attrsBy
 unfolding attrsBytes attrBytes valueOf escaped
 alt-bytes s = ap (λ (z : Bytes). b " alt=\"" ++ z) (sym (append-nil (escape true s ++ b "\"")))
 
-module _ (t : Tape) (k : ℕ) (p : Page) {text : Bytes} (et : text ≡ textOf t (firstText t k)) {x : Bool} (ex : x ≡ isBlank Unicode text) where
+module _ (t : Tape) (k : ℕ) (p : Page) {text : Bytes} (et : text ≡ stepText t (firstText t k)) {x : Bool} (ex : x ≡ isBlank Unicode text) where
   pub alt-none : x ≡ true → p ≡ paint p (attrsBytes (perhaps (b "alt") (periphAlt t k)))
   unfolding paint attrsBytes perhaps periphAlt unlessEmpty firstWords joined
   alt-none h = rw (← et, blank-words Unicode text .0 (sym ex ∙ h))

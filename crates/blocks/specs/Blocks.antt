@@ -7,7 +7,7 @@ use Rattle.tape.specs.File.{Tape, infoAt}
 use Rattle.tape.specs.declared.Step.{Step}
 use Rattle.tape.specs.Tree.{nextSibling, upTo}
 use Rattle.render.specs.Shape.{isRow, isChapter, isElement, isTopLevelBlock}
-use Rattle.render.specs.Note.{categoryOf, periphAlt}
+use Rattle.render.specs.Note.{writtenCategory, periphAlt}
 use Rattle.attrs.specs.Attr.{attributesOf}
 use Rattle.tags.specs.Items.{Attr, start, line}
 use Rattle.lists.specs.Span.{runEnd, foldsAt}
@@ -42,7 +42,7 @@ below t (suc d) level ks = blocksE t d (level + 1) ks
 
 -- a sidebar's attributes
 unfoldable pub sidebarAttrs : Tape → ℕ → List Attr
-sidebarAttrs t k = style t k ∷ (perhaps (b "category") (categoryOf t k) ++ unclosed t k)
+sidebarAttrs t k = style t k ∷ (perhaps (b "category") (writtenCategory t k) ++ unclosed t k)
 
 -- a periph's attributes
 unfoldable pub periphAttrs : Tape → ℕ → List Attr

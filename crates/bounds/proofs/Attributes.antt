@@ -14,7 +14,7 @@ use Rattle.words.specs.declared.Set.the-variants.{Unicode}
 use Rattle.words.proofs.Texts.{white-le}
 use Rattle.tape.specs.File.{Tape, kindAt, textAt}
 use Rattle.tape.specs.Name.{strip}
-use Rattle.attrs.specs.Attr.{Pair, quotedFrom, quotedLen, unquoted, shown, valueFrom, valueAt, equals, hasEquals, keyIn, keyed, pairsFrom, pairsIn, isWordMarker, defaultKey, keyFor, keyedFor, bodyOf, pairsOf, pairsAt, pairsAlong}
+use Rattle.attrs.specs.Attr.{Pair, quotedFrom, quotedLen, unquoted, shown, valueFrom, valueAt, equals, hasEquals, keyIn, keyed, pairsFrom, pairsIn, isWordMarker, defaultKey, keyFor, keyedFor, attributeBody, bodyPairs, pairsAt, pairsAlong}
 use Rattle.attrs.specs.Walk.{firstOf}
 use Rattle.attrs.proofs.Values.{value-within}
 use Rattle.events.specs.Event.{escaped, collected}
@@ -161,8 +161,8 @@ one-most : (m s : Bytes) → attrsCost (collected (record { key = defaultKey m; 
 unfolding collected attrsCost attrCost escaped
 one-most m s = omega (arith, default-most m)
 
-body-cost : (m s : Bytes) → attrsCost (collected (pairsOf m s)) ≤ 13 + 10 * length s
-unfolding pairsOf pairsIn
+body-cost : (m s : Bytes) → attrsCost (collected (bodyPairs m s)) ≤ 13 + 10 * length s
+unfolding bodyPairs pairsIn
 body-cost m [] = omega (arith, nothing)
 body-cost m (x ∷ s) = go (hasEquals (x ∷ s))
   where
@@ -172,10 +172,10 @@ body-cost m (x ∷ s) = go (hasEquals (x ∷ s))
     go false = omega (arith, one-most m (x ∷ s))
 
 node-cost : (t : Tape) (m : Bytes) (k : ℕ) → length (textAt t k) ≤ 4194304 → attrsCost (collected (pairsAt t m k)) ≤ 50000000
-unfolding pairsAt bodyOf
+unfolding pairsAt attributeBody
 node-cost t m k h = go (eqb (kindAt t k) 2)
   where
-    go : (x : Bool) → attrsCost (collected (cond x (pairsOf m (trim Unicode (strip 124 (textAt t k)))) [])) ≤ 50000000
+    go : (x : Bool) → attrsCost (collected (cond x (bodyPairs m (trim Unicode (strip 124 (textAt t k)))) [])) ≤ 50000000
     go true =
         omega (arith, body-cost m (trim Unicode (strip 124 (textAt t k))), trim-most Unicode (strip 124 (textAt t k)), strip-most 124 (textAt t k))
     go false = omega (arith, nothing)

@@ -12,7 +12,7 @@ use Rattle.tape.specs.Name.{markerName}
 use Rattle.render.specs.Shape.{isRow, isTopLevelBlock, isCategoryMarker}
 use Rattle.render.specs.First.{any}
 use Rattle.render.specs.Children.{hasContent}
-use Rattle.render.specs.Note.{categoryOf, periphAlt, cellAlign, alignWord}
+use Rattle.render.specs.Note.{writtenCategory, periphAlt, cellAlign, alignWord}
 use Rattle.render.specs.declared.note.Align.{Align}
 use Rattle.render.specs.declared.note.Align.the-variants.{Start, Center, End}
 use Rattle.attrs.specs.Attr.{attributesOf}
@@ -142,7 +142,7 @@ module _ (file : Bytes) (z : Kept₇ file) where
     sidebar-light : (level k : ℕ) → level ≤ 100 → Light (1000000000 + mass t d (children t k)) (sidebarIn blocks t level k)
     unfolding sidebarIn
     sidebar-light level k h =
-        let p = perhaps (b "category") (categoryOf t k) in
+        let p = perhaps (b "category") (writtenCategory t k) in
         let qs = style t k ∷ (p ++ unclosed t k) in
         light-most (holder-light level 13 qs (without (isCategoryMarker t) (children t k)) h)
         (omega (
@@ -152,7 +152,7 @@ module _ (file : Bytes) (z : Kept₇ file) where
           attrs-append p (unclosed t k),
           style-limit file z k,
           unclosed-limit file z k,
-          perhaps-most (b "category") (categoryOf t k),
+          perhaps-most (b "category") (writtenCategory t k),
           category-limit file z k,
         ))
 

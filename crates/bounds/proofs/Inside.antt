@@ -19,7 +19,7 @@ use Rattle.tape.specs.declared.Step.the-variants.{At, Done}
 use Rattle.render.specs.Shape.{isOpen, isChapter, isVerse}
 use Rattle.render.specs.Follow.{followed}
 use Rattle.render.specs.Label.{labelOf}
-use Rattle.render.specs.Note.{noteCaller, remainder, categoryOf, bookCode, bookRest}
+use Rattle.render.specs.Note.{noteCaller, remainder, writtenCategory, bookCode, bookRest}
 use Rattle.attrs.specs.Attr.{attributesOf}
 use Rattle.attrs.specs.Walk.{firstOf}
 use Rattle.fold.specs.Fold.{foldAt}
@@ -139,7 +139,7 @@ module _ (file : Bytes) (z : Kept₇ file) where
         light-one {e = book (bookCode t k) (bookRest t k)} (code-limit file z k, omega (arith, rest-limit file z k))
     marker-light k outer note =
         let c = escaped (b "caller") (noteCaller t k) in
-        let q = perhaps (b "category") (categoryOf t k) in
+        let q = perhaps (b "category") (writtenCategory t k) in
         light-element 7 (c ∷ style t k ∷ q) (light asNote k outer)
         (omega (
           arith,
@@ -148,7 +148,7 @@ module _ (file : Bytes) (z : Kept₇ file) where
           escaped-cost (b "caller") (noteCaller t k),
           caller-limit file z k,
           style-limit file z k,
-          perhaps-most (b "category") (categoryOf t k),
+          perhaps-most (b "category") (writtenCategory t k),
           category-limit file z k,
         ))
     marker-light k outer ms =

@@ -18,11 +18,11 @@ use Rattle.tape.specs.declared.Step.the-variants.{At, Done}
 use Rattle.render.specs.Shape.{isText}
 use Rattle.render.specs.Children.{firstText}
 use Rattle.render.specs.Label.{labelOf}
-use Rattle.render.specs.Note.{leadText, callerOr, noteCaller, trimmedAt, categoryText, categoryOf, textOf as textUnder, firstWords, bookCode, bookRest, unlessEmpty, periphAlt}
+use Rattle.render.specs.Note.{leadText, callerOr, noteCaller, trimmedAt, categoryText, writtenCategory, stepText, firstWords, bookCode, bookRest, unlessEmpty, periphAlt}
 use Rattle.attrs.specs.Attr.{attributesOf}
 use Rattle.attrs.specs.Walk.{firstOf}
-use Rattle.figure.specs.Figure.{split, fieldAt, trimmedAt as describedAt, describedBy, valued, legacyPairs}
-use Rattle.fold.specs.Fold.{textOf, textsOf, numberIn, claimOf, Folded, isSome, foldFrom, foldAt}
+use Rattle.figure.specs.Figure.{split, fieldAt, trimmedText, describedBy, valued, legacyPairs}
+use Rattle.fold.specs.Fold.{ownText, textsOf, numberIn, claimOf, Folded, isSome, foldFrom, foldAt}
 use Rattle.fold.specs.declared.Claim.{Claim}
 use Rattle.fold.specs.declared.Claim.the-variants.{Blank, Alt, Pub, Stops}
 use Rattle.fold.proofs.Folding.{fold-blank, fold-alt, fold-pub, fold-stops, fold-nil}
@@ -66,14 +66,14 @@ module _ (file : Bytes) (z : Kept₇ file) where
 
   -- ---- words of a first text
 
-  under-limit : (s : Step) → length (textUnder t s) ≤ 4194304
-  unfolding textUnder
+  under-limit : (s : Step) → length (stepText t s) ≤ 4194304
+  unfolding stepText
   under-limit Done = omega arith
   under-limit (At c) = text-limit (c .at)
 
   words-limit : (k : ℕ) → weigh (firstWords t k) ≤ 4194305
   unfolding firstWords
-  words-limit k = omega (arith, words-weigh Unicode (textUnder t (firstText t k)), under-limit (firstText t k))
+  words-limit k = omega (arith, words-weigh Unicode (stepText t (firstText t k)), under-limit (firstText t k))
 
   pub code-limit : (k : ℕ) → length (bookCode t k) ≤ 9000000
   unfolding bookCode
@@ -107,8 +107,8 @@ module _ (file : Bytes) (z : Kept₇ file) where
   trimmed-limit Done = omega arith
   trimmed-limit (At c) = omega (arith, trim-most Unicode (textAt t (c .at)), text-limit (c .at))
 
-  pub category-limit : (k : ℕ) → sizeOr (categoryOf t k) ≤ 9000000
-  unfolding categoryOf
+  pub category-limit : (k : ℕ) → sizeOr (writtenCategory t k) ≤ 9000000
+  unfolding writtenCategory
   category-limit k = omega (arith, trimmed-limit (categoryText t k))
 
   -- ---- figures of old
@@ -119,8 +119,8 @@ module _ (file : Bytes) (z : Kept₇ file) where
       let s = strip 124 (textAt t a) in
       omega (arith, trim-most Unicode (getD (split 124 s) n []), get-most (split 124 s) n, split-weigh 124 s .1, strip-most 124 (textAt t a), text-limit a)
 
-  described-limit : (s : Step) → length (describedAt t s) ≤ 4194304
-  unfolding describedAt
+  described-limit : (s : Step) → length (trimmedText t s) ≤ 4194304
+  unfolding trimmedText
   described-limit Done = omega arith
   described-limit (At c) = omega (arith, trim-most Unicode (textAt t (c .at)), text-limit (c .at))
 
@@ -178,8 +178,8 @@ module _ (file : Bytes) (z : Kept₇ file) where
 
   -- ---- folded numbers
 
-  piece-limit : (k : ℕ) → length (textOf t k) ≤ 4194304
-  unfolding textOf
+  piece-limit : (k : ℕ) → length (ownText t k) ≤ 4194304
+  unfolding ownText
   piece-limit k = go (eqb (kindAt t k) 1)
     where
       go : (x : Bool) → length (cond x (textAt t k) []) ≤ 4194304
@@ -189,7 +189,7 @@ module _ (file : Bytes) (z : Kept₇ file) where
   pieces-limit : (ks : List ℕ) → length (textsOf t ks) ≤ 4194304 * length ks
   unfolding textsOf
   pieces-limit [] = omega arith
-  pieces-limit (k ∷ ks) = omega (arith, pieces-limit ks, piece-limit k, length-append (textOf t k) (textsOf t ks))
+  pieces-limit (k ∷ ks) = omega (arith, pieces-limit ks, piece-limit k, length-append (ownText t k) (textsOf t ks))
 
   number-limit : (k : ℕ) → length (numberIn t k) ≤ 4194304 * sizeOf t k
   unfolding numberIn

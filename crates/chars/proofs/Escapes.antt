@@ -8,20 +8,20 @@ use lib.ListN.{length, length-append}
 use lib.Dec.{eqb}
 use borrow.Author.Tests.{eq-eqb}
 use Rattle.parts.specs.Bytes.{Bytes, b}
-use Rattle.chars.specs.Escape.{escaped, escape, special}
+use Rattle.chars.specs.Escape.{escapedByte, escape, special}
 use Rattle.chars.proofs.Lists.{all, all-at, all-append}
 
 pub escape-append : (attr : Bool) (s z : Bytes) → escape attr (s ++ z) ≡ escape attr s ++ escape attr z
 unfolding escape
 escape-append attr [] z = refl
 escape-append attr (x ∷ s) z =
-    rw (escape-append attr s z) (sym (append-assoc (escaped attr x) (escape attr s) (escape attr z)))
+    rw (escape-append attr s z) (sym (append-assoc (escapedByte attr x) (escape attr s) (escape attr z)))
 
 -- ---- lengths
 
 -- a byte becomes one to six bytes
-escaped-length : (attr : Bool) (x : ℕ) → (1 ≤ length (escaped attr x)) × (length (escaped attr x) ≤ 6)
-unfolding escaped
+escaped-length : (attr : Bool) (x : ℕ) → (1 ≤ length (escapedByte attr x)) × (length (escapedByte attr x) ≤ 6)
+unfolding escapedByte
 escaped-length attr x = go (eqb x 60) (eqb x 62) (eqb x 38) (attr && eqb x 34)
   where
     word : Bool → Bool → Bool → Bool → Bytes
@@ -38,19 +38,19 @@ pub escape-most : (attr : Bool) (s : Bytes) → length (escape attr s) ≤ 6 * l
 unfolding escape
 escape-most attr [] = omega arith
 escape-most attr (x ∷ s) =
-    omega (arith, escape-most attr s, escaped-length attr x .1, length-append (escaped attr x) (escape attr s))
+    omega (arith, escape-most attr s, escaped-length attr x .1, length-append (escapedByte attr x) (escape attr s))
 
 pub escape-least : (attr : Bool) (s : Bytes) → length s ≤ length (escape attr s)
 unfolding escape
 escape-least attr [] = omega arith
 escape-least attr (x ∷ s) =
-    omega (arith, escape-least attr s, escaped-length attr x .0, length-append (escaped attr x) (escape attr s))
+    omega (arith, escape-least attr s, escaped-length attr x .0, length-append (escapedByte attr x) (escape attr s))
 
 -- ---- plain text
 
 -- a byte that has no name is written as it is
-pub escaped-plain : (attr : Bool) (x : ℕ) → special attr x ≡ false → escaped attr x ≡ x ∷ []
-unfolding special escaped
+pub escaped-plain : (attr : Bool) (x : ℕ) → special attr x ≡ false → escapedByte attr x ≡ x ∷ []
+unfolding special escapedByte
 escaped-plain attr x e = go (eqb x 60) (eqb x 62) (eqb x 38) (attr && eqb x 34) (b "&lt;") (b "&gt;") (b "&amp;") (b "&quot;") e
   where
     go : (p q r t : Bool) (k l m n : Bytes) → p || (q || (r || t)) ≡ false → cond p k (cond q l (cond r m (cond t n (x ∷ [])))) ≡ x ∷ []
@@ -73,8 +73,8 @@ escape-plain attr (x ∷ s) f =
 unfoldable pub harmless : Bool → ℕ → Bool
 harmless attr x = not (eqb x 60 || (eqb x 62 || (attr && eqb x 34)))
 
-escaped-harmless : (attr : Bool) (x : ℕ) → all (harmless attr) (escaped attr x) ≡ true
-unfolding escaped all harmless
+escaped-harmless : (attr : Bool) (x : ℕ) → all (harmless attr) (escapedByte attr x) ≡ true
+unfolding escapedByte all harmless
 escaped-harmless attr x = go attr (eqb x 60) (eqb x 62) (eqb x 38) (attr && eqb x 34) refl refl refl
   where
     go : (attr l g a q : Bool) → eqb x 60 ≡ l → eqb x 62 ≡ g → attr && eqb x 34 ≡ q
@@ -94,7 +94,7 @@ escape-harmless : (attr : Bool) (s : Bytes) → all (harmless attr) (escape attr
 unfolding escape all
 escape-harmless attr [] = refl
 escape-harmless attr (x ∷ s) =
-    rw (all-append (harmless attr) (escaped attr x) (escape attr s), escaped-harmless attr x, escape-harmless attr s)
+    rw (all-append (harmless attr) (escapedByte attr x) (escape attr s), escaped-harmless attr x, escape-harmless attr s)
 
 pub escape-safe : (attr : Bool) (s : Bytes) (x : ℕ) → List·Memᴰ x (escape attr s)
     → (x ≡ 60 → ⊥) × (x ≡ 62 → ⊥) × (attr ≡ true → x ≡ 34 → ⊥)

@@ -9,7 +9,7 @@ use lib.Dec.{leb, eqb}
 use borrow.Author.Tests.{ne-eqb, le-leb, lt-leb, eqb-false, leb-true, leb-false}
 use Rattle.parts.proofs.Laws.{and-true as both-true, drop-at}
 use Rattle.chars.specs.Range.{Range, within, inAny}
-use Rattle.chars.specs.Space.{whiteSpace, isWhite, found}
+use Rattle.chars.specs.Space.{whiteSpace, isWhite, searched}
 use Rattle.chars.proofs.Laws.{below, beyond}
 
 abbrev pub table : List ℕ
@@ -36,14 +36,14 @@ member-low c l (x ∷ xs) h e =
     let m : l ≤ x = leb-true l x (k .0) in
     rw (ne-eqb x c (λ (q : x ≡ c). omega arith), member-low c (suc x) xs (omega arith) (k .1))
 
-found-member : (c l : ℕ) (xs : List ℕ) → rising l xs ≡ true → found c xs ≡ member c xs
-unfolding member found rising
+found-member : (c l : ℕ) (xs : List ℕ) → rising l xs ≡ true → searched c xs ≡ member c xs
+unfolding member searched rising
 found-member c l [] e = refl
 found-member c l (x ∷ xs) e =
     let k = both-true (leb l x) (rising (suc x) xs) e in
     go (leb c x) refl (k .1) (found-member c (suc x) xs (k .1))
   where
-    go : (t : Bool) → leb c x ≡ t → rising (suc x) xs ≡ true → found c xs ≡ member c xs → cond t (eqb x c) (found c xs) ≡ eqb x c || member c xs
+    go : (t : Bool) → leb c x ≡ t → rising (suc x) xs ≡ true → searched c xs ≡ member c xs → cond t (eqb x c) (searched c xs) ≡ eqb x c || member c xs
     go true f r h = let g = leb-true c x f in rw (member-low c (suc x) xs (omega arith) r) (sym (or-false (eqb x c)))
     go false f r h = let g = leb-false c x f in rw (ne-eqb x c (λ (q : x ≡ c). omega arith)) h
 
@@ -110,24 +110,24 @@ table-rises : rising 0 table ≡ true
 unfolding rising
 table-rises = refl
 
-pub white-start : (c : ℕ) → found c table ≡ isWhite c
+pub white-start : (c : ℕ) → searched c table ≡ isWhite c
 unfolding isWhite
 white-start c = found-member c 0 table table-rises ∙ rw (← spread) (member-points c whiteSpace)
 
 module _ (c : ℕ) (xs : List ℕ) (i : ℕ) {t : Bool} (h : i < length xs) where
-  pub white-stop : c ≤ getD xs i 0 → found c (drop i xs) ≡ t → eqb (getD xs i 0) c ≡ t
-  unfolding found
+  pub white-stop : c ≤ getD xs i 0 → searched c (drop i xs) ≡ t → eqb (getD xs i 0) c ≡ t
+  unfolding searched
   white-stop l inv = sym (rw (drop-at xs i h, le-leb c (getD xs i 0) l)) ∙ inv
 
-  pub white-turn : getD xs i 0 < c → found c (drop i xs) ≡ t → found c (drop (i + 1) xs) ≡ t
-  unfolding found
+  pub white-turn : getD xs i 0 < c → searched c (drop i xs) ≡ t → searched c (drop (i + 1) xs) ≡ t
+  unfolding searched
   white-turn l inv = sym (rw (drop-at xs i h, lt-leb c (getD xs i 0) l)) ∙ inv
 
-pub white-end : (c : ℕ) (xs : List ℕ) (i : ℕ) {t : Bool} → length xs ≤ i → found c (drop i xs) ≡ t → false ≡ t
-unfolding found
+pub white-end : (c : ℕ) (xs : List ℕ) (i : ℕ) {t : Bool} → length xs ≤ i → searched c (drop i xs) ≡ t → false ≡ t
+unfolding searched
 white-end c xs i h inv = sym (rw (drop-of-length-le xs h)) ∙ inv
 
-pub white-listed : (c : ℕ) {r : Bool} → r ≡ found c table → r ≡ isWhite c
+pub white-listed : (c : ℕ) {r : Bool} → r ≡ searched c table → r ≡ isWhite c
 white-listed c e = e ∙ white-start c
 
 -- no code point between the space and U+0085 is white space

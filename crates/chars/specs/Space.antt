@@ -29,6 +29,6 @@ unfoldable pub isAsciiWhite : ℕ → Bool
 isAsciiWhite x = inAny (9 to 10 ∷ 12 to 13 ∷ 32 to 32 ∷ []) x
 
 -- the search of a rising table: up to the first entry that is not less than the number
-unfoldable pub found : ℕ → List ℕ → Bool
-found c [] = false
-found c (x ∷ xs) = cond (leb c x) (eqb x c) (found c xs)
+unfoldable pub searched : ℕ → List ℕ → Bool
+searched c [] = false
+searched c (x ∷ xs) = cond (leb c x) (eqb x c) (searched c xs)

@@ -6,7 +6,7 @@ ghost use Prim.Native.Nat.{_-_, _≤_};
 ghost use lib.ListN.{drop};
 ghost use Rattle.chars.specs.Range.{_to_, within};
 ghost use Rattle.chars.specs.Utf8.{seqLen, point, firstChar, isUtf8 as isUtf8Of, isBoundary};
-ghost use Rattle.chars.specs.Space.{isWhite, isAsciiWhite, found};
+ghost use Rattle.chars.specs.Space.{isWhite, isAsciiWhite, searched};
 use parts::byte_at;
 use parts::from;
 
@@ -241,7 +241,7 @@ pub fn is_boundary(s: &[u8], at: usize) -> bool
 
 // Whether a rising table holds a number.
 fn listed(table: &[u32], code: u32) -> bool
-    ensures { λ r. ⌜ r ≡ found code (now (table .entry)) ⌝ }
+    ensures { λ r. ⌜ r ≡ searched code (now (table .entry)) ⌝ }
 {
     let mut i = 0;
     while i < table.len() {

@@ -7,7 +7,7 @@ use lib.ListN.{length, take, drop, length-drop}
 use lib.Seq.{drop-drop}
 use mathlib.Core.Bool.{Bool, true, false}
 use Rattle.parts.specs.Bytes.{Bytes, b, same}
-use Rattle.tags.specs.Form.{Pair, Row, pairAt, pairLen, pairOf, morePairs, pairsFrom, headAt, tailAt, ended, tagged, headed, next}
+use Rattle.tags.specs.Form.{Pair, Row, pairAt, pairLen, pairOf, morePairs, pairsRow, headAt, tailAt, ended, tagged, headed, next}
 use Rattle.tags.specs.declared.Found.{Found}
 use Rattle.tags.specs.declared.Found.the-variants.{Got, Nothing}
 use Rattle.tags.specs.declared.Head.{Head}
@@ -34,28 +34,28 @@ module _ (x : List ℕ) (i : ℕ) {p : Found} (e : p ≡ pairAt (drop i x)) wher
     pub attrs-in : i + pairLen k v ≤ length x
     attrs-in = omega (arith, pair-fits (drop i x) k v (sym e ∙ is), length-drop i x)
 
-    more : pairsFrom (drop i x) ≡ morePairs pairsFrom (drop i x) (Got k v)
+    more : pairsRow (drop i x) ≡ morePairs pairsRow (drop i x) (Got k v)
     more = pairs-by (drop i x) (Got k v) (sym e ∙ is)
 
-    pub attrs-rest : {r : List ℕ} → pairsFrom (drop i x) .rest ≡ r → pairsFrom (drop (i + pairLen k v) x) .rest ≡ r
+    pub attrs-rest : {r : List ℕ} → pairsRow (drop i x) .rest ≡ r → pairsRow (drop (i + pairLen k v) x) .rest ≡ r
     attrs-rest inv = rw (← drop-drop (pairLen k v) i x) (sym (ap (λ (a : Row). a .rest) more) ∙ inv)
 
     pub attrs-mark : (f : Form) {s key : List ℕ} (g : Form) {m : Mark} → s ≡ drop i x → key ≡ take k (drop 1 s)
         → ((z : List ℕ) → markIn z g ≡ noted (markIn z f) (record { key = key; value = bytesOf z (record { start = i + (k + 3); len = v }) }))
-        → markOn (markIn x f) (pairsFrom (drop i x) .list) ≡ m → markOn (markIn x g) (pairsFrom (drop (i + pairLen k v) x) .list) ≡ m
+        → markOn (markIn x f) (pairsRow (drop i x) .list) ≡ m → markOn (markIn x g) (pairsRow (drop (i + pairLen k v) x) .list) ≡ m
     unfolding markOn
     attrs-mark f {s} {key} g es ek eg inv =
         let a : Pair = pairOf (drop i x) k v in
-        let L : List Pair = pairsFrom (drop (pairLen k v) (drop i x)) .list in
+        let L : List Pair = pairsRow (drop (pairLen k v) (drop i x)) .list in
         let is-a : record { key = key; value = take v (drop (i + (k + 3)) x) } ≡ a =
         rw (ek, es, ← drop-drop (k + 3) i x) in
         rw (← drop-drop (pairLen k v) i x, eg x, is-a) (sym (ap (λ (a : Row). markOn (markIn x f) (a .list)) more) ∙ inv)
 
-  pub attrs-end : (f : Form) {r : List ℕ} {m : Mark} → p ≡ Nothing → markOn (markIn x f) (pairsFrom (drop i x) .list) ≡ m → pairsFrom (drop i x) .rest ≡ r
+  pub attrs-end : (f : Form) {r : List ℕ} {m : Mark} → p ≡ Nothing → markOn (markIn x f) (pairsRow (drop i x) .list) ≡ m → pairsRow (drop i x) .rest ≡ r
       → (drop i x ≡ r) × (markIn x f ≡ m)
   unfolding markOn
   attrs-end f is em er =
-      let none : pairsFrom (drop i x) ≡ morePairs pairsFrom (drop i x) Nothing = pairs-by (drop i x) Nothing (sym e ∙ is) in
+      let none : pairsRow (drop i x) ≡ morePairs pairsRow (drop i x) Nothing = pairs-by (drop i x) Nothing (sym e ∙ is) in
       (sym (ap (λ (a : Row). a .rest) none) ∙ er, sym (ap (λ (a : Row). markOn (markIn x f) (a .list)) none) ∙ em)
 
 -- one more attribute, by the form and the key
@@ -129,11 +129,11 @@ module _ (key : Bytes) {e : Bool} (ee : e ≡ same key (b "eid")) where
 
 -- behind the attributes
 module _ (x : Bytes) (n at : ℕ) (f : Form) (e : ℕ)
-    (a : (drop e x ≡ pairsFrom (drop at x) .rest) × (markIn x f ≡ markOn bare (pairsFrom (drop at x) .list)))
+    (a : (drop e x ≡ pairsRow (drop at x) .rest) × (markIn x f ≡ markOn bare (pairsRow (drop at x) .list)))
     {s : Bytes} (es : s ≡ drop e x) {t : Tail} (et : t ≡ tailAt s) where
-  read-is : brief (tagged n (drop at x)) ≡ brief (ended n (pairsFrom (drop at x)) t)
+  read-is : brief (tagged n (drop at x)) ≡ brief (ended n (pairsRow (drop at x)) t)
   unfolding tagged
-  read-is = ap (λ (z : Tail). brief (ended n (pairsFrom (drop at x)) z)) (sym (et ∙ ap tailAt (es ∙ a .0)))
+  read-is = ap (λ (z : Tail). brief (ended n (pairsRow (drop at x)) z)) (sym (et ∙ ap tailAt (es ∙ a .0)))
 
   tail-long : tailLen t ≤ length x - e
   tail-long = omega (arith, subst (λ (z : Tail). tailLen z ≤ length s) (sym et) (tail-fits s), ap length es, length-drop e x)
@@ -148,18 +148,18 @@ module _ (x : Bytes) (n at : ℕ) (f : Form) (e : ℕ)
   unfolding sightIn viewIn brief ended view
   tag-open i =
       ap (sight (opened n)) (sym (drop-drop 1 e x) ∙ ap (drop 1) (a .0))
-      ∙ sym (read-is ∙ ap (λ (z : Tail). brief (ended n (pairsFrom (drop at x)) z)) i)
+      ∙ sym (read-is ∙ ap (λ (z : Tail). brief (ended n (pairsRow (drop at x)) z)) i)
 
   pub tag-empty : t ≡ Empty → sightIn x (Token (Single n f) (e + 3)) ≡ brief (tagged n (drop at x))
   unfolding sightIn viewIn brief ended view
   tag-empty i =
       ap (λ (m : Mark). sight (single n m) (drop (e + 3) x)) (a .1)
-      ∙ ap (sight (single n (markOn bare (pairsFrom (drop at x) .list)))) (sym (drop-drop 3 e x) ∙ ap (drop 3) (a .0))
-      ∙ sym (read-is ∙ ap (λ (z : Tail). brief (ended n (pairsFrom (drop at x)) z)) i)
+      ∙ ap (sight (single n (markOn bare (pairsRow (drop at x) .list)))) (sym (drop-drop 3 e x) ∙ ap (drop 3) (a .0))
+      ∙ sym (read-is ∙ ap (λ (z : Tail). brief (ended n (pairsRow (drop at x)) z)) i)
 
   pub tag-bad : t ≡ Neither → sightIn x Bad ≡ brief (tagged n (drop at x))
   unfolding sightIn brief ended
-  tag-bad i = sym (read-is ∙ ap (λ (z : Tail). brief (ended n (pairsFrom (drop at x)) z)) i)
+  tag-bad i = sym (read-is ∙ ap (λ (z : Tail). brief (ended n (pairsRow (drop at x)) z)) i)
 
 -- at the front
 module _ (x : Bytes) (at : ℕ) {s : Bytes} (es : s ≡ drop at x) {h : Head} (eh : h ≡ headAt s) where

@@ -8,7 +8,7 @@ ghost use lib.IntN.{pos, _+ℤ_, _-ℤ_};
 ghost use lib.Signed.{mag, ltZ};
 ghost use mir.Syntax.{w64};
 ghost use mir.Val.{SFits};
-ghost use Rattle.tags.specs.Form.{pairsFrom, tagged, next, tokensFrom};
+ghost use Rattle.tags.specs.Form.{pairsRow, tagged, next, tokensFrom};
 ghost use Rattle.checker.specs.View.{keyOf, bare, notedBy, noted, markOn, single as singleV};
 ghost use Rattle.checker.specs.Answer.{answerOf};
 ghost use Rattle.checker.specs.Words.{highest, Judged};
@@ -171,7 +171,7 @@ fn with_attr(form: Form, key: &[u8], value: Part) -> Form
 
 // The attributes from a place on: what they make the tag, and where they end.
 fn attrs_at(text: &[u8], at: usize) -> Attrs
-    ensures { λ r. ⌜ (drop (r .«end») (now (text .entry)) ≡ pairsFrom (drop at (now (text .entry))) .rest) × (markIn (now (text .entry)) (r .form) ≡ markOn bare (pairsFrom (drop at (now (text .entry))) .list)) ⌝ }
+    ensures { λ r. ⌜ (drop (r .«end») (now (text .entry)) ≡ pairsRow (drop at (now (text .entry))) .rest) × (markIn (now (text .entry)) (r .form) ≡ markOn bare (pairsRow (drop at (now (text .entry))) .list)) ⌝ }
 {
     let mut form = Form::Bare;
     let mut i = at;

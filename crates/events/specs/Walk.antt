@@ -20,7 +20,7 @@ use Rattle.render.specs.First.{any}
 use Rattle.render.specs.Follow.{inlineFollows, followed}
 use Rattle.render.specs.Children.{hasContent}
 use Rattle.render.specs.Label.{labelOf}
-use Rattle.render.specs.Note.{noteCaller, remainder, categoryOf, bookCode, bookRest, periphAlt, cellAlign, alignWord}
+use Rattle.render.specs.Note.{noteCaller, remainder, writtenCategory, bookCode, bookRest, periphAlt, cellAlign, alignWord}
 use Rattle.render.specs.declared.shape.Shape.{Shape}
 use Rattle.render.specs.declared.shape.Shape.the-variants.{Block, Inline, Leaf, Other}
 use Rattle.attrs.specs.Attr.{attributesOf}
@@ -129,7 +129,7 @@ markerAs inside t k outer figure = figureAs inside t k outer (legacyAt t k)
 markerAs inside t k outer ref = element el.ref (perhaps (b "loc") (firstOf (b "loc") (attributesOf t k (b "ref")))) (inside asInline k outer)
 markerAs inside t k outer id = book (bookCode t k) (bookRest t k) ∷ []
 markerAs inside t k outer note =
-    element el.note (escaped (b "caller") (noteCaller t k) ∷ style t k ∷ perhaps (b "category") (categoryOf t k)) (inside asNote k outer)
+    element el.note (escaped (b "caller") (noteCaller t k) ∷ style t k ∷ perhaps (b "category") (writtenCategory t k)) (inside asNote k outer)
 markerAs inside t k outer ms = item (empty el.ms (style t k ∷ collected (attributesOf t k (markerName t k)))) ∷ []
 markerAs inside t k outer char =
     element el.char (style t k ∷ (unclosed t k ++ collected (attributesOf t k (markerName t k)))) (linked (linkOf t k) (inside asInline k outer))
@@ -293,7 +293,7 @@ holder blocks t level n attrs ks =
 -- "a sidebar's `\cat`" leaves the list
 unfoldable pub sidebarIn : (List ℕ → List Event) → Tape → ℕ → ℕ → List Event
 sidebarIn blocks t level k =
-    holder blocks t level el.sidebar (style t k ∷ (perhaps (b "category") (categoryOf t k) ++ unclosed t k)) (without (isCategoryMarker t) (children t k))
+    holder blocks t level el.sidebar (style t k ∷ (perhaps (b "category") (writtenCategory t k) ++ unclosed t k)) (without (isCategoryMarker t) (children t k))
 
 -- a periph: its alt, then its attributes
 unfoldable pub periphIn : (List ℕ → List Event) → Tape → ℕ → ℕ → List Event

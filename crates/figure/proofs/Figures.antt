@@ -23,7 +23,7 @@ use Rattle.render.specs.Shape.{isAttribute}
 use Rattle.render.specs.Children.{passes, firstText}
 use Rattle.render.specs.declared.children.Test.the-variants.{Attribute}
 use Rattle.attrs.specs.Attr.{equals, hasEquals}
-use Rattle.figure.specs.Figure.{ifLegacy, legacyAt, split, fieldAt, trimmedAt, describedBy, valued}
+use Rattle.figure.specs.Figure.{ifLegacy, legacyAt, split, fieldAt, trimmedText, describedBy, valued}
 
 -- ---- old or of today
 
@@ -136,12 +136,12 @@ field-trimmed t a n ex eb ef er = er ∙ rw (ef, eb, ex)
 
 module _ (t : Tape) (k : ℕ) {f : Step} (ef : f ≡ firstText t k) where
   pub described-none : f ≡ Done → {r : Bytes} → r ≡ [] → r ≡ describedBy t k
-  unfolding describedBy trimmedAt
-  described-none e er = er ∙ ap (trimmedAt t) (sym e ∙ ef)
+  unfolding describedBy trimmedText
+  described-none e er = er ∙ ap (trimmedText t) (sym e ∙ ef)
 
   pub described-text : {c : Cursor} → f ≡ At c → {x r : Bytes} → x ≡ textAt t (c .at) → r ≡ trim Unicode x → r ≡ describedBy t k
-  unfolding describedBy trimmedAt
-  described-text e ex er = er ∙ ap (trim Unicode) ex ∙ ap (trimmedAt t) (sym e ∙ ef)
+  unfolding describedBy trimmedText
+  described-text e ex er = er ∙ ap (trim Unicode) ex ∙ ap (trimmedText t) (sym e ∙ ef)
 
 -- ---- a pair unless its value is empty
 

@@ -36,13 +36,13 @@ unfoldable pub fieldAt : Tape → ℕ → ℕ → Bytes
 fieldAt t a n = trim Unicode (getD (split 124 (strip 124 (textAt t a))) n [])
 
 -- the text of a node without white space at both ends
-unfoldable pub trimmedAt : Tape → Step → Bytes
-trimmedAt t Done = []
-trimmedAt t (At c) = trim Unicode (textAt t (c .at))
+unfoldable pub trimmedText : Tape → Step → Bytes
+trimmedText t Done = []
+trimmedText t (At c) = trim Unicode (textAt t (c .at))
 
 -- the description: the first Text child, trimmed
 unfoldable pub describedBy : Tape → ℕ → Bytes
-describedBy t k = trimmedAt t (firstText t k)
+describedBy t k = trimmedText t (firstText t k)
 
 -- a pair unless its value is empty
 unfoldable pub valued : Bytes → Bytes → List Pair

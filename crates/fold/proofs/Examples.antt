@@ -10,12 +10,12 @@ use Rattle.chars.specs.Space.{whiteSpace, isWhite, isAsciiWhite}
 use Rattle.words.specs.Words.{stepOf, charsOf, white, takeWhile, onto, pieces, nonempty, words, joined, isBlank}
 use Rattle.tape.specs.File.{Tape, nodeAt, textAt}
 use Rattle.tape.specs.Name.{strip, bare, endsName, inName, nameIn, markerName}
-use Rattle.tape.specs.Tree.{isClose, holds, childBefore, firstChild, lastOf, siblingPast, nextSibling, left, along, walkFrom, children, siblings, found}
+use Rattle.tape.specs.Tree.{isClose, holds, childBefore, firstChild, lastHeld, siblingPast, nextSibling, left, along, walkFrom, children, siblings, found}
 use Rattle.tape.specs.declared.Node.{Node}
 use Rattle.render.specs.First.{firstWith, any}
-use Rattle.render.specs.Shape.{isBlank as isBlankText}
+use Rattle.render.specs.Shape.{isBlankText}
 use Rattle.render.specs.Children.{isPlainText}
-use Rattle.fold.specs.Fold.{slotBy, slotOf, free, claimOf, textOf, textsOf, numberIn, isSome, foldFrom, foldAt}
+use Rattle.fold.specs.Fold.{slotBy, slotOf, free, claimOf, ownText, textsOf, numberIn, isSome, foldFrom, foldAt}
 
 abbrev node : ℕ → ℕ → ℕ → ℕ → Node
 node k l s n = record { kind = record { code = k }; flags = record { bits = 0 }; marker = 0; link = l; start = s; len = n }
@@ -44,5 +44,5 @@ tape =
 pub fold-examples :
     (foldAt tape 7 (siblings tape 1) ≡ record { alt = some (b "2"); published = none; rest = 6 ∷ [] })
     × (foldAt tape 6 (siblings tape 1) ≡ record { alt = none; published = none; rest = 3 ∷ 6 ∷ [] })
-unfolding within inAny whiteSpace isWhite isAsciiWhite table37 fits rowLen seqLen step cutAt characters isSequence every point codeOf same begins strip bare endsName inName nameIn markerName stepOf charsOf white takeWhile onto pieces nonempty words joined isBlank nodeAt textAt isClose holds childBefore firstChild lastOf siblingPast nextSibling left along walkFrom children siblings isBlankText firstWith found any isPlainText slotBy slotOf free claimOf textOf textsOf numberIn isSome foldFrom foldAt flatten
+unfolding within inAny whiteSpace isWhite isAsciiWhite table37 fits rowLen seqLen step cutAt characters isSequence every point codeOf same begins strip bare endsName inName nameIn markerName stepOf charsOf white takeWhile onto pieces nonempty words joined isBlank nodeAt textAt isClose holds childBefore firstChild lastHeld siblingPast nextSibling left along walkFrom children siblings isBlankText firstWith found any isPlainText slotBy slotOf free claimOf ownText textsOf numberIn isSome foldFrom foldAt flatten
 fold-examples = (refl, refl)

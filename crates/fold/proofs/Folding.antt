@@ -9,7 +9,7 @@ use Rattle.parts.specs.Bytes.{Bytes, b, same}
 use Rattle.tape.specs.File.{Tape, kindAt}
 use Rattle.tape.specs.Name.{markerName}
 use Rattle.tape.specs.declared.kinds.Kind.{Kind}
-use Rattle.render.specs.Shape.{isBlank}
+use Rattle.render.specs.Shape.{isBlankText}
 use Rattle.render.specs.Children.{isPlainText}
 use Rattle.fold.specs.Fold.{slotBy, slotOf, free, claimOf, numberIn, isSome, foldFrom}
 use Rattle.fold.specs.declared.Claim.{Claim}
@@ -71,7 +71,7 @@ module _ (gotAlt gotPub : Bool) {c : Claim} where
 
 -- ---- what a node is to the fold
 
-module _ (t : Tape) (anchor : ℕ) (gotAlt gotPub : Bool) (k : ℕ) {x : Bool} (ex : x ≡ isBlank t k) where
+module _ (t : Tape) (anchor : ℕ) (gotAlt gotPub : Bool) (k : ℕ) {x : Bool} (ex : x ≡ isBlankText t k) where
   pub claim-blank : x ≡ true → Blank ≡ claimOf t anchor gotAlt gotPub k
   unfolding claimOf
   claim-blank h = rw (sym ex ∙ h)

@@ -25,8 +25,8 @@ use Rattle.tape.specs.declared.Cursor.{Cursor}
 use Rattle.tape.specs.declared.Step.{Step}
 use Rattle.tape.specs.declared.Step.the-variants.{At, Done}
 use Rattle.tape.proofs.Walk.{walk-turn, walk-end, children-walk}
-use Rattle.fold.specs.Fold.{textOf, textsOf, numberIn}
-use Rattle.fold.specs.Number.{spaceIf, collapse, runList, toCome, pieceList, wordSome, pieceSome}
+use Rattle.fold.specs.Fold.{ownText, textsOf, numberIn}
+use Rattle.fold.specs.Number.{gapSpace, collapse, runList, toCome, pieceList, wordSome, pieceSome}
 use Rattle.fold.specs.declared.Run.{Run}
 use Rattle.fold.specs.declared.Run.the-variants.{Word, White}
 use Rattle.fold.specs.declared.Number.{Number}
@@ -81,7 +81,7 @@ module _ (x : ℕ) (s : Bytes) where
     unfolding collapse
     past-white e = rw (e, collapse)
 
-    past-solid : isAsciiWhite x ≡ false → collapse begun gap (x ∷ s) ≡ spaceIf (begun && gap) ++ (x ∷ collapse true false s)
+    past-solid : isAsciiWhite x ≡ false → collapse begun gap (x ∷ s) ≡ gapSpace (begun && gap) ++ (x ∷ collapse true false s)
     unfolding collapse
     past-solid e = rw (e, collapse)
 
@@ -106,7 +106,7 @@ module _ (x : ℕ) (s : Bytes) (r : Collapsed s) where
       }
 
   collapsed-solid : isAsciiWhite x ≡ false → Collapsed (x ∷ s)
-  unfolding spaceIf
+  unfolding gapSpace
   collapsed-solid e =
       record {
         inside = past-solid x s true false e ∙ ap (λ (z : Bytes). x ∷ z) (r .inside) ∙ sym (onto-onward x (cutUp s)) ∙ ap onward (sym (cut-solid x s e));
@@ -146,8 +146,8 @@ module _ (x : ℕ) (s : Bytes) where
   unfolding wordLen takeWhile solid white flatten
   word-ends e = rw (ascii-chars x s, e)
 
-shut : (z : Bytes) → spaceIf (true && false) ++ z ≡ z
-unfolding spaceIf
+shut : (z : Bytes) → gapSpace (true && false) ++ z ≡ z
+unfolding gapSpace
 shut z = refl
 
 module _ (more : Bytes) where
@@ -169,15 +169,15 @@ module _ (more : Bytes) where
       go true e f = rw (word-ends x s e)
       go false e f = past-solid x (s ++ more) true false e ∙ shut (x ∷ collapse true false (s ++ more)) ∙ rw (word-more x s e) (ap (λ (z : Bytes). x ∷ z) f)
 
-  word-starts : (begun gap : Bool) (s : Bytes) → 0 < wordLen Ascii s → collapse begun gap (s ++ more) ≡ spaceIf (begun && gap) ++ collapse true false (s ++ more)
+  word-starts : (begun gap : Bool) (s : Bytes) → 0 < wordLen Ascii s → collapse begun gap (s ++ more) ≡ gapSpace (begun && gap) ++ collapse true false (s ++ more)
   word-starts begun gap [] h = absurd (omega (arith, word-le Ascii []))
   word-starts begun gap (x ∷ s) h = go (isAsciiWhite x) refl
     where
-      go : (t : Bool) → isAsciiWhite x ≡ t → collapse begun gap (x ∷ (s ++ more)) ≡ spaceIf (begun && gap) ++ collapse true false (x ∷ (s ++ more))
+      go : (t : Bool) → isAsciiWhite x ≡ t → collapse begun gap (x ∷ (s ++ more)) ≡ gapSpace (begun && gap) ++ collapse true false (x ∷ (s ++ more))
       go true e = absurd (omega (arith, word-ends x s e))
       go false e =
           past-solid x (s ++ more) begun gap e
-          ∙ ap (λ (z : Bytes). spaceIf (begun && gap) ++ z) (sym (past-solid x (s ++ more) true false e ∙ shut (x ∷ collapse true false (s ++ more))))
+          ∙ ap (λ (z : Bytes). gapSpace (begun && gap) ++ z) (sym (past-solid x (s ++ more) true false e ∙ shut (x ∷ collapse true false (s ++ more))))
 
 -- ---- the first run of a part
 
@@ -236,7 +236,7 @@ module _ (source : Bytes) (p : Part) {s f : Bytes} {w n : ℕ} (es : s ≡ part 
   run-word begun gap {sp} {x} esp h ex more =
       white-past begun gap esp more
       ∙ word-starts more begun sp f (omega (arith, en))
-      ∙ ap (λ (z : Bytes). spaceIf (begun && sp) ++ z) (word-run more f)
+      ∙ ap (λ (z : Bytes). gapSpace (begun && sp) ++ z) (word-run more f)
       ∙ rw (← ex, ← en, first, rest)
 
 -- ---- the text of a node
@@ -245,12 +245,12 @@ module _ (t : Tape) (k : ℕ) {n : Node} (en : n ≡ nodeAt t k) where
   coded : n .kind .code ≡ kindAt t k
   coded = ap (λ (m : Node). m .kind .code) en
 
-  pub text-placed : n .kind .code ≡ 1 → {a l : ℕ} → a ≡ n .start → l ≡ n .len → bytesOf (t .source) (record { start = a; len = l }) ≡ textOf t k
-  unfolding textOf textAt
+  pub text-placed : n .kind .code ≡ 1 → {a l : ℕ} → a ≡ n .start → l ≡ n .len → bytesOf (t .source) (record { start = a; len = l }) ≡ ownText t k
+  unfolding ownText textAt
   text-placed h ea el = rw (eq-eqb (kindAt t k) 1 (sym coded ∙ h), ea, el) (ap (λ (m : Node). part (t .source) (m .start) (m .len)) en)
 
-  pub text-none : (n .kind .code ≡ 1 → ⊥) → bytesOf (t .source) (record { start = 0; len = 0 }) ≡ textOf t k
-  unfolding textOf
+  pub text-none : (n .kind .code ≡ 1 → ⊥) → bytesOf (t .source) (record { start = 0; len = 0 }) ≡ ownText t k
+  unfolding ownText
   text-none h = rw (ne-eqb (kindAt t k) 1 (λ e. h (coded ∙ e)))
 
 -- ---- the walk over a number
@@ -275,7 +275,7 @@ module _ (t : Tape) (rest : Part) (next : Step) (begun gap : Bool) {z : Bytes} (
     unfolding runList pieceList textsOf collapse
     none-here en = came ∙ rw e (ap (λ (ks : List ℕ). collapse begun sp (textsOf t ks)) (walk-end t en))
 
-    pub number-on : {c : Cursor} → next ≡ At c → (p : Part) → bytesOf (t .source) p ≡ textOf t (c .at) → {n : Step} → n ≡ nextSibling t (c .at)
+    pub number-on : {c : Cursor} → next ≡ At c → (p : Part) → bytesOf (t .source) p ≡ ownText t (c .at) → {n : Step} → n ≡ nextSibling t (c .at)
         → toCome t (record { rest = p; next = n; begun = begun; gap = sp }) ≡ z
     unfolding runList toCome textsOf
     number-on {c} ec p ep en =
@@ -304,5 +304,5 @@ pub number-less : (t : Tape) (n : Number) (r : Piece) → toCome t n ≡ pieceLi
 unfolding pieceList
 number-less t n r er h {p} {x} {left} e =
     let size : 0 < length (bytesOf (t .source) p) = rw e at h in
-    let whole : toCome t n ≡ spaceIf x ++ (bytesOf (t .source) p ++ toCome t left) = er ∙ rw e in
-    omega (arith, ap length whole, length-append (spaceIf x) (bytesOf (t .source) p ++ toCome t left), length-append (bytesOf (t .source) p) (toCome t left))
+    let whole : toCome t n ≡ gapSpace x ++ (bytesOf (t .source) p ++ toCome t left) = er ∙ rw e in
+    omega (arith, ap length whole, length-append (gapSpace x) (bytesOf (t .source) p ++ toCome t left), length-append (bytesOf (t .source) p) (toCome t left))

@@ -12,7 +12,7 @@ use Rattle.tape.specs.Name.{markerName}
 use Rattle.tape.specs.Tree.{children}
 use Rattle.tape.specs.declared.Step.{Step}
 use Rattle.tape.specs.declared.Step.the-variants.{At, Done}
-use Rattle.render.specs.Shape.{isOpen, isBlank}
+use Rattle.render.specs.Shape.{isOpen, isBlankText}
 use Rattle.render.specs.Children.{isPlainText}
 use Rattle.fold.specs.declared.Claim.{Claim}
 use Rattle.fold.specs.declared.Claim.the-variants.{Blank, Alt, Pub, Stops}
@@ -37,17 +37,17 @@ free gotAlt gotPub Stops = Stops
 -- what a node behind an anchor is to the fold, with the numbers that the anchor has already
 unfoldable pub claimOf : Tape → ℕ → Bool → Bool → ℕ → Claim
 claimOf t anchor gotAlt gotPub k =
-    cond (isBlank t k) Blank
+    cond (isBlankText t k) Blank
     (cond (isOpen t k && isPlainText t k) (free gotAlt gotPub (slotOf anchor (markerName t k))) Stops)
 
 -- the text that a node adds to a number: a Text its own, others none
-unfoldable pub textOf : Tape → ℕ → Bytes
-textOf t k = cond (eqb (kindAt t k) kinds.text) (textAt t k) []
+unfoldable pub ownText : Tape → ℕ → Bytes
+ownText t k = cond (eqb (kindAt t k) kinds.text) (textAt t k) []
 
 -- the Text nodes of a list, one text
 unfoldable pub textsOf : Tape → List ℕ → Bytes
 textsOf t [] = []
-textsOf t (k ∷ ks) = textOf t k ++ textsOf t ks
+textsOf t (k ∷ ks) = ownText t k ++ textsOf t ks
 
 -- `marker_inner_text`: a marker's direct texts, ASCII white space collapsed
 unfoldable pub numberIn : Tape → ℕ → Bytes
@@ -80,6 +80,6 @@ unfoldable pub foldAt : Tape → ℕ → List ℕ → Folded
 foldAt t anchor ks = foldFrom t anchor none none ks
 
 -- the number of the marker that a step leads to
-unfoldable pub numberOf : Tape → Step → Option Bytes
-numberOf t Done = none
-numberOf t (At c) = some (numberIn t (c .at))
+unfoldable pub foldedNumber : Tape → Step → Option Bytes
+foldedNumber t Done = none
+foldedNumber t (At c) = some (numberIn t (c .at))

@@ -16,8 +16,8 @@ use Rattle.fold.specs.declared.Piece.{Piece}
 use Rattle.fold.specs.declared.Piece.the-variants.{Some, Done}
 
 -- one space, or nothing
-unfoldable pub spaceIf : Bool → Bytes
-spaceIf t = cond t (32 ∷ []) []
+unfoldable pub gapSpace : Bool → Bytes
+gapSpace t = cond t (32 ∷ []) []
 
 -- a text collapsed byte by byte: whether a byte stands in front of it, and whether white space stands between
 unfoldable pub collapse : Bool → Bool → Bytes → Bytes
@@ -25,12 +25,12 @@ collapse begun gap [] = []
 collapse begun gap (x ∷ s) =
     elim (isAsciiWhite x) as (λ _. Bytes) [
       | true ↦ collapse begun true s
-      | false ↦ spaceIf (begun && gap) ++ (x ∷ collapse true false s)
+      | false ↦ gapSpace (begun && gap) ++ (x ∷ collapse true false s)
     ]
 
 -- what is left of a number behind the first run of a part, with more behind the part
 unfoldable pub runList : Bytes → Bool → Run → Bytes → Bytes
-runList source begun (Word p space rest) more = spaceIf space ++ (bytesOf source p ++ collapse true false (bytesOf source rest ++ more))
+runList source begun (Word p space rest) more = gapSpace space ++ (bytesOf source p ++ collapse true false (bytesOf source rest ++ more))
 runList source begun (White gap) more = collapse begun gap more
 
 -- what is still to come of a number
@@ -43,7 +43,7 @@ walkOf t k = record { rest = record { start = 0; len = 0 }; next = firstChild t 
 
 -- an answer: a piece, with or without a space in front, and what comes behind it
 unfoldable pub pieceList : Tape → Piece → Bytes
-pieceList t (Some p space left) = spaceIf space ++ (bytesOf (t .source) p ++ toCome t left)
+pieceList t (Some p space left) = gapSpace space ++ (bytesOf (t .source) p ++ toCome t left)
 pieceList t Done = []
 
 -- a word is not empty

@@ -13,7 +13,7 @@ ghost use Rattle.parts.specs.Bytes.{Bytes};
 ghost use Rattle.words.specs.Words.{bytesOf};
 ghost use Rattle.tape.specs.File.{tapeIn};
 ghost use Rattle.lean.specs.Lean.{Solids};
-ghost use Rattle.fold.specs.Fold.{slotBy, slotOf, free as freeOf, claimOf, textOf, numberIn};
+ghost use Rattle.fold.specs.Fold.{slotBy, slotOf, free as freeOf, claimOf, ownText, numberIn};
 ghost use Rattle.fold.specs.Number.{collapse, runList, toCome, walkOf, pieceList, wordSome, pieceSome};
 
 // What a node behind an anchor is: nothing, a number that folds, or the end of the fold.
@@ -154,7 +154,7 @@ fn run_in(source: &[u8], rest: Part, begun: bool, gap: bool) -> Run
 
 // The text that a node of a number has, as a part of the source.
 fn text_part(file: &[u8], tape: Sections, c: Cursor) -> Part
-    ensures { λ r. ⌜ bytesOf (tapeIn tape (now (file .entry)) .source) r ≡ textOf (tapeIn tape (now (file .entry))) (c .at) ⌝ }
+    ensures { λ r. ⌜ bytesOf (tapeIn tape (now (file .entry)) .source) r ≡ ownText (tapeIn tape (now (file .entry))) (c .at) ⌝ }
 {
     let n = c.node(file, tape);
     if n.kind.code == Kind::TEXT {

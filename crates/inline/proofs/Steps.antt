@@ -15,8 +15,8 @@ use Rattle.tape.proofs.Walk.{walk-end, children-walk}
 use Rattle.render.specs.Shape.{trimsAfter}
 use Rattle.render.specs.Follow.{followed, Kept}
 use Rattle.render.specs.Label.{labelOf}
-use Rattle.fold.specs.Fold.{numberOf}
-use Rattle.lists.specs.Span.{filtered, cutAt, nodesIn}
+use Rattle.fold.specs.Fold.{foldedNumber}
+use Rattle.lists.specs.Span.{filtered, cutBy, nodesIn}
 use Rattle.lists.specs.declared.Span.{Span}
 use Rattle.lists.proofs.Nodes.{nodes-done}
 use Rattle.events.specs.Event.{Event, chapter, verse}
@@ -25,7 +25,7 @@ use Rattle.events.specs.Emit.{Desk, emit, emitAll}
 use Rattle.events.proofs.Emits.{emit-append}
 use Rattle.events.proofs.Turns.{inline-none}
 use Rattle.roles.specs.Roles.{isWhole, mannerOf, mannerBy}
-use Rattle.tagging.specs.Marker.{opening, closing, leafOf}
+use Rattle.tagging.specs.Marker.{markerOpens, markerCloses, leafOf}
 use Rattle.tagging.proofs.Splits.{marker-split}
 use Rattle.turns.specs.Turn.{sortIn, noteSort, plainFrom, onward, notePlain, noteOnward, KeptAt}
 use Rattle.turns.specs.declared.Sort.{Sort}
@@ -36,34 +36,34 @@ use Rattle.turns.proofs.Sorts.{sort-turn, note-sort-turn}
 -- ---- markers
 
 module _ (t : Tape) (d k : ℕ) (outer : Bool) (s : Desk) {role′ : Role} (er : role′ ≡ roleOf t k) {w : Bool} (ew : w ≡ isWhole t k role′) where
-  pub marker-whole : w ≡ true → {a z r : Desk} (n : Bool) → a ≡ emitAll s (opening t k role′) → mannerOf role′ ≡ mannerBy n
-      → z ≡ emitAll a (inside t d (mannerBy n) k outer) → r ≡ emitAll z (closing t k role′)
+  pub marker-whole : w ≡ true → {a z r : Desk} (n : Bool) → a ≡ emitAll s (markerOpens t k role′) → mannerOf role′ ≡ mannerBy n
+      → z ≡ emitAll a (inside t d (mannerBy n) k outer) → r ≡ emitAll z (markerCloses t k role′)
       → r ≡ emitAll s (markerAs (inside t d) t k outer (roleOf t k))
   marker-whole h {a} {z} {r} n ea en ez er′ =
       let middle : List Event = inside t d (mannerOf role′) k outer in
       er′
-      ∙ ap (λ (x : Desk). emitAll x (closing t k role′)) (ez ∙ ap (λ (m : Manner). emitAll a (inside t d m k outer)) (sym en) ∙ ap (λ (x : Desk). emitAll x middle) ea)
-      ∙ sym (emit-append (emitAll s (opening t k role′)) middle (closing t k role′))
-      ∙ sym (emit-append s (opening t k role′) (middle ++ closing t k role′))
-      ∙ ap (emitAll s) (sym (marker-split (inside t d) t k outer role′ ∙ ap (λ (x : Bool). cond x (opening t k role′ ++ (middle ++ closing t k role′)) (leafOf t k role′)) (sym ew ∙ h)))
+      ∙ ap (λ (x : Desk). emitAll x (markerCloses t k role′)) (ez ∙ ap (λ (m : Manner). emitAll a (inside t d m k outer)) (sym en) ∙ ap (λ (x : Desk). emitAll x middle) ea)
+      ∙ sym (emit-append (emitAll s (markerOpens t k role′)) middle (markerCloses t k role′))
+      ∙ sym (emit-append s (markerOpens t k role′) (middle ++ markerCloses t k role′))
+      ∙ ap (emitAll s) (sym (marker-split (inside t d) t k outer role′ ∙ ap (λ (x : Bool). cond x (markerOpens t k role′ ++ (middle ++ markerCloses t k role′)) (leafOf t k role′)) (sym ew ∙ h)))
       ∙ ap (λ (x : Role). emitAll s (markerAs (inside t d) t k outer x)) er
 
   pub marker-leaf : w ≡ false → {r : Desk} → r ≡ emitAll s (leafOf t k role′) → r ≡ emitAll s (markerAs (inside t d) t k outer (roleOf t k))
   marker-leaf h er′ =
       er′
       ∙ ap (emitAll s) (sym (marker-split (inside t d) t k outer role′
-      ∙ ap (λ (x : Bool). cond x (opening t k role′ ++ (inside t d (mannerOf role′) k outer ++ closing t k role′)) (leafOf t k role′)) (sym ew ∙ h)))
+      ∙ ap (λ (x : Bool). cond x (markerOpens t k role′ ++ (inside t d (mannerOf role′) k outer ++ markerCloses t k role′)) (leafOf t k role′)) (sym ew ∙ h)))
       ∙ ap (λ (x : Role). emitAll s (markerAs (inside t d) t k outer x)) er
 
 -- ---- nodes
 
 module _ (t : Tape) (d k : ℕ) (outer : Bool) (s : Desk) {z : Kind} (ez : z .code ≡ kindAt t k) where
-  pub node-chapter : z .code ≡ 6 → {n : ℕ} → n ≡ numberAt t k → {r : Desk} → r ≡ emit s (chapter n (numberOf t Done) (numberOf t Done)) → r ≡ emitAll s (nodeIn (inside t d) t k outer)
-  unfolding nodeIn emitAll numberOf
+  pub node-chapter : z .code ≡ 6 → {n : ℕ} → n ≡ numberAt t k → {r : Desk} → r ≡ emit s (chapter n (foldedNumber t Done) (foldedNumber t Done)) → r ≡ emitAll s (nodeIn (inside t d) t k outer)
+  unfolding nodeIn emitAll foldedNumber
   node-chapter h en er = rw (eq-eqb (kindAt t k) 6 (sym ez ∙ h), ← en) er
 
-  pub node-verse : (z .code ≡ 6 → ⊥) → z .code ≡ 7 → {r : Desk} → r ≡ emit s (verse (labelOf t k) (numberOf t Done) (numberOf t Done)) → r ≡ emitAll s (nodeIn (inside t d) t k outer)
-  unfolding nodeIn emitAll numberOf
+  pub node-verse : (z .code ≡ 6 → ⊥) → z .code ≡ 7 → {r : Desk} → r ≡ emit s (verse (labelOf t k) (foldedNumber t Done) (foldedNumber t Done)) → r ≡ emitAll s (nodeIn (inside t d) t k outer)
+  unfolding nodeIn emitAll foldedNumber
   node-verse n₆ h er = rw (ne-eqb (kindAt t k) 6 (λ e. n₆ (ez ∙ e)), eq-eqb (kindAt t k) 7 (sym ez ∙ h)) er
 
   pub node-marker : (z .code ≡ 6 → ⊥) → (z .code ≡ 7 → ⊥) → z .code ≡ 3 → {r : Desk} → r ≡ emitAll s (markerAs (inside t d) t k outer (roleOf t k)) → r ≡ emitAll s (nodeIn (inside t d) t k outer)
@@ -80,7 +80,7 @@ abbrev all : Span
 all = record { cut = false; sifted = false }
 
 all-nodes : (t : Tape) (s : Step) → nodesIn t all s ≡ walkFrom t s
-unfolding nodesIn cutAt filtered
+unfolding nodesIn cutBy filtered
 all-nodes t s = refl
 
 module _ (t : Tape) (k : ℕ) (outer : Bool) (s : Desk) where

@@ -11,11 +11,11 @@ use Rattle.tape.specs.declared.Step.{Step}
 use Rattle.tape.specs.declared.Step.the-variants.{At, Done}
 use Rattle.tape.proofs.Walk.{walk-turn, walk-end, left-turn}
 use Rattle.render.specs.Shape.{isTopLevelBlock, isCategoryMarker, isRow}
-use Rattle.fold.specs.Fold.{claimOf, Folded, isSome, foldFrom, foldAt, numberOf}
+use Rattle.fold.specs.Fold.{claimOf, Folded, isSome, foldFrom, foldAt, foldedNumber}
 use Rattle.fold.specs.declared.Claim.{Claim}
 use Rattle.fold.specs.declared.Claim.the-variants.{Blank, Alt, Pub, Stops}
 use Rattle.fold.proofs.Folding.{fold-blank, fold-alt, fold-pub, fold-stops, fold-nil}
-use Rattle.lists.specs.Span.{filtered, cutAt, nodesIn, memberOf, listedBy, foldedIn, stopsAt}
+use Rattle.lists.specs.Span.{filtered, cutBy, nodesIn, memberOf, listedBy, foldedIn, stopsAt}
 use Rattle.lists.specs.declared.Span.{Span}
 use Rattle.lists.specs.declared.Member.{Member}
 use Rattle.lists.specs.declared.Member.the-variants.{End, Skipped, Listed}
@@ -59,44 +59,44 @@ unfolding filtered without
 filter-keep t true k ks h = rw h
 filter-keep t false k ks h = refl
 
-cut-ends : (t : Tape) (cut : Bool) (k : ℕ) (ks : List ℕ) → cut && isTopLevelBlock t k ≡ true → cutAt t cut (k ∷ ks) ≡ []
-unfolding cutAt upTo
+cut-ends : (t : Tape) (cut : Bool) (k : ℕ) (ks : List ℕ) → cut && isTopLevelBlock t k ≡ true → cutBy t cut (k ∷ ks) ≡ []
+unfolding cutBy upTo
 cut-ends t true k ks h = rw h
 cut-ends t false k ks h = absurd (true-false (sym h))
 
-cut-on : (t : Tape) (cut : Bool) (k : ℕ) (ks : List ℕ) → cut && isTopLevelBlock t k ≡ false → cutAt t cut (k ∷ ks) ≡ k ∷ cutAt t cut ks
-unfolding cutAt upTo
+cut-on : (t : Tape) (cut : Bool) (k : ℕ) (ks : List ℕ) → cut && isTopLevelBlock t k ≡ false → cutBy t cut (k ∷ ks) ≡ k ∷ cutBy t cut ks
+unfolding cutBy upTo
 cut-on t true k ks h = rw h
 cut-on t false k ks h = refl
 
 module _ (t : Tape) (span : Span) where
   pub nodes-done : {s : Step} → s ≡ Done → nodesIn t span s ≡ []
-  unfolding nodesIn cutAt filtered upTo without
-  nodes-done es = ap (λ (ks : List ℕ). cutAt t (span .cut) (filtered t (span .sifted) ks)) (walk-end t es) ∙ none-left (span .cut) (span .sifted)
+  unfolding nodesIn cutBy filtered upTo without
+  nodes-done es = ap (λ (ks : List ℕ). cutBy t (span .cut) (filtered t (span .sifted) ks)) (walk-end t es) ∙ none-left (span .cut) (span .sifted)
     where
-      none-left : (x y : Bool) → cutAt t x (filtered t y []) ≡ []
+      none-left : (x y : Bool) → cutBy t x (filtered t y []) ≡ []
       none-left true true = refl
       none-left true false = refl
       none-left false true = refl
       none-left false false = refl
 
   by-node : (k : ℕ) (ks : List ℕ) (x y : Bool) → span .sifted && isCategoryMarker t k ≡ x → span .cut && isTopLevelBlock t k ≡ y
-      → cutAt t (span .cut) (filtered t (span .sifted) (k ∷ ks)) ≡ listedBy (memberOf t span k) k (cutAt t (span .cut) (filtered t (span .sifted) ks))
+      → cutBy t (span .cut) (filtered t (span .sifted) (k ∷ ks)) ≡ listedBy (memberOf t span k) k (cutBy t (span .cut) (filtered t (span .sifted) ks))
   unfolding memberOf listedBy
-  by-node k ks true y ex ey = ap (cutAt t (span .cut)) (filter-skip t (span .sifted) k ks ex) ∙ rw ex
+  by-node k ks true y ex ey = ap (cutBy t (span .cut)) (filter-skip t (span .sifted) k ks ex) ∙ rw ex
   by-node k ks false true ex ey =
-      ap (cutAt t (span .cut)) (filter-keep t (span .sifted) k ks ex) ∙ cut-ends t (span .cut) k (filtered t (span .sifted) ks) ey ∙ rw (ex, ey)
+      ap (cutBy t (span .cut)) (filter-keep t (span .sifted) k ks ex) ∙ cut-ends t (span .cut) k (filtered t (span .sifted) ks) ey ∙ rw (ex, ey)
   by-node k ks false false ex ey =
-      ap (cutAt t (span .cut)) (filter-keep t (span .sifted) k ks ex) ∙ cut-on t (span .cut) k (filtered t (span .sifted) ks) ey ∙ rw (ex, ey)
+      ap (cutBy t (span .cut)) (filter-keep t (span .sifted) k ks ex) ∙ cut-on t (span .cut) k (filtered t (span .sifted) ks) ey ∙ rw (ex, ey)
 
   -- a list from a node on, by what the node is to it
   pub nodes-turn : {c : Cursor} {s n : Step} {m : Member} → s ≡ At c → n ≡ nextSibling t (c .at) → m ≡ memberOf t span (c .at)
       → nodesIn t span s ≡ listedBy m (c .at) (nodesIn t span n)
   unfolding nodesIn
   nodes-turn {c} {s} {n} {m} es en em =
-      ap (λ (ks : List ℕ). cutAt t (span .cut) (filtered t (span .sifted) ks)) (walk-turn t c es en)
+      ap (λ (ks : List ℕ). cutBy t (span .cut) (filtered t (span .sifted) ks)) (walk-turn t c es en)
       ∙ by-node (c .at) (walkFrom t n) (span .sifted && isCategoryMarker t (c .at)) (span .cut && isTopLevelBlock t (c .at)) refl refl
-      ∙ ap (λ (z : Member). listedBy z (c .at) (cutAt t (span .cut) (filtered t (span .sifted) (walkFrom t n)))) (sym em)
+      ∙ ap (λ (z : Member). listedBy z (c .at) (cutBy t (span .cut) (filtered t (span .sifted) (walkFrom t n)))) (sym em)
 
 -- by what a node is to its list
 
@@ -158,18 +158,18 @@ module _ (p : ℕ → Bool) (t : Tape) (span : Span) (s₀ s : Step) (inv : from
 
 -- ---- the fold
 
-some-at : (t : Tape) (s : Step) → isSome (numberOf t s) ≡ found s
-unfolding isSome numberOf found
+some-at : (t : Tape) (s : Step) → isSome (foldedNumber t s) ≡ found s
+unfolding isSome foldedNumber found
 some-at t Done = refl
 some-at t (At c) = refl
 
 module _ (t : Tape) (span : Span) (anchor : ℕ) (alt published rest : Step) where
   -- what the fold still gives
   unfoldable pub onward : Folded
-  onward = foldFrom t anchor (numberOf t alt) (numberOf t published) (nodesIn t span rest)
+  onward = foldFrom t anchor (foldedNumber t alt) (foldedNumber t published) (nodesIn t span rest)
 
 pub fold-starts : (t : Tape) (span : Span) (anchor : ℕ) (rest : Step) → onward t span anchor Done Done rest ≡ foldAt t anchor (nodesIn t span rest)
-unfolding onward foldAt numberOf
+unfolding onward foldAt foldedNumber
 fold-starts t span anchor rest = refl
 
 module _ (t : Tape) (span : Span) (anchor : ℕ) (alt published rest : Step) {f : Folded} (inv : onward t span anchor alt published rest ≡ f) where
@@ -177,8 +177,8 @@ module _ (t : Tape) (span : Span) (anchor : ℕ) (alt published rest : Step) {f 
   over : nodesIn t span rest ≡ [] → foldedIn t span (record { alt = alt; published = published; rest = rest }) ≡ f
   unfolding onward foldedIn
   over e =
-      ap (λ (ks : List ℕ). record { alt = numberOf t alt; published = numberOf t published; rest = ks }) e
-      ∙ sym (ap (foldFrom t anchor (numberOf t alt) (numberOf t published)) e ∙ fold-nil t anchor (numberOf t alt) (numberOf t published))
+      ap (λ (ks : List ℕ). record { alt = foldedNumber t alt; published = foldedNumber t published; rest = ks }) e
+      ∙ sym (ap (foldFrom t anchor (foldedNumber t alt) (foldedNumber t published)) e ∙ fold-nil t anchor (foldedNumber t alt) (foldedNumber t published))
       ∙ inv
 
   ended : rest ≡ Done → foldedIn t span (record { alt = alt; published = published; rest = rest }) ≡ f
@@ -190,37 +190,37 @@ module _ (t : Tape) (span : Span) (anchor : ℕ) (alt published rest : Step) {f 
 
     pub fold-skipped : m ≡ Skipped → onward t span anchor alt published n ≡ f
     unfolding onward
-    fold-skipped h = sym (ap (foldFrom t anchor (numberOf t alt) (numberOf t published)) (nodes-skip t span ec em h en)) ∙ inv
+    fold-skipped h = sym (ap (foldFrom t anchor (foldedNumber t alt) (foldedNumber t published)) (nodes-skip t span ec em h en)) ∙ inv
 
     module _ (hm : m ≡ Listed) {a p : Bool} {r : Claim} (ea : a ≡ found alt) (ep : p ≡ found published) (er : r ≡ claimOf t anchor a p (c .at)) where
       listed : nodesIn t span rest ≡ c .at ∷ nodesIn t span n
       listed = nodes-go t span ec em hm en
 
-      claimed : r ≡ claimOf t anchor (isSome (numberOf t alt)) (isSome (numberOf t published)) (c .at)
+      claimed : r ≡ claimOf t anchor (isSome (foldedNumber t alt)) (isSome (foldedNumber t published)) (c .at)
       claimed = er ∙ rw (ea, ep, some-at t alt, some-at t published)
 
-      this : foldFrom t anchor (numberOf t alt) (numberOf t published) (c .at ∷ nodesIn t span n) ≡ f
+      this : foldFrom t anchor (foldedNumber t alt) (foldedNumber t published) (c .at ∷ nodesIn t span n) ≡ f
       unfolding onward
-      this = sym (ap (foldFrom t anchor (numberOf t alt) (numberOf t published)) listed) ∙ inv
+      this = sym (ap (foldFrom t anchor (foldedNumber t alt) (foldedNumber t published)) listed) ∙ inv
 
       stopped : r ≡ Stops → foldedIn t span (record { alt = alt; published = published; rest = rest }) ≡ f
       unfolding foldedIn
       stopped e =
-          ap (λ (ks : List ℕ). record { alt = numberOf t alt; published = numberOf t published; rest = ks }) listed
-          ∙ sym (fold-stops t anchor (numberOf t alt) (numberOf t published) (c .at) (nodesIn t span n) claimed e)
+          ap (λ (ks : List ℕ). record { alt = foldedNumber t alt; published = foldedNumber t published; rest = ks }) listed
+          ∙ sym (fold-stops t anchor (foldedNumber t alt) (foldedNumber t published) (c .at) (nodesIn t span n) claimed e)
           ∙ this
 
       pub fold-passed : r ≡ Blank → onward t span anchor alt published n ≡ f
       unfolding onward
-      fold-passed e = sym (fold-blank t anchor (numberOf t alt) (numberOf t published) (c .at) (nodesIn t span n) claimed e) ∙ this
+      fold-passed e = sym (fold-blank t anchor (foldedNumber t alt) (foldedNumber t published) (c .at) (nodesIn t span n) claimed e) ∙ this
 
       pub fold-took-alt : r ≡ Alt → onward t span anchor (At c) published n ≡ f
-      unfolding onward numberOf
-      fold-took-alt e = sym (fold-alt t anchor (numberOf t alt) (numberOf t published) (c .at) (nodesIn t span n) claimed e) ∙ this
+      unfolding onward foldedNumber
+      fold-took-alt e = sym (fold-alt t anchor (foldedNumber t alt) (foldedNumber t published) (c .at) (nodesIn t span n) claimed e) ∙ this
 
       pub fold-took-pub : r ≡ Pub → onward t span anchor alt (At c) n ≡ f
-      unfolding onward numberOf
-      fold-took-pub e = sym (fold-pub t anchor (numberOf t alt) (numberOf t published) (c .at) (nodesIn t span n) claimed e) ∙ this
+      unfolding onward foldedNumber
+      fold-took-pub e = sym (fold-pub t anchor (foldedNumber t alt) (foldedNumber t published) (c .at) (nodesIn t span n) claimed e) ∙ this
 
 -- the whole, from what the fold started with
 module _ (t : Tape) (span : Span) (anchor : ℕ) (rest₀ : Step) (alt published rest : Step)

@@ -8,7 +8,7 @@ use Rattle.tape.specs.declared.Step.{Step}
 use Rattle.tape.specs.declared.Step.the-variants.{At, Done}
 use Rattle.render.specs.First.{firstWith}
 use Rattle.render.specs.Shape.{isTopLevelBlock, isCategoryMarker, isRow}
-use Rattle.fold.specs.Fold.{claimOf, Folded, numberOf}
+use Rattle.fold.specs.Fold.{claimOf, Folded, foldedNumber}
 use Rattle.fold.specs.declared.Claim.{Claim}
 use Rattle.fold.specs.declared.Claim.the-variants.{Blank, Alt, Pub, Stops}
 use Rattle.lists.specs.declared.Span.{Span}
@@ -24,13 +24,13 @@ filtered t true ks = without (isCategoryMarker t) ks
 filtered t false ks = ks
 
 -- up to the next block, or all
-unfoldable pub cutAt : Tape → Bool → List ℕ → List ℕ
-cutAt t true ks = upTo (isTopLevelBlock t) ks
-cutAt t false ks = ks
+unfoldable pub cutBy : Tape → Bool → List ℕ → List ℕ
+cutBy t true ks = upTo (isTopLevelBlock t) ks
+cutBy t false ks = ks
 
 -- the nodes of a list from a step on
 unfoldable pub nodesIn : Tape → Span → Step → List ℕ
-nodesIn t span s = cutAt t (span .cut) (filtered t (span .sifted) (walkFrom t s))
+nodesIn t span s = cutBy t (span .cut) (filtered t (span .sifted) (walkFrom t s))
 
 -- what a sibling is to a list: a category marker is left out first, then a block ends it
 unfoldable pub memberOf : Tape → Span → ℕ → Member
@@ -81,4 +81,4 @@ foldsAt t span anchor s = foldsFrom t span anchor Done Done (walkFrom t s)
 
 -- what a fold's answer stands for in a list
 unfoldable pub foldedIn : Tape → Span → Folds → Folded
-foldedIn t span f = record { alt = numberOf t (f .alt); published = numberOf t (f .published); rest = nodesIn t span (f .rest) }
+foldedIn t span f = record { alt = foldedNumber t (f .alt); published = foldedNumber t (f .published); rest = nodesIn t span (f .rest) }

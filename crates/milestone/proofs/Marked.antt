@@ -21,9 +21,9 @@ use Rattle.tape.specs.declared.Sections.{Sections}
 use Rattle.tape.specs.declared.Step.{Step}
 use Rattle.render.specs.Children.{firstText}
 use Rattle.render.specs.Label.{labelOf, IsLabel}
-use Rattle.render.specs.Note.{textOf, remainder, bookCode, bookRest, IsCode}
+use Rattle.render.specs.Note.{stepText, remainder, bookCode, bookRest, IsCode}
 use Rattle.render.proofs.Notes.{rest-words}
-use Rattle.fold.specs.Fold.{numberOf}
+use Rattle.fold.specs.Fold.{foldedNumber}
 use Rattle.tags.specs.Names.{nameOf}
 use Rattle.tags.specs.Items.{Item, empty, valueOf, attrBytes, attrsBytes, bytesOf as itemBytes, render}
 use Rattle.tags.proofs.Rendered.{render-append, attrs-append}
@@ -65,9 +65,9 @@ module _ (p : Page) {q r z : Page} where
   book-held rest eq er ez = paint-three p (b ">") (escape false (joined (words Unicode rest))) (b "</book>") eq er ez
 
 pub verse-tail : (c : Sections) (file : Bytes) (published : Step) (p : Page) {q r : Page}
-    → q ≡ paint p (attrsBytes (perhaps (b "pubnumber") (numberOf (tapeIn c file) published))) → r ≡ paint q (b " />")
-    → r ≡ paint p (attrsBytes (perhaps (b "pubnumber") (numberOf (tapeIn c file) published)) ++ b " />")
-verse-tail c file published p eq er = paint-two p (attrsBytes (perhaps (b "pubnumber") (numberOf (tapeIn c file) published))) (b " />") eq er
+    → q ≡ paint p (attrsBytes (perhaps (b "pubnumber") (foldedNumber (tapeIn c file) published))) → r ≡ paint q (b " />")
+    → r ≡ paint p (attrsBytes (perhaps (b "pubnumber") (foldedNumber (tapeIn c file) published)) ++ b " />")
+verse-tail c file published p eq er = paint-two p (attrsBytes (perhaps (b "pubnumber") (foldedNumber (tapeIn c file) published))) (b " />") eq er
 
 -- ---- tags
 
@@ -91,32 +91,32 @@ verse-bytes code n label alt published = simp (attrs-append, append-assoc)
 
 module _ (c : Sections) (file : Bytes) (code : Part) (n : ℕ) where
   pub chapter-tag : (alt published : Step) (p q r u : Page) {v : Page} → q ≡ paint p (b "<chapter number=\"" ++ (decimal n ++ b "\" style=\"c\""))
-      → r ≡ paint q (attrsBytes (perhaps (b "altnumber") (numberOf (tapeIn c file) alt)))
-      → u ≡ paint r (attrsBytes (perhaps (b "pubnumber") (numberOf (tapeIn c file) published)))
+      → r ≡ paint q (attrsBytes (perhaps (b "altnumber") (foldedNumber (tapeIn c file) alt)))
+      → u ≡ paint r (attrsBytes (perhaps (b "pubnumber") (foldedNumber (tapeIn c file) published)))
       → {s k : Bytes} → s ≡ tapeIn c file .source → k ≡ part s (code .start) (code .len)
       → v ≡ paint u (b " sid=\"" ++ (shownAs false (chapterId k n) ++ b "\" />"))
-      → v ≡ paint p (itemBytes (empty 3 (chapterAttrs (bytesOf (tapeIn c file .source) code) n (numberOf (tapeIn c file) alt) (numberOf (tapeIn c file) published))))
+      → v ≡ paint p (itemBytes (empty 3 (chapterAttrs (bytesOf (tapeIn c file .source) code) n (foldedNumber (tapeIn c file) alt) (foldedNumber (tapeIn c file) published))))
   chapter-tag alt published p q r u eq er eu {s} {k} es ek ev =
       let here : k ≡ bytesOf (tapeIn c file .source) code = ek ∙ ap (λ (z : Bytes). part z (code .start) (code .len)) es in
-      paint-four p (b "<chapter number=\"" ++ (decimal n ++ b "\" style=\"c\"")) (attrsBytes (perhaps (b "altnumber") (numberOf (tapeIn c file) alt)))
-      (attrsBytes (perhaps (b "pubnumber") (numberOf (tapeIn c file) published))) (b " sid=\"" ++ (shownAs false (chapterId k n) ++ b "\" />")) eq er eu ev
-      ∙ ap (paint p) (chapter-bytes k n (numberOf (tapeIn c file) alt) (numberOf (tapeIn c file) published))
-      ∙ ap (λ (z : Bytes). paint p (itemBytes (empty 3 (chapterAttrs z n (numberOf (tapeIn c file) alt) (numberOf (tapeIn c file) published))))) here
+      paint-four p (b "<chapter number=\"" ++ (decimal n ++ b "\" style=\"c\"")) (attrsBytes (perhaps (b "altnumber") (foldedNumber (tapeIn c file) alt)))
+      (attrsBytes (perhaps (b "pubnumber") (foldedNumber (tapeIn c file) published))) (b " sid=\"" ++ (shownAs false (chapterId k n) ++ b "\" />")) eq er eu ev
+      ∙ ap (paint p) (chapter-bytes k n (foldedNumber (tapeIn c file) alt) (foldedNumber (tapeIn c file) published))
+      ∙ ap (λ (z : Bytes). paint p (itemBytes (empty 3 (chapterAttrs z n (foldedNumber (tapeIn c file) alt) (foldedNumber (tapeIn c file) published))))) here
 
   pub verse-tag : (label : Part) (alt published : Step) {s l k : Bytes} → s ≡ tapeIn c file .source → l ≡ part s (label .start) (label .len) → k ≡ part s (code .start) (code .len)
       → (p q r u : Page) {v : Page} → q ≡ paint p (b "<verse number=\"" ++ (escape true l ++ b "\" style=\"v\""))
-      → r ≡ paint q (attrsBytes (perhaps (b "altnumber") (numberOf (tapeIn c file) alt)))
+      → r ≡ paint q (attrsBytes (perhaps (b "altnumber") (foldedNumber (tapeIn c file) alt)))
       → u ≡ paint r (b " sid=\"" ++ (shownAs false (verseId k n l) ++ b "\""))
-      → v ≡ paint u (attrsBytes (perhaps (b "pubnumber") (numberOf (tapeIn c file) published)) ++ b " />")
-      → v ≡ paint p (itemBytes (empty 4 (verseAttrs (bytesOf (tapeIn c file .source) code) n (bytesOf (tapeIn c file .source) label) (numberOf (tapeIn c file) alt) (numberOf (tapeIn c file) published))))
+      → v ≡ paint u (attrsBytes (perhaps (b "pubnumber") (foldedNumber (tapeIn c file) published)) ++ b " />")
+      → v ≡ paint p (itemBytes (empty 4 (verseAttrs (bytesOf (tapeIn c file .source) code) n (bytesOf (tapeIn c file .source) label) (foldedNumber (tapeIn c file) alt) (foldedNumber (tapeIn c file) published))))
   verse-tag label alt published {s} {l} {k} es el ek p q r u eq er eu ev =
       let book : k ≡ bytesOf (tapeIn c file .source) code = ek ∙ ap (λ (z : Bytes). part z (code .start) (code .len)) es in
       let name : l ≡ bytesOf (tapeIn c file .source) label = el ∙ ap (λ (z : Bytes). part z (label .start) (label .len)) es in
-      paint-four p (b "<verse number=\"" ++ (escape true l ++ b "\" style=\"v\"")) (attrsBytes (perhaps (b "altnumber") (numberOf (tapeIn c file) alt)))
-      (b " sid=\"" ++ (shownAs false (verseId k n l) ++ b "\"")) (attrsBytes (perhaps (b "pubnumber") (numberOf (tapeIn c file) published)) ++ b " />") eq er eu ev
-      ∙ ap (paint p) (verse-bytes k n l (numberOf (tapeIn c file) alt) (numberOf (tapeIn c file) published))
-      ∙ ap (λ (z : Bytes). paint p (itemBytes (empty 4 (verseAttrs z n l (numberOf (tapeIn c file) alt) (numberOf (tapeIn c file) published))))) book
-      ∙ ap (λ (z : Bytes). paint p (itemBytes (empty 4 (verseAttrs (bytesOf (tapeIn c file .source) code) n z (numberOf (tapeIn c file) alt) (numberOf (tapeIn c file) published))))) name
+      paint-four p (b "<verse number=\"" ++ (escape true l ++ b "\" style=\"v\"")) (attrsBytes (perhaps (b "altnumber") (foldedNumber (tapeIn c file) alt)))
+      (b " sid=\"" ++ (shownAs false (verseId k n l) ++ b "\"")) (attrsBytes (perhaps (b "pubnumber") (foldedNumber (tapeIn c file) published)) ++ b " />") eq er eu ev
+      ∙ ap (paint p) (verse-bytes k n l (foldedNumber (tapeIn c file) alt) (foldedNumber (tapeIn c file) published))
+      ∙ ap (λ (z : Bytes). paint p (itemBytes (empty 4 (verseAttrs z n l (foldedNumber (tapeIn c file) alt) (foldedNumber (tapeIn c file) published))))) book
+      ∙ ap (λ (z : Bytes). paint p (itemBytes (empty 4 (verseAttrs (bytesOf (tapeIn c file .source) code) n z (foldedNumber (tapeIn c file) alt) (foldedNumber (tapeIn c file) published))))) name
 
 -- ---- a book
 
@@ -198,16 +198,16 @@ through source sink out {w} {s} f ew es eq =
 module _ (c : Sections) (file : Bytes) (sink : Sink) (out : Bytes) {last : Bytes} {v : Window} where
   pub chapter-emitted : (n : ℕ) (alt published : Step) {w : Window} {s : Bytes} → w ≡ windowIn sink → s ≡ tapeIn c file .source
       → (q : Page) → q ≡ paint (pageOf w out) (render (lastEnds (stateIn s (sink .marks))))
-      → pageOf v last ≡ paint q (itemBytes (empty 3 (chapterAttrs (bytesOf (tapeIn c file .source) (sink .marks .book)) n (numberOf (tapeIn c file) alt) (numberOf (tapeIn c file) published))))
+      → pageOf v last ≡ paint q (itemBytes (empty 3 (chapterAttrs (bytesOf (tapeIn c file .source) (sink .marks .book)) n (foldedNumber (tapeIn c file) alt) (foldedNumber (tapeIn c file) published))))
       → {m : Marks} → m ≡ nextChapter (sink .marks) n
       → deskIn (tapeIn c file .source) (record { at = v .at; from = v .from; marks = m }) last
-      ≡ emit (deskIn (tapeIn c file .source) sink out) (chapterEvent n (numberOf (tapeIn c file) alt) (numberOf (tapeIn c file) published))
+      ≡ emit (deskIn (tapeIn c file .source) sink out) (chapterEvent n (foldedNumber (tapeIn c file) alt) (foldedNumber (tapeIn c file) published))
   unfolding stateIn
   chapter-emitted n alt published ew es q eq ev {m} em =
       let source : Bytes = tapeIn c file .source in
       let state : State = stateIn source (sink .marks) in
-      let other : Option Bytes = numberOf (tapeIn c file) alt in
-      let shown : Option Bytes = numberOf (tapeIn c file) published in
+      let other : Option Bytes = foldedNumber (tapeIn c file) alt in
+      let shown : Option Bytes = foldedNumber (tapeIn c file) published in
       let p : Page = pageOf (windowIn sink) out in
       let first : q ≡ paint p (render (lastEnds state)) = through source sink out (λ (z : Bytes). render (lastEnds (stateIn z (sink .marks)))) ew es eq in
       emitted-by source sink out last v m (chapterEvent n other shown)
@@ -216,16 +216,16 @@ module _ (c : Sections) (file : Bytes) (sink : Sink) (out : Bytes) {last : Bytes
 
   pub verse-emitted : (k : ℕ) (alt published : Step) {label : Part} → IsLabel (tapeIn c file) k label → {w : Window} {s : Bytes} → w ≡ windowIn sink → s ≡ tapeIn c file .source
       → (q : Page) → q ≡ paint (pageOf w out) (render (endOf 4 (verseIn s (sink .marks .verse))))
-      → pageOf v last ≡ paint q (itemBytes (empty 4 (verseAttrs (bytesOf (tapeIn c file .source) (sink .marks .book)) (sink .marks .number) (bytesOf (tapeIn c file .source) label) (numberOf (tapeIn c file) alt) (numberOf (tapeIn c file) published))))
+      → pageOf v last ≡ paint q (itemBytes (empty 4 (verseAttrs (bytesOf (tapeIn c file .source) (sink .marks .book)) (sink .marks .number) (bytesOf (tapeIn c file .source) label) (foldedNumber (tapeIn c file) alt) (foldedNumber (tapeIn c file) published))))
       → {m : Marks} → m ≡ nextVerse (sink .marks) label
       → deskIn (tapeIn c file .source) (record { at = v .at; from = v .from; marks = m }) last
-      ≡ emit (deskIn (tapeIn c file .source) sink out) (verseEvent (labelOf (tapeIn c file) k) (numberOf (tapeIn c file) alt) (numberOf (tapeIn c file) published))
+      ≡ emit (deskIn (tapeIn c file .source) sink out) (verseEvent (labelOf (tapeIn c file) k) (foldedNumber (tapeIn c file) alt) (foldedNumber (tapeIn c file) published))
   unfolding stateIn itemsOf
   verse-emitted k alt published {label} is ew es q eq ev {m} em =
       let source : Bytes = tapeIn c file .source in
       let name : Bytes = part source (label .start) (label .len) in
-      let other : Option Bytes = numberOf (tapeIn c file) alt in
-      let shown : Option Bytes = numberOf (tapeIn c file) published in
+      let other : Option Bytes = foldedNumber (tapeIn c file) alt in
+      let shown : Option Bytes = foldedNumber (tapeIn c file) published in
       let ends : List Item = endOf 4 (verseIn source (sink .marks .verse)) in
       let tag : Item = empty 4 (verseAttrs (bytesOf source (sink .marks .book)) (sink .marks .number) name other shown) in
       let p : Page = pageOf (windowIn sink) out in
@@ -236,7 +236,7 @@ module _ (c : Sections) (file : Bytes) (sink : Sink) (out : Bytes) {last : Bytes
       ∙ ap (λ (z : Bytes). emit (deskIn source sink out) (verseEvent z other shown)) (is .bytes)
 
   pub book-emitted : (k : ℕ) {p : Part} → IsCode (tapeIn c file) k p → {s code : Bytes} → s ≡ tapeIn c file .source → code ≡ part s (p .start) (p .len) → {w : Window} → w ≡ windowIn sink
-      → {rest : Bytes} → rest ≡ remainder (textOf (tapeIn c file) (firstText (tapeIn c file) k))
+      → {rest : Bytes} → rest ≡ remainder (stepText (tapeIn c file) (firstText (tapeIn c file) k))
       → pageOf v last ≡ paint (pageOf w out) (render (bookItems code (joined (words Unicode rest))))
       → {m : Marks} → m ≡ namedBook (sink .marks) p
       → deskIn (tapeIn c file .source) (record { at = v .at; from = v .from; marks = m }) last

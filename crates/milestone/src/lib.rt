@@ -9,7 +9,7 @@ ghost use Rattle.window.specs.Page.{pageOf, paint};
 ghost use Rattle.tape.specs.File.{tapeIn};
 ghost use Rattle.render.specs.Label.{labelOf};
 ghost use Rattle.render.specs.Note.{bookCode, bookRest};
-ghost use Rattle.fold.specs.Fold.{numberOf};
+ghost use Rattle.fold.specs.Fold.{foldedNumber};
 ghost use Rattle.tags.specs.Items.{render, bytesOf as itemBytes, empty, attrsBytes};
 ghost use Rattle.words.specs.Words.{words, joined, bytesOf};
 ghost use Rattle.words.specs.declared.Set.the-variants.{Unicode};
@@ -63,7 +63,7 @@ fn put_chapter(
     alt: Step,
     published: Step,
 ) -> Window
-    ensures { λ r. ⌜ pageOf r (now (out .exit)) ≡ paint (pageOf w (now (out .entry))) (itemBytes (empty 3 (chapterAttrs (bytesOf (tapeIn tape (now (file .entry)) .source) code) number (numberOf (tapeIn tape (now (file .entry))) alt) (numberOf (tapeIn tape (now (file .entry))) published)))) ⌝ }
+    ensures { λ r. ⌜ pageOf r (now (out .exit)) ≡ paint (pageOf w (now (out .entry))) (itemBytes (empty 3 (chapterAttrs (bytesOf (tapeIn tape (now (file .entry)) .source) code) number (foldedNumber (tapeIn tape (now (file .entry))) alt) (foldedNumber (tapeIn tape (now (file .entry))) published)))) ⌝ }
 {
     let a = put_chapter_head(w, out, number);
     let c = put_numbered(a, out, file, tape, b"altnumber", alt);
@@ -92,7 +92,7 @@ fn put_verse_sid(w: Window, out: &mut [u8], code: &[u8], number: u32, label: &[u
 
 // A verse's published number and the tag's end.
 fn put_verse_tail(w: Window, out: &mut [u8], file: &[u8], tape: Sections, published: Step) -> Window
-    ensures { λ r. ⌜ pageOf r (now (out .exit)) ≡ paint (pageOf w (now (out .entry))) (attrsBytes (perhaps (b "pubnumber") (numberOf (tapeIn tape (now (file .entry))) published)) ++ b " />") ⌝ }
+    ensures { λ r. ⌜ pageOf r (now (out .exit)) ≡ paint (pageOf w (now (out .entry))) (attrsBytes (perhaps (b "pubnumber") (foldedNumber (tapeIn tape (now (file .entry))) published)) ++ b " />") ⌝ }
 {
     let a = put_numbered(w, out, file, tape, b"pubnumber", published);
     put_run(a, out, b" />")
@@ -110,7 +110,7 @@ fn put_verse(
     alt: Step,
     published: Step,
 ) -> Window
-    ensures { λ r. ⌜ pageOf r (now (out .exit)) ≡ paint (pageOf w (now (out .entry))) (itemBytes (empty 4 (verseAttrs (bytesOf (tapeIn tape (now (file .entry)) .source) code) number (bytesOf (tapeIn tape (now (file .entry)) .source) label) (numberOf (tapeIn tape (now (file .entry))) alt) (numberOf (tapeIn tape (now (file .entry))) published)))) ⌝ }
+    ensures { λ r. ⌜ pageOf r (now (out .exit)) ≡ paint (pageOf w (now (out .entry))) (itemBytes (empty 4 (verseAttrs (bytesOf (tapeIn tape (now (file .entry)) .source) code) number (bytesOf (tapeIn tape (now (file .entry)) .source) label) (foldedNumber (tapeIn tape (now (file .entry))) alt) (foldedNumber (tapeIn tape (now (file .entry))) published)))) ⌝ }
 {
     let source = tape::source(file, tape);
     let name = parts::part(source, label.start, label.len);
@@ -141,7 +141,7 @@ pub fn chapter(
     sink: Sink,
     out: &mut [u8],
 ) -> Sink
-    ensures { λ r. ⌜ deskIn (tapeIn tape (now (file .entry)) .source) r (now (out .exit)) ≡ emit (deskIn (tapeIn tape (now (file .entry)) .source) sink (now (out .entry))) (chapterEvent number (numberOf (tapeIn tape (now (file .entry))) alt) (numberOf (tapeIn tape (now (file .entry))) published)) ⌝ }
+    ensures { λ r. ⌜ deskIn (tapeIn tape (now (file .entry)) .source) r (now (out .exit)) ≡ emit (deskIn (tapeIn tape (now (file .entry)) .source) sink (now (out .entry))) (chapterEvent number (foldedNumber (tapeIn tape (now (file .entry))) alt) (foldedNumber (tapeIn tape (now (file .entry))) published)) ⌝ }
 {
     let m = sink.marks;
     let a = put_ends(sink.window(), out, tape::source(file, tape), m);
@@ -164,7 +164,7 @@ pub fn verse(
     sink: Sink,
     out: &mut [u8],
 ) -> Sink
-    ensures { λ r. ⌜ deskIn (tapeIn tape (now (file .entry)) .source) r (now (out .exit)) ≡ emit (deskIn (tapeIn tape (now (file .entry)) .source) sink (now (out .entry))) (verseEvent (labelOf (tapeIn tape (now (file .entry))) (c .at)) (numberOf (tapeIn tape (now (file .entry))) alt) (numberOf (tapeIn tape (now (file .entry))) published)) ⌝ }
+    ensures { λ r. ⌜ deskIn (tapeIn tape (now (file .entry)) .source) r (now (out .exit)) ≡ emit (deskIn (tapeIn tape (now (file .entry)) .source) sink (now (out .entry))) (verseEvent (labelOf (tapeIn tape (now (file .entry))) (c .at)) (foldedNumber (tapeIn tape (now (file .entry))) alt) (foldedNumber (tapeIn tape (now (file .entry))) published)) ⌝ }
 {
     let m = sink.marks;
     let label = render::verse_label(file, tape, c);

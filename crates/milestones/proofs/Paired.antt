@@ -16,7 +16,7 @@ use Rattle.checker.specs.Meaning.{since, Fits, of-words, of-open, of-close, of-
 use Rattle.checker.proofs.Decides.{since-other, starts-other, starts-more}
 use Rattle.events.specs.Event.{Event, item, chapter, verse, book, rawly, escaped, perhaps}
 use Rattle.events.specs.Pairing.{State, chapterId, verseId, after, endOf, chapterAttrs, verseAttrs, bookAttrs, bookItems, itemsOf, lastEnds, paired}
-use Rattle.milestones.specs.Seen.{pairs, tokenOf, seen, startOf, opening, PlainItem, PlainEvents, chaptersIn, versesIn}
+use Rattle.milestones.specs.Seen.{pairs, tokenOf, seen, startOf, openStarts, PlainItem, PlainEvents, chaptersIn, versesIn}
 use Rattle.milestones.proofs.Rows.{Row, row-demand}
 
 -- ---- what the rules see of pairing's items
@@ -128,9 +128,9 @@ row-open (some i) none vs r = (chapter-start refl refl, r)
 row-open (some i) (some j) vs r = (chapter-start refl refl, (verse-start refl, r))
 
 -- for any events and any state: with the starts of what is open in front, the milestones are right in the words of demand 3
-pub paired-demand : (s : State) (es : List Event) → PlainEvents es → Demand (opening s ++ seen (paired s es))
-unfolding opening
-paired-demand s es h = row-demand (opening s ++ seen (paired s es)) (row-open (s .chapter) (s .verse) (seen (paired s es)) (paired-row s es h))
+pub paired-demand : (s : State) (es : List Event) → PlainEvents es → Demand (openStarts s ++ seen (paired s es))
+unfolding openStarts
+paired-demand s es h = row-demand (openStarts s ++ seen (paired s es)) (row-open (s .chapter) (s .verse) (seen (paired s es)) (paired-row s es h))
 
 -- ---- as many starts as chapters and verses
 

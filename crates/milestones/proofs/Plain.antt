@@ -26,7 +26,7 @@ use Rattle.events.specs.Event.{Event, item, chapter, verse, book, element}
 use Rattle.events.specs.Pairing.{paired}
 use Rattle.events.specs.Text.{firstState}
 use Rattle.events.specs.Walk.{unbroken, breaks, segmented, broken, Manner, asInline, asNote, Role, unknownBlock, unknownInline, unwritten, figure, ref, id, note, ms, char, para, roleOf, linkOf, linked, figureAs, markerAs, nodeIn, Child, anchor, words, passed, marker, childOf, noteChildOf, normalized, inlineTurn, inlineFrom, inlineAll, noteText, noteTurn, noteAll, inside, isCell, cellIn, cellsAlong, cells, rowE, rowsE, tableE, holder, sidebarIn, periphIn, Place, aRow, aChapter, aSidebar, aPeriph, aBlock, aVerse, dropped, placeOf, blockTurn, blocksFrom, blocksAll, blocksE, eventsWithin, eventsOf, NoteChild, direct, leftOut, entered}
-use Rattle.milestones.specs.Seen.{seen, startOf, opening, PlainEvents, chaptersIn, versesIn}
+use Rattle.milestones.specs.Seen.{seen, startOf, openStarts, PlainEvents, chaptersIn, versesIn}
 use Rattle.milestones.proofs.Paired.{paired-demand, paired-counts}
 
 -- ---- lists of events
@@ -219,7 +219,7 @@ module _ (t : Tape) where
 
 -- every tape's items have their milestones right in the words of demand 3, by their identifiers before the escapes
 pub tape-demand-unescaped : (t : Tape) → Demand (seen (paired (firstState t) (eventsOf t)))
-unfolding opening startOf firstState
+unfolding openStarts startOf firstState
 tape-demand-unescaped t = paired-demand (firstState t) (eventsOf t) (walk-plain t)
 
 -- and as many starts as the walk finds chapters and verses

@@ -35,8 +35,8 @@ startOf k none = []
 startOf k (some i) = single k (starts i) ∷ []
 
 -- the starts of what is open in a state: none where nothing is
-unfoldable pub opening : State → List View
-opening s = startOf el.chapter (s .chapter) ++ startOf el.verse (s .verse)
+unfoldable pub openStarts : State → List View
+openStarts s = startOf el.chapter (s .chapter) ++ startOf el.verse (s .verse)
 
 -- ---- events
 

@@ -12,7 +12,7 @@ use borrow.Author.Tests.{eqb-true, eqb-false, ltb-true, ltb-false}
 use Rattle.tape.specs.declared.Node.{Node}
 use Rattle.nest.specs.Tape.{kindAt, linkAt}
 use Rattle.nest.specs.Nest.{container, close, partOf, TooDeep, RootEnds, Sound}
-use Rattle.nest.specs.Decide.{deepFrom, tooDeep, stepOf, matchFrom, allMatched, rootEnds, sound}
+use Rattle.nest.specs.Decide.{deepFrom, tooDeep, awaited, matchFrom, allMatched, rootEnds, sound}
 use Rattle.nest.specs.declared.Part.{Part}
 use Rattle.nest.specs.declared.Part.the-variants.{Opens, Closes, Leaf}
 use Rattle.nest.proofs.Tape.{yes-is, no-is, clash, Plays, plays}
@@ -46,7 +46,7 @@ decides-6 t = deep-from t (length t) 0 0 0 (counted-start t) (omega arith)
 -- ---- refusal 7
 
 broken : (t : List Node) (n i : ℕ) → matchFrom t n i none ≡ none
-unfolding matchFrom stepOf
+unfolding matchFrom awaited
 broken t zero i = refl
 broken t (suc n) i = broken t n (i + 1)
 
@@ -58,8 +58,8 @@ unfolding allMatched
 breaks t n i d = rw (broken t n i) (no-is d)
 
 match-step : (t : List Node) (n i : ℕ) → i < linkAt t 0 → ((s : List ℕ) → Going t (i + 1) s → Answers t n (i + 1) (some s))
-    → (p : Part) → Plays t i p → (s : List ℕ) → Going t i s → Answers t n (i + 1) (stepOf p i (some s))
-unfolding stepOf
+    → (p : Part) → Plays t i p → (s : List ℕ) → Going t i s → Answers t n (i + 1) (awaited p i (some s))
+unfolding awaited
 match-step t n i l r (Opens m) p s g = go (eqb (length s) 64) refl
   where
     go : (b : Bool) → eqb (length s) 64 ≡ b → Answers t n (i + 1) (cond b none (some (m ∷ s)))

@@ -5,7 +5,7 @@ use mathlib.Core.List.{List, [], _∷_, _++_}
 use Prim.Native.Nat.{ℕ, zero, suc, _+_}
 use Rattle.tape.specs.declared.Node.{Node}
 use Rattle.nest.specs.Nest.{container, close, partOf, TooDeep, Sound}
-use Rattle.nest.specs.Decide.{deepFrom, tooDeep, stepOf, matchFrom, allMatched, rootEnds, sound}
+use Rattle.nest.specs.Decide.{deepFrom, tooDeep, awaited, matchFrom, allMatched, rootEnds, sound}
 use Rattle.nest.proofs.Decide.{decides-6, decides-7}
 
 abbrev node : ℕ → ℕ → Node
@@ -72,7 +72,7 @@ Holds [] = Unit
 Holds (r ∷ rs) = (tooDeep (r .tape) ≡ r .deep) × (sound (r .tape) ≡ r .fine) × Holds rs
 
 rows : Holds table
-unfolding deepFrom tooDeep container close partOf stepOf matchFrom allMatched rootEnds sound
+unfolding deepFrom tooDeep container close partOf awaited matchFrom allMatched rootEnds sound
 rows = (refl, refl, (refl, refl, (refl, refl, (refl, refl, (refl, refl, (refl, refl, (refl, refl, tt)))))))
 
 -- what a row says of the definitions

@@ -26,17 +26,17 @@ unfoldable pub tooDeep : List Node → Bool
 tooDeep t = deepFrom t (length t) 0 0 0
 
 -- the awaited closes past node i; none where a rule is broken
-unfoldable pub stepOf : Part → ℕ → Option (List ℕ) → Option (List ℕ)
-stepOf p i none = none
-stepOf (Opens l) i (some s) = cond (eqb (length s) mostOpen) none (some (l ∷ s))
-stepOf Closes i (some []) = none
-stepOf Closes i (some (c ∷ s)) = cond (eqb c i) (some s) none
-stepOf Leaf i (some s) = some s
+unfoldable pub awaited : Part → ℕ → Option (List ℕ) → Option (List ℕ)
+awaited p i none = none
+awaited (Opens l) i (some s) = cond (eqb (length s) mostOpen) none (some (l ∷ s))
+awaited Closes i (some []) = none
+awaited Closes i (some (c ∷ s)) = cond (eqb c i) (some s) none
+awaited Leaf i (some s) = some s
 
 -- the n nodes from i on
 unfoldable pub matchFrom : List Node → ℕ → ℕ → Option (List ℕ) → Option (List ℕ)
 matchFrom t zero i s = s
-matchFrom t (suc n) i s = matchFrom t n (i + 1) (stepOf (partOf t i) i s)
+matchFrom t (suc n) i s = matchFrom t n (i + 1) (awaited (partOf t i) i s)
 
 -- no rule was broken, and no close is awaited
 unfoldable pub allMatched : Option (List ℕ) → Bool

@@ -7,7 +7,7 @@ use native.Mathlib.Omega.{arith}
 use lib.ListN.{length, take, drop, length-drop, drop-of-length-le}
 use lib.Seq.{drop-drop}
 use Rattle.parts.specs.Bytes.{Bytes}
-use Rattle.chars.specs.Escape.{escape, escaped}
+use Rattle.chars.specs.Escape.{escape, escapedByte}
 use Rattle.chars.proofs.Escapes.{escape-append}
 use Rattle.words.specs.Words.{words, joined, trimStart, nextWord, bytesOf}
 use Rattle.words.specs.declared.Set.{Set}
@@ -42,7 +42,7 @@ mark-hard p e eq = rw e eq
 
 -- a mark has no byte that is written by name
 marked-plain : (m : Mark) → escape false (marked m) ≡ marked m
-unfolding marked escape escaped
+unfolding marked escape escapedByte
 marked-plain Nothing = refl
 marked-plain Space = refl
 marked-plain Hard = refl
@@ -110,7 +110,7 @@ unfolding spaceIf paint
 space-left p e = rw e
 
 space-plain : (t : Bool) → escape false (spaceIf t) ≡ spaceIf t
-unfolding spaceIf escape escaped
+unfolding spaceIf escape escapedByte
 space-plain true = refl
 space-plain false = refl
 
@@ -134,7 +134,7 @@ pub escaped-text : (p : Page) {q : Page} (s : Bytes) {attr : Bool} → attr ≡ 
 escaped-text p s e eq = rw e eq
 
 escape-space : (attr : Bool) (s : Bytes) → escape attr (32 ∷ s) ≡ 32 ∷ escape attr s
-unfolding escape escaped
+unfolding escape escapedByte
 escape-space true s = refl
 escape-space false s = refl
 

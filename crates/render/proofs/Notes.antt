@@ -28,7 +28,7 @@ use Rattle.render.specs.Shape.{isCategoryMarker}
 use Rattle.render.specs.First.{firstWith}
 use Rattle.render.specs.Children.{passes, firstText}
 use Rattle.render.specs.Label.{wordPart}
-use Rattle.render.specs.Note.{firstOr, leadText, callerOr, remainder, textUnder, categoryText, textOf, firstWords, bookCode, wordAt, codePart, IsCode, bookRest, unlessEmpty, periphAlt, cellAlign}
+use Rattle.render.specs.Note.{firstOr, leadText, callerOr, remainder, textUnder, categoryText, stepText, firstWords, bookCode, wordAt, codePart, IsCode, bookRest, unlessEmpty, periphAlt, cellAlign}
 use Rattle.render.proofs.Shapes.{kind-is, kind-not}
 use Rattle.render.proofs.Labels.{word-bytes}
 
@@ -84,12 +84,12 @@ module _ (t : Tape) {s : Step} where
   unfolding leadText
   lead-text c es ek h er = rw (es, kind-is t (c .at) ek 1 h) er
 
-  pub text-none : {r : Bytes} → s ≡ Done → r ≡ [] → r ≡ textOf t s
-  unfolding textOf
+  pub text-none : {r : Bytes} → s ≡ Done → r ≡ [] → r ≡ stepText t s
+  unfolding stepText
   text-none es er = rw es er
 
-  pub text-some : (c : Cursor) {r : Bytes} → s ≡ At c → r ≡ textAt t (c .at) → r ≡ textOf t s
-  unfolding textOf
+  pub text-some : (c : Cursor) {r : Bytes} → s ≡ At c → r ≡ textAt t (c .at) → r ≡ stepText t s
+  unfolding stepText
   text-some c es er = rw es er
 
 module _ (plus : Bytes) (t : Tape) (k : ℕ) {s : Step} {u w : Bytes} (es : s ≡ firstChild t k) (eu : u ≡ leadText t s) (ew : w ≡ getD (words Unicode u) 0 []) where
@@ -132,35 +132,35 @@ trimmed-of t k es er = er ∙ ap (trim Unicode) es
 
 -- ---- book and periph
 
-pub leading-of : (t : Tape) (k : ℕ) {s : Step} {r : Bytes} → s ≡ firstText t k → r ≡ textOf t s → r ≡ textOf t (firstText t k)
-leading-of t k es er = er ∙ ap (textOf t) es
+pub leading-of : (t : Tape) (k : ℕ) {s : Step} {r : Bytes} → s ≡ firstText t k → r ≡ stepText t s → r ≡ stepText t (firstText t k)
+leading-of t k es er = er ∙ ap (stepText t) es
 
 module _ (t : Tape) (k : ℕ) {s : Step} (es : s ≡ firstText t k) where
   pub code-some : (c : Cursor) {p : Part} → s ≡ At c → p ≡ wordPart t (c .at) 0 → IsCode t k p
-  unfolding codePart wordAt bookCode firstWords textOf
+  unfolding codePart wordAt bookCode firstWords stepText
   code-some c ec ep = record {
     place = rw (← es, ec) ep;
     bytes = rw (← es, ec, ep) (word-bytes t (c .at) 0 ∙ sym (first-or-nil (words Unicode (textAt t (c .at)))));
   }
 
   pub code-none : s ≡ Done → IsCode t k (record { start = 0; len = 0 })
-  unfolding codePart wordAt bookCode firstWords textOf firstOr
+  unfolding codePart wordAt bookCode firstWords stepText firstOr
   code-none ec = record { place = rw (← es, ec); bytes = rw (← es, ec, words-nil Unicode) }
 
-pub rest-of : (t : Tape) (k : ℕ) {s r : Bytes} → s ≡ textOf t (firstText t k) → r ≡ remainder s → r ≡ remainder (textOf t (firstText t k))
+pub rest-of : (t : Tape) (k : ℕ) {s r : Bytes} → s ≡ stepText t (firstText t k) → r ≡ remainder s → r ≡ remainder (stepText t (firstText t k))
 rest-of t k es er = er ∙ ap remainder es
 
 -- the words that are written behind the book's code
-pub rest-words : (t : Tape) (k : ℕ) {r : Bytes} → r ≡ remainder (textOf t (firstText t k)) → joined (words Unicode r) ≡ bookRest t k
+pub rest-words : (t : Tape) (k : ℕ) {r : Bytes} → r ≡ remainder (stepText t (firstText t k)) → joined (words Unicode r) ≡ bookRest t k
 unfolding remainder bookRest firstWords
-rest-words t k er = rw er (ap joined (words-behind Unicode (textOf t (firstText t k))))
+rest-words t k er = rw er (ap joined (words-behind Unicode (stepText t (firstText t k))))
 
 some-text : (s : Bytes) → 0 < length s → unlessEmpty s ≡ some s
 unfolding unlessEmpty
 some-text [] l = absurd (omega arith)
 some-text (x ∷ s) l = refl
 
-module _ (t : Tape) (k : ℕ) {r : Bytes} {y : Bool} (er : r ≡ textOf t (firstText t k)) (ey : y ≡ isBlank Unicode r) where
+module _ (t : Tape) (k : ℕ) {r : Bytes} {y : Bool} (er : r ≡ stepText t (firstText t k)) (ey : y ≡ isBlank Unicode r) where
   -- there is no alt where the text is blank
   pub alt-none : y ≡ true → periphAlt t k ≡ none
   unfolding periphAlt firstWords unlessEmpty

@@ -21,7 +21,7 @@ use Rattle.tape.specs.declared.Info.the-variants.{Known, Unknown}
 use Rattle.tape.proofs.Laws.{kind-of}
 use Rattle.render.specs.declared.shape.Shape.{Shape}
 use Rattle.render.specs.declared.shape.Shape.the-variants.{Block, Inline, Leaf, Other}
-use Rattle.render.specs.Shape.{closedBy, shapeBy, unknownShape, isInlineShape, isBlockShape, inlineCategory, inlineMarker, isInline, blockMarker, isTopLevelBlock, trimsAfter, isElement, isRow, isCategoryMarker, isBlank, isContent}
+use Rattle.render.specs.Shape.{closedBy, shapeBy, unknownShape, isInlineShape, isBlockShape, inlineCategory, inlineMarker, isInline, blockMarker, isTopLevelBlock, trimsAfter, isElement, isRow, isCategoryMarker, isBlankText, isContent}
 
 -- ---- codes
 
@@ -196,12 +196,12 @@ module _ (t : Tape) (k : ℕ) {z : Kind} (ek : z .code ≡ kindAt t k) where
 
   -- texts and content
 
-  pub blank-none : (z .code ≡ 1 → ⊥) → false ≡ isBlank t k
-  unfolding isBlank
+  pub blank-none : (z .code ≡ 1 → ⊥) → false ≡ isBlankText t k
+  unfolding isBlankText
   blank-none h = rw (kind-not 1 h)
 
-  pub blank-some : {s : Bytes} {r : Bool} → z .code ≡ 1 → s ≡ lean (textAt t k) → r ≡ blank Unicode s → r ≡ isBlank t k
-  unfolding isBlank
+  pub blank-some : {s : Bytes} {r : Bool} → z .code ≡ 1 → s ≡ lean (textAt t k) → r ≡ blank Unicode s → r ≡ isBlankText t k
+  unfolding isBlankText
   blank-some h es er = rw (kind-is 1 h) (er ∙ ap (blank Unicode) es ∙ blank-lean Unicode (textAt t k))
 
   pub content-attribute : z .code ≡ 2 → false ≡ isContent t k
@@ -212,7 +212,7 @@ module _ (t : Tape) (k : ℕ) {z : Kind} (ek : z .code ≡ kindAt t k) where
   unfolding isContent
   content-close g ex x = rw (kind-not 2 g, ← ek, ← ex, x)
 
-  pub content-other : {x r : Bool} → (z .code ≡ 2 → ⊥) → x ≡ isClose (z .code) → x ≡ false → r ≡ isBlank t k → not r ≡ isContent t k
+  pub content-other : {x r : Bool} → (z .code ≡ 2 → ⊥) → x ≡ isClose (z .code) → x ≡ false → r ≡ isBlankText t k → not r ≡ isContent t k
   unfolding isContent
   content-other g ex x er = rw (kind-not 2 g, ← ek, ← ex, x, ← er)
 

@@ -61,19 +61,19 @@ trimmedAt t Done = none
 trimmedAt t (At c) = some (trim Unicode (textAt t (c .at)))
 
 -- `category_of`, trimmed: of the first `cat` child the first Text; none if it has no Text
-unfoldable pub categoryOf : Tape → ℕ → Option Bytes
-categoryOf t k = trimmedAt t (categoryText t k)
+unfoldable pub writtenCategory : Tape → ℕ → Option Bytes
+writtenCategory t k = trimmedAt t (categoryText t k)
 
 -- ---- book and periph
 
 -- the text that a step leads to
-unfoldable pub textOf : Tape → Step → Bytes
-textOf t Done = []
-textOf t (At c) = textAt t (c .at)
+unfoldable pub stepText : Tape → Step → Bytes
+stepText t Done = []
+stepText t (At c) = textAt t (c .at)
 
 -- the words of the first Text child
 unfoldable pub firstWords : Tape → ℕ → List Bytes
-firstWords t k = words Unicode (textOf t (firstText t k))
+firstWords t k = words Unicode (stepText t (firstText t k))
 
 -- the book's code: the first word
 unfoldable pub bookCode : Tape → ℕ → Bytes

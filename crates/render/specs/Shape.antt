@@ -117,9 +117,9 @@ isCategoryMarker t k = isOpen t k && same (markerName t k) (b "cat")
 -- ---- texts and content
 
 -- `is_blank`: a Text of white space alone, or empty; Unicode
-unfoldable pub isBlank : Tape → ℕ → Bool
-isBlank t k = isText t k && blank Unicode (textAt t k)
+unfoldable pub isBlankText : Tape → ℕ → Bool
+isBlankText t k = isText t k && blank Unicode (textAt t k)
 
 -- what `has_content` counts: anything but attributes, closes and blank texts
 unfoldable pub isContent : Tape → ℕ → Bool
-isContent t k = not (isAttribute t k || (isClose (kindAt t k) || isBlank t k))
+isContent t k = not (isAttribute t k || (isClose (kindAt t k) || isBlankText t k))

@@ -5,7 +5,7 @@ ghost use Rattle.words.specs.Words.{trim};
 ghost use Rattle.words.specs.declared.Set.the-variants.{Unicode};
 ghost use Rattle.tape.specs.File.{tapeIn, textAt};
 ghost use Rattle.render.specs.Children.{firstText};
-ghost use Rattle.render.specs.Note.{leadText, callerOr, remainder as remainderOf, categoryText, textOf, IsCode, cellAlign};
+ghost use Rattle.render.specs.Note.{leadText, callerOr, remainder as remainderOf, categoryText, stepText, IsCode, cellAlign};
 use crate::children::Test;
 use crate::children::find;
 use crate::children::first_text;
@@ -86,7 +86,7 @@ pub fn trimmed(file: &[u8], tape: Sections, c: Cursor) -> &[u8]
 
 // The text that a step leads to.
 pub fn text_of(file: &[u8], tape: Sections, s: Step) -> &[u8]
-    ensures { λ r. ⌜ now r ≡ textOf (tapeIn tape (now (file .entry))) s ⌝ }
+    ensures { λ r. ⌜ now r ≡ stepText (tapeIn tape (now (file .entry))) s ⌝ }
 {
     match s {
         Step::At(c) => c.text(file, tape),
@@ -96,7 +96,7 @@ pub fn text_of(file: &[u8], tape: Sections, s: Step) -> &[u8]
 
 // The text of the first Text child: its words are the book's code and rest, and periph's alt.
 pub fn leading_text(file: &[u8], tape: Sections, c: Cursor) -> &[u8]
-    ensures { λ r. ⌜ now r ≡ textOf (tapeIn tape (now (file .entry))) (firstText (tapeIn tape (now (file .entry))) (c .at)) ⌝ }
+    ensures { λ r. ⌜ now r ≡ stepText (tapeIn tape (now (file .entry))) (firstText (tapeIn tape (now (file .entry))) (c .at)) ⌝ }
 {
     text_of(file, tape, first_text(file, tape, c))
 }
@@ -113,7 +113,7 @@ pub fn book_code(file: &[u8], tape: Sections, c: Cursor) -> Part
 
 // The text whose words are the book's rest.
 pub fn book_rest(file: &[u8], tape: Sections, c: Cursor) -> &[u8]
-    ensures { λ r. ⌜ now r ≡ remainderOf (textOf (tapeIn tape (now (file .entry))) (firstText (tapeIn tape (now (file .entry))) (c .at))) ⌝ }
+    ensures { λ r. ⌜ now r ≡ remainderOf (stepText (tapeIn tape (now (file .entry))) (firstText (tapeIn tape (now (file .entry))) (c .at))) ⌝ }
 {
     remainder(leading_text(file, tape, c))
 }

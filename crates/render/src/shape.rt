@@ -2,7 +2,7 @@
 ghost use mathlib.Core.Path.{_≡_};
 ghost use Rattle.tape.specs.File.{tapeIn};
 ghost use Rattle.lean.specs.Lean.{Solids};
-ghost use Rattle.render.specs.Shape.{closedBy, unknownShape, isInlineShape, isBlockShape, inlineCategory, isInline, isTopLevelBlock, trimsAfter, isElement, isRow, isCategoryMarker, isBlank, isContent};
+ghost use Rattle.render.specs.Shape.{closedBy, unknownShape, isInlineShape, isBlockShape, inlineCategory, isInline, isTopLevelBlock, trimsAfter, isElement, isRow, isCategoryMarker, isBlankText, isContent};
 use lean::lean_text;
 use tape::Category;
 use tape::Cursor;
@@ -173,7 +173,7 @@ pub fn is_category_marker(file: &[u8], tape: Sections, c: Cursor) -> bool
 // Whether a node is a Text of white space alone.
 pub fn is_blank(file: &[u8], tape: Sections, solids: &[u32], c: Cursor) -> bool
     requires { ⌜ Solids (tapeIn tape (now file)) (now solids) ⌝ }
-    ensures { λ r. ⌜ r ≡ isBlank (tapeIn tape (now (file .entry))) (c .at) ⌝ }
+    ensures { λ r. ⌜ r ≡ isBlankText (tapeIn tape (now (file .entry))) (c .at) ⌝ }
 {
     let kind = c.kind(file, tape);
     if kind.code != Kind::TEXT {

@@ -7,7 +7,7 @@ use Prim.Native.Nat.{ℕ, suc, _-_, _*_, _≤_, _<_}
 use native.Mathlib.Omega.{arith}
 use lib.ListN.{replicate}
 use Rattle.parts.specs.Bytes.{Bytes, b, part}
-use Rattle.chars.specs.Escape.{escape, escaped, special}
+use Rattle.chars.specs.Escape.{escape, escapedByte, special}
 use Rattle.chars.specs.Decimal.{decimal}
 use Rattle.chars.proofs.Escapes.{escape-append, escape-plain}
 use Rattle.chars.proofs.Digits.{decimal-byte}
@@ -52,12 +52,12 @@ shown-decimal true n = refl
 shown-decimal false n = escape-plain true (decimal n) (λ x m. digit-plain x n m)
 
 shown-space : (raw : Bool) → shownAs raw (b " ") ≡ b " "
-unfolding shownAs escape escaped
+unfolding shownAs escape escapedByte
 shown-space true = refl
 shown-space false = refl
 
 shown-colon : (raw : Bool) → shownAs raw (b ":") ≡ b ":"
-unfolding shownAs escape escaped
+unfolding shownAs escape escapedByte
 shown-colon true = refl
 shown-colon false = refl
 

@@ -17,12 +17,12 @@ use Rattle.tape.specs.declared.Step.{Step}
 use Rattle.tape.specs.declared.kinds.Kind.{Kind}
 use Rattle.render.specs.Label.{labelOf}
 use Rattle.attrs.specs.Attr.{attributesOf}
-use Rattle.fold.specs.Fold.{Folded, numberOf, foldAt}
+use Rattle.fold.specs.Fold.{Folded, foldedNumber, foldAt}
 use Rattle.tags.specs.Items.{attrsBytes}
 use Rattle.events.specs.Event.{chapter, verse, collected}
 use Rattle.events.specs.Walk.{unbroken, broken}
 use Rattle.events.specs.Emit.{Desk, emit, emitAll}
-use Rattle.lists.specs.Span.{filtered, cutAt, nodesIn, foldedIn}
+use Rattle.lists.specs.Span.{filtered, cutBy, nodesIn, foldedIn}
 use Rattle.lists.specs.declared.Span.{Span}
 use Rattle.lists.specs.declared.Folds.{Folds}
 use Rattle.sink.specs.Desk.{stateIn, windowIn, overBy, deskIn, putOn}
@@ -35,18 +35,18 @@ everyone = record { cut = false; sifted = false }
 
 pub numbers-are : (t : Tape) (c : Cursor) (f : Folds) {kind : Kind} {first : Step} → kind .code ≡ kindAt t (c .at) → first ≡ nextSibling t (c .at)
     → foldedIn t everyone f ≡ foldAt t (kind .code) (nodesIn t everyone first) → foldedIn t everyone f ≡ foldedAt t (c .at)
-unfolding foldedAt nodesIn cutAt filtered siblings
+unfolding foldedAt nodesIn cutBy filtered siblings
 numbers-are t c f ek ef e = e ∙ rw (ek, ef)
 
 module _ (t : Tape) (at : ℕ) {c : Cursor} (here : c .at ≡ at) where
   pub chapter-laid : (f : Folds) (d : Desk) {n : ℕ} {r : Desk} → foldedIn t everyone f ≡ foldedAt t (c .at) → n ≡ numberAt t (c .at)
-      → r ≡ emit d (chapter n (numberOf t (f .alt)) (numberOf t (f .published))) → r ≡ laid t (aChapter at) d
+      → r ≡ emit d (chapter n (foldedNumber t (f .alt)) (foldedNumber t (f .published))) → r ≡ laid t (aChapter at) d
   unfolding laid foldedIn
   chapter-laid f d {n} e en er =
       er ∙ ap (λ (g : Folded). emit d (chapter n (g .alt) (g .published))) e ∙ rw (en, here)
 
   pub verse-laid : (f : Folds) (d : Desk) {r : Desk} → foldedIn t everyone f ≡ foldedAt t (c .at)
-      → r ≡ emit d (verse (labelOf t (c .at)) (numberOf t (f .alt)) (numberOf t (f .published))) → r ≡ laid t (aVerse at) d
+      → r ≡ emit d (verse (labelOf t (c .at)) (foldedNumber t (f .alt)) (foldedNumber t (f .published))) → r ≡ laid t (aVerse at) d
   unfolding laid foldedIn
   verse-laid f d e er = er ∙ ap (λ (g : Folded). emit d (verse (labelOf t (c .at)) (g .alt) (g .published))) e ∙ rw here
 

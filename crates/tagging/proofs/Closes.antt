@@ -17,20 +17,20 @@ use Rattle.sink.specs.declared.Sink.{Sink}
 use Rattle.roles.specs.declared.Role.{Role}
 use Rattle.roles.specs.declared.Role.the-variants.{UnknownBlock, UnknownInline, Unwritten, Figure, Ref, Id, Note, Ms, Char, Para}
 use Rattle.roles.specs.Roles.{roleIn}
-use Rattle.tagging.specs.Marker.{closing, linkCloses}
+use Rattle.tagging.specs.Marker.{markerCloses, linkCloses}
 use Rattle.tagging.proofs.Written.{one-on, items-on}
 
 -- ---- a char
 
 module _ (t : Tape) (k : ℕ) {link : Sought} (el : soughtOf (t .source) link ≡ linkOf t k) (sink r : Sink) (out last : Bytes) where
   pub char-closed : link ≡ Nowhere → ((source : Bytes) → deskIn source r last ≡ putOn (deskIn source sink out) (b "</char>"))
-      → deskIn (t .source) r last ≡ emitAll (deskIn (t .source) sink out) (closing t k char)
-  unfolding closing linkCloses soughtOf bytesOf nameOf
+      → deskIn (t .source) r last ≡ emitAll (deskIn (t .source) sink out) (markerCloses t k char)
+  unfolding markerCloses linkCloses soughtOf bytesOf nameOf
   char-closed e put = rw (← el, e) (put (t .source) ∙ one-on (deskIn (t .source) sink out) (close 6))
 
   pub link-closed : {x : Value} → link ≡ Found x → ((source : Bytes) → deskIn source r last ≡ putOn (deskIn source sink out) (b "</ref></char>"))
-      → deskIn (t .source) r last ≡ emitAll (deskIn (t .source) sink out) (closing t k char)
-  unfolding closing linkCloses soughtOf bytesOf nameOf render
+      → deskIn (t .source) r last ≡ emitAll (deskIn (t .source) sink out) (markerCloses t k char)
+  unfolding markerCloses linkCloses soughtOf bytesOf nameOf render
   link-closed e put = rw (← el, e) (put (t .source) ∙ items-on (deskIn (t .source) sink out) (close 16 ∷ close 6 ∷ []))
 
 -- ---- by role
@@ -38,48 +38,48 @@ module _ (t : Tape) (k : ℕ) {link : Sought} (el : soughtOf (t .source) link �
 module _ (t : Tape) (k : ℕ) {role : Role} where
   module _ (sink r : Sink) (out last : Bytes) where
     pub block-end : role ≡ UnknownBlock → ((source : Bytes) → deskIn source r last ≡ putOn (deskIn source sink out) (b "</para>"))
-        → deskIn (t .source) r last ≡ emitAll (deskIn (t .source) sink out) (closing t k (roleIn role))
-    unfolding roleIn closing bytesOf nameOf
+        → deskIn (t .source) r last ≡ emitAll (deskIn (t .source) sink out) (markerCloses t k (roleIn role))
+    unfolding roleIn markerCloses bytesOf nameOf
     block-end e put = rw e (put (t .source) ∙ one-on (deskIn (t .source) sink out) (close 5))
 
     pub inline-end : role ≡ UnknownInline → ((source : Bytes) → deskIn source r last ≡ putOn (deskIn source sink out) (b "</char>"))
-        → deskIn (t .source) r last ≡ emitAll (deskIn (t .source) sink out) (closing t k (roleIn role))
-    unfolding roleIn closing bytesOf nameOf
+        → deskIn (t .source) r last ≡ emitAll (deskIn (t .source) sink out) (markerCloses t k (roleIn role))
+    unfolding roleIn markerCloses bytesOf nameOf
     inline-end e put = rw e (put (t .source) ∙ one-on (deskIn (t .source) sink out) (close 6))
 
     pub figure-end : role ≡ Figure → ((source : Bytes) → deskIn source r last ≡ putOn (deskIn source sink out) (b "</figure>"))
-        → deskIn (t .source) r last ≡ emitAll (deskIn (t .source) sink out) (closing t k (roleIn role))
-    unfolding roleIn closing bytesOf nameOf
+        → deskIn (t .source) r last ≡ emitAll (deskIn (t .source) sink out) (markerCloses t k (roleIn role))
+    unfolding roleIn markerCloses bytesOf nameOf
     figure-end e put = rw e (put (t .source) ∙ one-on (deskIn (t .source) sink out) (close 9))
 
     pub ref-end : role ≡ Ref → ((source : Bytes) → deskIn source r last ≡ putOn (deskIn source sink out) (b "</ref>"))
-        → deskIn (t .source) r last ≡ emitAll (deskIn (t .source) sink out) (closing t k (roleIn role))
-    unfolding roleIn closing bytesOf nameOf
+        → deskIn (t .source) r last ≡ emitAll (deskIn (t .source) sink out) (markerCloses t k (roleIn role))
+    unfolding roleIn markerCloses bytesOf nameOf
     ref-end e put = rw e (put (t .source) ∙ one-on (deskIn (t .source) sink out) (close 16))
 
     pub note-end : role ≡ Note → ((source : Bytes) → deskIn source r last ≡ putOn (deskIn source sink out) (b "</note>"))
-        → deskIn (t .source) r last ≡ emitAll (deskIn (t .source) sink out) (closing t k (roleIn role))
-    unfolding roleIn closing bytesOf nameOf
+        → deskIn (t .source) r last ≡ emitAll (deskIn (t .source) sink out) (markerCloses t k (roleIn role))
+    unfolding roleIn markerCloses bytesOf nameOf
     note-end e put = rw e (put (t .source) ∙ one-on (deskIn (t .source) sink out) (close 7))
 
     pub para-end : role ≡ Para → ((source : Bytes) → deskIn source r last ≡ putOn (deskIn source sink out) (b "</para>"))
-        → deskIn (t .source) r last ≡ emitAll (deskIn (t .source) sink out) (closing t k (roleIn role))
-    unfolding roleIn closing bytesOf nameOf
+        → deskIn (t .source) r last ≡ emitAll (deskIn (t .source) sink out) (markerCloses t k (roleIn role))
+    unfolding roleIn markerCloses bytesOf nameOf
     para-end e put = rw e (put (t .source) ∙ one-on (deskIn (t .source) sink out) (close 5))
 
-  pub char-end : (d : Desk) {e : Desk} → role ≡ Char → e ≡ emitAll d (closing t k char) → e ≡ emitAll d (closing t k (roleIn role))
+  pub char-end : (d : Desk) {e : Desk} → role ≡ Char → e ≡ emitAll d (markerCloses t k char) → e ≡ emitAll d (markerCloses t k (roleIn role))
   unfolding roleIn
   char-end d h er = rw h er
 
   module _ (d : Desk) where
-    pub unwritten-end : role ≡ Unwritten → d ≡ emitAll d (closing t k (roleIn role))
-    unfolding roleIn closing emitAll
+    pub unwritten-end : role ≡ Unwritten → d ≡ emitAll d (markerCloses t k (roleIn role))
+    unfolding roleIn markerCloses emitAll
     unwritten-end h = rw h
 
-    pub id-end : role ≡ Id → d ≡ emitAll d (closing t k (roleIn role))
-    unfolding roleIn closing emitAll
+    pub id-end : role ≡ Id → d ≡ emitAll d (markerCloses t k (roleIn role))
+    unfolding roleIn markerCloses emitAll
     id-end h = rw h
 
-    pub ms-end : role ≡ Ms → d ≡ emitAll d (closing t k (roleIn role))
-    unfolding roleIn closing emitAll
+    pub ms-end : role ≡ Ms → d ≡ emitAll d (markerCloses t k (roleIn role))
+    unfolding roleIn markerCloses emitAll
     ms-end h = rw h

@@ -5,13 +5,13 @@ use mathlib.Core.List.{List, [], _∷_, _++_}
 use mathlib.Core.Option.{Option}
 use Prim.Native.Nat.{ℕ}
 use Rattle.parts.specs.Bytes.{Bytes, b}
-use Rattle.chars.specs.Escape.{escape, escaped as escapedByte}
+use Rattle.chars.specs.Escape.{escape, escapedByte}
 use Rattle.window.specs.Page.{Page, pageOf, paint}
 use Rattle.window.specs.declared.Window.{Window}
 use Rattle.tape.specs.File.{Tape, nodeAt, isSynthetic}
 use Rattle.tape.specs.Name.{markerName}
 use Rattle.tape.specs.declared.Cursor.{Cursor}
-use Rattle.render.specs.Note.{callerOr, noteCaller, categoryOf}
+use Rattle.render.specs.Note.{callerOr, noteCaller, writtenCategory}
 use Rattle.attrs.specs.Attr.{attributesOf}
 use Rattle.attrs.specs.Walk.{firstOf, soughtOf, valueOf as rawValue}
 use Rattle.attrs.specs.declared.Value.{Value}
@@ -27,7 +27,7 @@ use Rattle.sink.proofs.Chains.{paint-three, paint-four, desk-on, desk-item}
 use Rattle.roles.specs.declared.Role.{Role}
 use Rattle.roles.specs.declared.Role.the-variants.{UnknownBlock, UnknownInline, Unwritten, Figure, Ref, Id, Note, Ms, Char, Para}
 use Rattle.roles.specs.Roles.{roleIn}
-use Rattle.tagging.specs.Marker.{opening, linkOpens}
+use Rattle.tagging.specs.Marker.{markerOpens, linkOpens}
 use Rattle.tagging.proofs.Written.{one-on, desk-one, para-bytes, unknown-block-bytes, unknown-inline-bytes, char-bytes, ref-bytes, link-bytes, figure-bytes, note-bytes}
 
 -- ---- attributes
@@ -87,11 +87,11 @@ module _ (t : Tape) (k : ℕ) (p : Page) {q u r : Page} where
 
   pub note-put : {caller : Bytes} (name : Bytes) → caller ≡ callerOr (b "+") t k
       → q ≡ paint p (b "<note caller=\"" ++ (escape true caller ++ (b "\" style=\"" ++ (name ++ b "\""))))
-      → u ≡ paint q (attrsBytes (perhaps (b "category") (categoryOf t k))) → r ≡ paint u (b ">")
-      → r ≡ paint p (bytesOf (start 7 (escaped (b "caller") (noteCaller t k) ∷ rawly (b "style") name ∷ perhaps (b "category") (categoryOf t k))))
+      → u ≡ paint q (attrsBytes (perhaps (b "category") (writtenCategory t k))) → r ≡ paint u (b ">")
+      → r ≡ paint p (bytesOf (start 7 (escaped (b "caller") (noteCaller t k) ∷ rawly (b "style") name ∷ perhaps (b "category") (writtenCategory t k))))
   unfolding noteCaller
   note-put name ec eq eu er =
-      let qs : List Attr = perhaps (b "category") (categoryOf t k) in
+      let qs : List Attr = perhaps (b "category") (writtenCategory t k) in
       paint-three p (b "<note caller=\"" ++ (escape true (noteCaller t k) ++ (b "\" style=\"" ++ (name ++ b "\"")))) (attrsBytes qs) (b ">") (rw ec at eq) eu er
       ∙ ap (paint p) (note-bytes (noteCaller t k) name qs)
 
@@ -114,8 +114,8 @@ link-opened source {link} {x} e sink out ew es ev er =
 
 pub char-linked : (t : Tape) (k : ℕ) (d : Desk) {e f : Desk} {o : Option Bytes}
     → e ≡ emit d (item (start 6 (style t k ∷ (unclosed t k ++ collected (attributesOf t k (markerName t k)))))) → o ≡ linkOf t k → f ≡ emitAll e (linkOpens o)
-    → f ≡ emitAll d (opening t k char)
-unfolding opening emitAll
+    → f ≡ emitAll d (markerOpens t k char)
+unfolding markerOpens emitAll
 char-linked t k d ee eo ef = ef ∙ rw (ee, eo)
 
 -- ---- by role
@@ -124,8 +124,8 @@ module _ (t : Tape) (k : ℕ) {role : Role} where
   module _ (sink r : Sink) (out last : Bytes) where
     pub block-marker : role ≡ UnknownBlock
         → ((source : Bytes) → deskIn source r last ≡ putOn (deskIn source sink out) (b "<para style=\"" ++ (markerName t k ++ b "\" status=\"unknown\">")))
-        → deskIn (t .source) r last ≡ emitAll (deskIn (t .source) sink out) (opening t k (roleIn role))
-    unfolding roleIn opening style
+        → deskIn (t .source) r last ≡ emitAll (deskIn (t .source) sink out) (markerOpens t k (roleIn role))
+    unfolding roleIn markerOpens style
     block-marker e put =
         rw e
         (put (t .source)
@@ -134,8 +134,8 @@ module _ (t : Tape) (k : ℕ) {role : Role} where
 
     pub inline-marker : role ≡ UnknownInline
         → ((source : Bytes) → deskIn source r last ≡ putOn (deskIn source sink out) (b "<char style=\"" ++ (markerName t k ++ b "\" status=\"unknown\">")))
-        → deskIn (t .source) r last ≡ emitAll (deskIn (t .source) sink out) (opening t k (roleIn role))
-    unfolding roleIn opening style
+        → deskIn (t .source) r last ≡ emitAll (deskIn (t .source) sink out) (markerOpens t k (roleIn role))
+    unfolding roleIn markerOpens style
     inline-marker e put =
         rw e
         (put (t .source)
@@ -144,49 +144,49 @@ module _ (t : Tape) (k : ℕ) {role : Role} where
 
     pub para-marker : role ≡ Para
         → ((source : Bytes) → deskIn source r last ≡ putOn (deskIn source sink out) (b "<para style=\"" ++ (markerName t k ++ b "\">")))
-        → deskIn (t .source) r last ≡ emitAll (deskIn (t .source) sink out) (opening t k (roleIn role))
-    unfolding roleIn opening style
+        → deskIn (t .source) r last ≡ emitAll (deskIn (t .source) sink out) (markerOpens t k (roleIn role))
+    unfolding roleIn markerOpens style
     para-marker e put =
         rw e
         (put (t .source)
         ∙ ap (putOn (deskIn (t .source) sink out)) (para-bytes (markerName t k))
         ∙ one-on (deskIn (t .source) sink out) (start 5 (style t k ∷ [])))
 
-  pub char-marker : (d : Desk) {e : Desk} → role ≡ Char → e ≡ emitAll d (opening t k char) → e ≡ emitAll d (opening t k (roleIn role))
+  pub char-marker : (d : Desk) {e : Desk} → role ≡ Char → e ≡ emitAll d (markerOpens t k char) → e ≡ emitAll d (markerOpens t k (roleIn role))
   unfolding roleIn
   char-marker d h er = rw h er
 
   module _ (sink : Sink) {w v : Window} {r : Sink} (out : Bytes) {last : Bytes} where
     pub figure-marker : role ≡ Figure → w ≡ windowIn sink
         → pageOf v last ≡ paint (pageOf w out) (bytesOf (start 9 (styled (b "fig") ++ collected (attributesOf t k (b "fig"))))) → r ≡ overBy sink v
-        → deskIn (t .source) r last ≡ emitAll (deskIn (t .source) sink out) (opening t k (roleIn role))
-    unfolding roleIn opening
+        → deskIn (t .source) r last ≡ emitAll (deskIn (t .source) sink out) (markerOpens t k (roleIn role))
+    unfolding roleIn markerOpens
     figure-marker e ew ev er = rw e (desk-one sink out (start 9 (styled (b "fig") ++ collected (attributesOf t k (b "fig")))) ew ev er (t .source))
 
     pub ref-marker : role ≡ Ref → w ≡ windowIn sink
         → pageOf v last ≡ paint (pageOf w out) (bytesOf (start 16 (perhaps (b "loc") (firstOf (b "loc") (attributesOf t k (b "ref")))))) → r ≡ overBy sink v
-        → deskIn (t .source) r last ≡ emitAll (deskIn (t .source) sink out) (opening t k (roleIn role))
-    unfolding roleIn opening
+        → deskIn (t .source) r last ≡ emitAll (deskIn (t .source) sink out) (markerOpens t k (roleIn role))
+    unfolding roleIn markerOpens
     ref-marker e ew ev er = rw e (desk-one sink out (start 16 (perhaps (b "loc") (firstOf (b "loc") (attributesOf t k (b "ref"))))) ew ev er (t .source))
 
     pub note-marker : {name : Bytes} → role ≡ Note → w ≡ windowIn sink → name ≡ markerName t k
-        → pageOf v last ≡ paint (pageOf w out) (bytesOf (start 7 (escaped (b "caller") (noteCaller t k) ∷ rawly (b "style") name ∷ perhaps (b "category") (categoryOf t k))))
+        → pageOf v last ≡ paint (pageOf w out) (bytesOf (start 7 (escaped (b "caller") (noteCaller t k) ∷ rawly (b "style") name ∷ perhaps (b "category") (writtenCategory t k))))
         → r ≡ overBy sink v
-        → deskIn (t .source) r last ≡ emitAll (deskIn (t .source) sink out) (opening t k (roleIn role))
-    unfolding roleIn opening style
+        → deskIn (t .source) r last ≡ emitAll (deskIn (t .source) sink out) (markerOpens t k (roleIn role))
+    unfolding roleIn markerOpens style
     note-marker e ew en ev er =
         rw e
-        (desk-one sink out (start 7 (escaped (b "caller") (noteCaller t k) ∷ style t k ∷ perhaps (b "category") (categoryOf t k))) ew (rw en at ev) er (t .source))
+        (desk-one sink out (start 7 (escaped (b "caller") (noteCaller t k) ∷ style t k ∷ perhaps (b "category") (writtenCategory t k))) ew (rw en at ev) er (t .source))
 
   module _ (d : Desk) where
-    pub unwritten-marker : role ≡ Unwritten → d ≡ emitAll d (opening t k (roleIn role))
-    unfolding roleIn opening emitAll
+    pub unwritten-marker : role ≡ Unwritten → d ≡ emitAll d (markerOpens t k (roleIn role))
+    unfolding roleIn markerOpens emitAll
     unwritten-marker h = rw h
 
-    pub id-marker : role ≡ Id → d ≡ emitAll d (opening t k (roleIn role))
-    unfolding roleIn opening emitAll
+    pub id-marker : role ≡ Id → d ≡ emitAll d (markerOpens t k (roleIn role))
+    unfolding roleIn markerOpens emitAll
     id-marker h = rw h
 
-    pub ms-marker : role ≡ Ms → d ≡ emitAll d (opening t k (roleIn role))
-    unfolding roleIn opening emitAll
+    pub ms-marker : role ≡ Ms → d ≡ emitAll d (markerOpens t k (roleIn role))
+    unfolding roleIn markerOpens emitAll
     ms-marker h = rw h

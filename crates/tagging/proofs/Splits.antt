@@ -16,7 +16,7 @@ use Rattle.tags.specs.Items.{start, close}
 use Rattle.events.specs.Event.{Event, item, collected, element}
 use Rattle.events.specs.Walk.{style, styled, unclosed, linkOf, linked, figureAs, markerAs, Manner, asInline, Role, unknownBlock, unknownInline, unwritten, figure, ref, id, note, ms, char, para}
 use Rattle.roles.specs.Roles.{isWhole, mannerOf}
-use Rattle.tagging.specs.Marker.{linkOpens, linkCloses, opening, closing, oldFigure, leafOf}
+use Rattle.tagging.specs.Marker.{linkOpens, linkCloses, markerOpens, markerCloses, oldFigure, leafOf}
 
 -- a link around events, and more behind it
 link-split : (o : Option Bytes) (es rest : List Event) → linked o es ++ rest ≡ linkOpens o ++ (es ++ (linkCloses o ++ rest))
@@ -33,8 +33,8 @@ module _ (inside : Manner → ℕ → Bool → List Event) (t : Tape) (k : ℕ) 
 
   -- what the definition writes for a marker, in the parts that the code writes
   pub marker-split : (role : Role) → markerAs inside t k outer role
-      ≡ cond (isWhole t k role) (opening t k role ++ (inside (mannerOf role) k outer ++ closing t k role)) (leafOf t k role)
-  unfolding markerAs isWhole opening closing leafOf mannerOf element
+      ≡ cond (isWhole t k role) (markerOpens t k role ++ (inside (mannerOf role) k outer ++ markerCloses t k role)) (leafOf t k role)
+  unfolding markerAs isWhole markerOpens markerCloses leafOf mannerOf element
   marker-split unknownBlock = refl
   marker-split unknownInline = refl
   marker-split unwritten = refl

@@ -7,7 +7,7 @@ use Rattle.tape.specs.File.{Tape}
 use Rattle.tape.specs.Name.{markerName}
 use Rattle.tape.specs.declared.Step.{Step}
 use Rattle.tape.specs.declared.Step.the-variants.{At, Done}
-use Rattle.render.specs.Note.{noteCaller, categoryOf, bookCode, bookRest}
+use Rattle.render.specs.Note.{noteCaller, writtenCategory, bookCode, bookRest}
 use Rattle.attrs.specs.Attr.{attributesOf}
 use Rattle.attrs.specs.Walk.{firstOf}
 use Rattle.figure.specs.Figure.{legacyAt, legacyPairs, captionOf}
@@ -27,30 +27,30 @@ linkCloses none = []
 linkCloses (some loc) = item (close el.ref) ∷ []
 
 -- what stands before the events inside a marker, by its role
-unfoldable pub opening : Tape → ℕ → Role → List Event
-opening t k unknownBlock = item (start el.para (style t k ∷ escaped (b "status") (b "unknown") ∷ [])) ∷ []
-opening t k unknownInline = item (start el.char (style t k ∷ escaped (b "status") (b "unknown") ∷ [])) ∷ []
-opening t k unwritten = []
-opening t k figure = item (start el.figure (styled (b "fig") ++ collected (attributesOf t k (b "fig")))) ∷ []
-opening t k ref = item (start el.ref (perhaps (b "loc") (firstOf (b "loc") (attributesOf t k (b "ref"))))) ∷ []
-opening t k id = []
-opening t k note = item (start el.note (escaped (b "caller") (noteCaller t k) ∷ style t k ∷ perhaps (b "category") (categoryOf t k))) ∷ []
-opening t k ms = []
-opening t k char = item (start el.char (style t k ∷ (unclosed t k ++ collected (attributesOf t k (markerName t k))))) ∷ linkOpens (linkOf t k)
-opening t k para = item (start el.para (style t k ∷ [])) ∷ []
+unfoldable pub markerOpens : Tape → ℕ → Role → List Event
+markerOpens t k unknownBlock = item (start el.para (style t k ∷ escaped (b "status") (b "unknown") ∷ [])) ∷ []
+markerOpens t k unknownInline = item (start el.char (style t k ∷ escaped (b "status") (b "unknown") ∷ [])) ∷ []
+markerOpens t k unwritten = []
+markerOpens t k figure = item (start el.figure (styled (b "fig") ++ collected (attributesOf t k (b "fig")))) ∷ []
+markerOpens t k ref = item (start el.ref (perhaps (b "loc") (firstOf (b "loc") (attributesOf t k (b "ref"))))) ∷ []
+markerOpens t k id = []
+markerOpens t k note = item (start el.note (escaped (b "caller") (noteCaller t k) ∷ style t k ∷ perhaps (b "category") (writtenCategory t k))) ∷ []
+markerOpens t k ms = []
+markerOpens t k char = item (start el.char (style t k ∷ (unclosed t k ++ collected (attributesOf t k (markerName t k))))) ∷ linkOpens (linkOf t k)
+markerOpens t k para = item (start el.para (style t k ∷ [])) ∷ []
 
 -- what stands behind the events inside a marker
-unfoldable pub closing : Tape → ℕ → Role → List Event
-closing t k unknownBlock = item (close el.para) ∷ []
-closing t k unknownInline = item (close el.char) ∷ []
-closing t k unwritten = []
-closing t k figure = item (close el.figure) ∷ []
-closing t k ref = item (close el.ref) ∷ []
-closing t k id = []
-closing t k note = item (close el.note) ∷ []
-closing t k ms = []
-closing t k char = linkCloses (linkOf t k) ++ (item (close el.char) ∷ [])
-closing t k para = item (close el.para) ∷ []
+unfoldable pub markerCloses : Tape → ℕ → Role → List Event
+markerCloses t k unknownBlock = item (close el.para) ∷ []
+markerCloses t k unknownInline = item (close el.char) ∷ []
+markerCloses t k unwritten = []
+markerCloses t k figure = item (close el.figure) ∷ []
+markerCloses t k ref = item (close el.ref) ∷ []
+markerCloses t k id = []
+markerCloses t k note = item (close el.note) ∷ []
+markerCloses t k ms = []
+markerCloses t k char = linkCloses (linkOf t k) ++ (item (close el.char) ∷ [])
+markerCloses t k para = item (close el.para) ∷ []
 
 -- a figure of old, by its Attribute
 unfoldable pub oldFigure : Tape → ℕ → Step → List Event

@@ -6,7 +6,7 @@ ghost use Rattle.events.specs.Walk.{char};
 ghost use Rattle.events.specs.Emit.{emitAll};
 ghost use Rattle.sink.specs.Desk.{deskIn};
 ghost use Rattle.roles.specs.Roles.{roleIn};
-ghost use Rattle.tagging.specs.Marker.{closing};
+ghost use Rattle.tagging.specs.Marker.{markerCloses};
 use attrs::Sought;
 use roles::Role;
 use roles::link_of;
@@ -25,7 +25,7 @@ fn close_char(
     out: &mut [u8],
 ) -> Sink
     requires { ⌜ Solids (tapeIn tape (now file)) (now solids) ⌝ }
-    ensures { λ r. ⌜ deskIn (tapeIn tape (now (file .entry)) .source) r (now (out .exit)) ≡ emitAll (deskIn (tapeIn tape (now (file .entry)) .source) sink (now (out .entry))) (closing (tapeIn tape (now (file .entry))) (c .at) char) ⌝ }
+    ensures { λ r. ⌜ deskIn (tapeIn tape (now (file .entry)) .source) r (now (out .exit)) ≡ emitAll (deskIn (tapeIn tape (now (file .entry)) .source) sink (now (out .entry))) (markerCloses (tapeIn tape (now (file .entry))) (c .at) char) ⌝ }
 {
     match link_of(file, tape, solids, c) {
         Sought::Nowhere => literal(sink, out, b"</char>"),
@@ -44,7 +44,7 @@ pub fn close_marker(
     out: &mut [u8],
 ) -> Sink
     requires { ⌜ Solids (tapeIn tape (now file)) (now solids) ⌝ }
-    ensures { λ r. ⌜ deskIn (tapeIn tape (now (file .entry)) .source) r (now (out .exit)) ≡ emitAll (deskIn (tapeIn tape (now (file .entry)) .source) sink (now (out .entry))) (closing (tapeIn tape (now (file .entry))) (c .at) (roleIn role)) ⌝ }
+    ensures { λ r. ⌜ deskIn (tapeIn tape (now (file .entry)) .source) r (now (out .exit)) ≡ emitAll (deskIn (tapeIn tape (now (file .entry)) .source) sink (now (out .entry))) (markerCloses (tapeIn tape (now (file .entry))) (c .at) (roleIn role)) ⌝ }
 {
     match role {
         Role::UnknownBlock => literal(sink, out, b"</para>"),

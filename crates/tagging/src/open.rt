@@ -8,7 +8,7 @@ ghost use Rattle.window.specs.Page.{pageOf, paint};
 ghost use Rattle.tape.specs.File.{tapeIn, nodeAt, isSynthetic};
 ghost use Rattle.tape.specs.Name.{markerName};
 ghost use Rattle.lean.specs.Lean.{Solids};
-ghost use Rattle.render.specs.Note.{noteCaller, categoryOf};
+ghost use Rattle.render.specs.Note.{noteCaller, writtenCategory};
 ghost use Rattle.attrs.specs.Attr.{attributesOf};
 ghost use Rattle.attrs.specs.Walk.{firstOf, soughtOf, valueOf};
 ghost use Rattle.tags.specs.Items.{start, attrsBytes, bytesOf as itemBytes};
@@ -17,7 +17,7 @@ ghost use Rattle.events.specs.Walk.{style, styled, unclosed, char};
 ghost use Rattle.events.specs.Emit.{emit, emitAll};
 ghost use Rattle.sink.specs.Desk.{deskIn, putOn};
 ghost use Rattle.roles.specs.Roles.{roleIn};
-ghost use Rattle.tagging.specs.Marker.{opening, linkOpens};
+ghost use Rattle.tagging.specs.Marker.{markerOpens, linkOpens};
 use attrs::Sought;
 use attrs::Value;
 use roles::Role;
@@ -141,7 +141,7 @@ fn open_char_linked(
     out: &mut [u8],
 ) -> Sink
     requires { ⌜ Solids (tapeIn tape (now file)) (now solids) ⌝ }
-    ensures { λ r. ⌜ deskIn (tapeIn tape (now (file .entry)) .source) r (now (out .exit)) ≡ emitAll (deskIn (tapeIn tape (now (file .entry)) .source) sink (now (out .entry))) (opening (tapeIn tape (now (file .entry))) (c .at) char) ⌝ }
+    ensures { λ r. ⌜ deskIn (tapeIn tape (now (file .entry)) .source) r (now (out .exit)) ≡ emitAll (deskIn (tapeIn tape (now (file .entry)) .source) sink (now (out .entry))) (markerOpens (tapeIn tape (now (file .entry))) (c .at) char) ⌝ }
 {
     let s = open_char(file, tape, c, sink, out);
     open_link(file, tape, link_of(file, tape, solids, c), s, out)
@@ -184,7 +184,7 @@ fn put_note(
     c: Cursor,
     name: &[u8],
 ) -> Window
-    ensures { λ r. ⌜ pageOf r (now (out .exit)) ≡ paint (pageOf w (now (out .entry))) (itemBytes (start 7 (escaped (b "caller") (noteCaller (tapeIn tape (now (file .entry))) (c .at)) ∷ rawly (b "style") (now (name .entry)) ∷ perhaps (b "category") (categoryOf (tapeIn tape (now (file .entry))) (c .at))))) ⌝ }
+    ensures { λ r. ⌜ pageOf r (now (out .exit)) ≡ paint (pageOf w (now (out .entry))) (itemBytes (start 7 (escaped (b "caller") (noteCaller (tapeIn tape (now (file .entry))) (c .at)) ∷ rawly (b "style") (now (name .entry)) ∷ perhaps (b "category") (writtenCategory (tapeIn tape (now (file .entry))) (c .at))))) ⌝ }
 {
     let a = put_note_head(w, out, render::note_caller(file, b"+", tape, c), name);
     let d = put_category(a, out, file, tape, c);
@@ -202,7 +202,7 @@ pub fn open_marker(
     out: &mut [u8],
 ) -> Sink
     requires { ⌜ Solids (tapeIn tape (now file)) (now solids) ⌝ }
-    ensures { λ r. ⌜ deskIn (tapeIn tape (now (file .entry)) .source) r (now (out .exit)) ≡ emitAll (deskIn (tapeIn tape (now (file .entry)) .source) sink (now (out .entry))) (opening (tapeIn tape (now (file .entry))) (c .at) (roleIn role)) ⌝ }
+    ensures { λ r. ⌜ deskIn (tapeIn tape (now (file .entry)) .source) r (now (out .exit)) ≡ emitAll (deskIn (tapeIn tape (now (file .entry)) .source) sink (now (out .entry))) (markerOpens (tapeIn tape (now (file .entry))) (c .at) (roleIn role)) ⌝ }
 {
     match role {
         Role::UnknownBlock => unknown(file, tape, c, b"<para style=\"", sink, out),

@@ -13,7 +13,7 @@ use borrow.Author.Tests.{ltb-true, eq-eqb}
 use Rattle.parts.specs.Bytes.{Bytes, b, begins}
 use Rattle.parts.proofs.Laws.{and-true, begins-fits, begins-split}
 use Rattle.tags.specs.Names.{names, nameOf, IsName, which, elementAt}
-use Rattle.tags.specs.Form.{plain, escapeAt, ok, run, Row, pairAt, pairLen, pairOf, morePairs, pairsAt, pairsFrom, Token, text, opens, closes, empty, Read, bad, got, closeHead, openHead, textHead, headAt, tailAt, ended, tagged, headed, next, onto, moreTokens, tokensAt, tokensFrom, opening, closing, tokens}
+use Rattle.tags.specs.Form.{plain, escapeAt, ok, run, Row, pairAt, pairLen, pairOf, morePairs, pairsAt, pairsRow, Token, text, opens, closes, empty, Read, bad, got, closeHead, openHead, textHead, headAt, tailAt, ended, tagged, headed, next, onto, moreTokens, tokensAt, tokensFrom, opening, closing, tokens}
 use Rattle.tags.specs.Write.{writePair, writePairs, write, writeAll, Clean, CleanPair, CleanPairs, none as no-pair, more, Tagged, Legal, nil, a-text, an-open, a-close, an-empty, TagForm}
 use Rattle.tags.specs.declared.Class.{Class}
 use Rattle.tags.specs.declared.Class.the-variants.{Text, Value, Key}
@@ -244,7 +244,7 @@ Says s (got t r) = (write t r ≡ s) × One t r
 
 module _ (s : Bytes) (n : ℕ) (r : Bytes) (h : IsName n) (is : b "<" ++ (nameOf n ++ r) ≡ s) where
   tag-says : Says s (tagged n r)
-  unfolding tagged tailAt ended pairsFrom write
+  unfolding tagged tailAt ended pairsRow write
   tag-says = go (begins (b ">") z) refl (begins (b " />") z) refl
     where
       ps : Row

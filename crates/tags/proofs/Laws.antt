@@ -12,7 +12,7 @@ use borrow.Author.Tests.{lt-ltb, le-ltb, ltb-true}
 use Rattle.parts.specs.Bytes.{Bytes, b, begins}
 use Rattle.parts.proofs.Laws.{and-true, begins-fits}
 use Rattle.tags.specs.Names.{names, which, elementAt}
-use Rattle.tags.specs.Form.{plain, escapeAt, keyByte, ok, run, pairAt, pairLen, morePairs, pairsAt, pairsFrom, closeHead, openHead, textHead, headAt, tailAt}
+use Rattle.tags.specs.Form.{plain, escapeAt, keyByte, ok, run, pairAt, pairLen, morePairs, pairsAt, pairsRow, closeHead, openHead, textHead, headAt, tailAt}
 use Rattle.tags.specs.declared.Class.{Class}
 use Rattle.tags.specs.declared.Class.the-variants.{Text, Value, Key}
 use Rattle.tags.specs.declared.Named.{Named}
@@ -236,11 +236,11 @@ pairs-enough (suc n) (suc m) s h l = go (pairAt s) refl (λ r hn hm. pairs-enoug
         rw (more (drop (pairLen k v) s) (omega (arith, length-drop (pairLen k v) s)) (omega (arith, length-drop (pairLen k v) s)))
 
 -- the attributes, by the pair at the front
-pub pairs-by : (s : Bytes) (p : Found) → pairAt s ≡ p → pairsFrom s ≡ morePairs pairsFrom s p
-unfolding pairsFrom pairsAt
+pub pairs-by : (s : Bytes) (p : Found) → pairAt s ≡ p → pairsRow s ≡ morePairs pairsRow s p
+unfolding pairsRow pairsAt
 pairs-by s p e = pairs-enough (length s) (suc (length s)) s (omega arith) (omega arith) ∙ rw e (go p e)
   where
-    go : (p : Found) → pairAt s ≡ p → morePairs (pairsAt (length s)) s p ≡ morePairs pairsFrom s p
+    go : (p : Found) → pairAt s ≡ p → morePairs (pairsAt (length s)) s p ≡ morePairs pairsRow s p
     go Nothing e = refl
     go (Got k v) e =
         rw (pairs-enough (length s) (length (drop (pairLen k v) s)) (drop (pairLen k v) s) (omega (arith, length-drop (pairLen k v) s)) (omega arith))

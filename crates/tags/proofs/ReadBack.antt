@@ -12,7 +12,7 @@ use borrow.Author.Tests.{lt-ltb, eqb-true}
 use Rattle.parts.specs.Bytes.{Bytes, b, begins}
 use Rattle.parts.proofs.Laws.{and-true}
 use Rattle.tags.specs.Names.{nameOf, IsName, which, elementAt}
-use Rattle.tags.specs.Form.{plain, keyByte, escapeAt, ok, run, Pair, pairAt, pairLen, pairOf, pairsFrom, Token, text, opens, closes, empty, got, closeHead, openHead, textHead, headAt, tailAt, ended, tagged, headed, next, moreTokens, tokensFrom}
+use Rattle.tags.specs.Form.{plain, keyByte, escapeAt, ok, run, Pair, pairAt, pairLen, pairOf, pairsRow, Token, text, opens, closes, empty, got, closeHead, openHead, textHead, headAt, tailAt, ended, tagged, headed, next, moreTokens, tokensFrom}
 use Rattle.tags.specs.Write.{writePair, writePairs, write, writeAll, Clean, CleanPair, CleanPairs, none as no-pair, more, Tagged, Legal, nil, a-text, an-open, a-close, an-empty}
 use Rattle.tags.specs.declared.Class.{Class}
 use Rattle.tags.specs.declared.Class.the-variants.{Text, Value, Key}
@@ -100,7 +100,7 @@ rest-write a r =
     let e : length (a .key) + length (a .value) + 4 ≡ suc (length (a .key) + suc (suc (length (a .value) + 1))) = omega arith in
     rw (e, drop-append-add (a .key) (b "=\"" ++ (a .value ++ (b "\"" ++ r))) (suc (suc (length (a .value) + 1))), drop-append-add (a .value) (b "\"" ++ r) 1)
 
-pub pairs-write : (ps : List Pair) (r : Bytes) → CleanPairs ps → pairAt r ≡ Nothing → pairsFrom (writePairs ps r) ≡ record { list = ps; rest = r }
+pub pairs-write : (ps : List Pair) (r : Bytes) → CleanPairs ps → pairAt r ≡ Nothing → pairsRow (writePairs ps r) ≡ record { list = ps; rest = r }
 unfolding writePairs
 pairs-write [] r no-pair e = pairs-by r Nothing e
 pairs-write (a ∷ ps) r (more h hs) e =

@@ -8,7 +8,7 @@ use native.Mathlib.Omega.{arith}
 use lib.ListN.{length, replicate}
 use lib.Dec.{eqb}
 use Rattle.parts.specs.Bytes.{Bytes, b, begins}
-use Rattle.chars.specs.Escape.{escaped, escape, special}
+use Rattle.chars.specs.Escape.{escapedByte, escape, special}
 use Rattle.tags.specs.Names.{nameOf, IsName}
 use Rattle.tags.specs.Form.{plain, keyByte, escapeAt, ok, run, Token, text as textToken, opens, closes, empty as emptyToken, tokensFrom, closing}
 use Rattle.tags.specs.Write.{writePair, writePairs, write, writeAll, Clean, CleanPairs, none as no-pair, more as more-pairs, Legal, nil as no-token, a-text as text-legal, an-open, a-close as close-legal, an-empty as empty-legal, TagForm}
@@ -65,8 +65,8 @@ single-clean : (c : Class) (x : ℕ) → ok c (x ∷ []) ≡ true → Clean c (x
 unfolding run
 single-clean c x e = rw (e, run)
 
-escaped-clean : (attr : Bool) (x : ℕ) → Clean (classOf attr) (escaped attr x)
-unfolding escaped run ok plain escapeAt begins
+escaped-clean : (attr : Bool) (x : ℕ) → Clean (classOf attr) (escapedByte attr x)
+unfolding escapedByte run ok plain escapeAt begins
 escaped-clean true x = go (eqb x 60) refl (eqb x 62) refl (eqb x 38) refl (eqb x 34) refl
   where
     go : (l : Bool) → eqb x 60 ≡ l → (g : Bool) → eqb x 62 ≡ g → (a : Bool) → eqb x 38 ≡ a → (q : Bool) → eqb x 34 ≡ q
@@ -89,7 +89,7 @@ escaped-clean false x = go (eqb x 60) refl (eqb x 62) refl (eqb x 38) refl
 pub escape-clean : (attr : Bool) (s : Bytes) → Clean (classOf attr) (escape attr s)
 unfolding escape run
 escape-clean attr [] = refl
-escape-clean attr (x ∷ s) = clean-append (classOf attr) (escaped attr x) (escape attr s) (escaped-clean attr x) (escape-clean attr s)
+escape-clean attr (x ∷ s) = clean-append (classOf attr) (escapedByte attr x) (escape attr s) (escaped-clean attr x) (escape-clean attr s)
 
 -- bytes that no escape is needed for may stand in a value as they are
 one-clean : (x : ℕ) → special true x ≡ false → Clean Value (x ∷ [])
@@ -202,7 +202,7 @@ framed-legal is l =
 
 -- usx around legal items is in tag form, and its tokens are those items
 pub framed-form : (is : List Item) → LegalItems is → TagForm (render (framed is)) (tokensOf (framed is))
-unfolding render bytesOf attrsBytes attrBytes valueOf nameOf escape escaped
+unfolding render bytesOf attrsBytes attrBytes valueOf nameOf escape escapedByte
 framed-form is l =
     record {
       legal = tokens-legal (framed is) (framed-legal is l);

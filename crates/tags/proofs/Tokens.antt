@@ -10,7 +10,7 @@ use borrow.Author.Tests.{ltb-true}
 use Rattle.parts.specs.Bytes.{Bytes, b, begins}
 use Rattle.parts.proofs.Laws.{begins-fits}
 use Rattle.tags.specs.Names.{names, elementAt}
-use Rattle.tags.specs.Form.{ok, run, Row, pairAt, pairLen, morePairs, pairsAt, pairsFrom, Read, bad, got, closeHead, openHead, textHead, headAt, tailAt, ended, tagged, headed, next, onto, moreTokens, tokensAt, tokensFrom}
+use Rattle.tags.specs.Form.{ok, run, Row, pairAt, pairLen, morePairs, pairsAt, pairsRow, Read, bad, got, closeHead, openHead, textHead, headAt, tailAt, ended, tagged, headed, next, onto, moreTokens, tokensAt, tokensFrom}
 use Rattle.tags.specs.declared.Class.the-variants.{Text}
 use Rattle.tags.specs.declared.Named.{Named}
 use Rattle.tags.specs.declared.Named.the-variants.{Name, Unnamed}
@@ -103,12 +103,12 @@ ended-shorter n m ps Empty h = omega (arith, length-drop 3 (ps .rest))
 ended-shorter n m ps Neither h = tt
 
 headed-shorter : (s : Bytes) (p : Head) → Within (length s) p → Shorter (length s) (headed s p)
-unfolding headed tagged pairsFrom
+unfolding headed tagged pairsRow
 headed-shorter s Bad h = tt
 headed-shorter s (Words k) h = omega (arith, h .0, h .1, length-drop k s)
 headed-shorter s (Closing n l) h = omega (arith, h .0, h .1, length-drop l s)
 headed-shorter s (Opening n l) h =
-    ended-shorter (length s) n (pairsFrom (drop l s)) (tailAt (pairsFrom (drop l s) .rest))
+    ended-shorter (length s) n (pairsRow (drop l s)) (tailAt (pairsRow (drop l s) .rest))
     (omega (arith, h .0, h .1, length-drop l s, rest-le (length (drop l s)) (drop l s)))
 
 pub next-shorter : (s : Bytes) → Shorter (length s) (next s)

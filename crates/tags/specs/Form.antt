@@ -85,8 +85,8 @@ pairsAt zero s = record { list = []; rest = s }
 pairsAt (suc n) s = morePairs (pairsAt n) s (pairAt s)
 
 -- "any number of ` key="value"`" at the front
-unfoldable pub pairsFrom : Bytes → Row
-pairsFrom s = pairsAt (length s) s
+unfoldable pub pairsRow : Bytes → Row
+pairsRow s = pairsAt (length s) s
 
 -- ---- tokens
 
@@ -134,7 +134,7 @@ ended n ps Neither = bad
 
 -- an opening tag or one ending in ` />`, by what stands behind its name
 unfoldable pub tagged : ℕ → Bytes → Read
-tagged n s = ended n (pairsFrom s) (tailAt (pairsFrom s .rest))
+tagged n s = ended n (pairsRow s) (tailAt (pairsRow s .rest))
 
 -- the token at the front, by what it begins with
 unfoldable pub headed : Bytes → Head → Read

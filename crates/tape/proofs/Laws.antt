@@ -10,8 +10,8 @@ use lib.Seq.{drop-drop, getD-drop}
 use lib.Dec.{eqb, leb, ltb}
 use borrow.Author.Tests.{eq-eqb, ne-eqb, lt-ltb, le-ltb, ltb-true, ltb-false, le-leb, lt-leb}
 use Rattle.parts.specs.Bytes.{Bytes, part}
-use Rattle.tape.specs.File.{le16, le32, nodeOf, entryOf, recordsOf, Tape, tapeIn, entriesAt, namesAt, sourceAt, sectionsOf, nowhere, nameless, nodeAt, entryAt, kindAt, textAt, entryName, isSynthetic, isNested, bearsMarker, infoAt, numberAt, categoryOf, elementOf, baseLen, nameOf}
-use Rattle.tape.specs.Tree.{isClose, holds, matchingClose, childBefore, firstChild, lastOf, siblingPast, nextSibling}
+use Rattle.tape.specs.File.{le16, le32, nodeOf, entryOf, recordsOf, Tape, tapeIn, entriesAt, namesAt, sourceAt, sectionsOf, nowhere, nameless, nodeAt, entryAt, kindAt, textAt, entryName, isSynthetic, isNested, bearsMarker, infoAt, numberAt, categoryOf, elementOf, baseLen, infoName}
+use Rattle.tape.specs.Tree.{isClose, holds, matchingClose, childBefore, firstChild, lastHeld, siblingPast, nextSibling}
 use Rattle.tape.specs.declared.kinds.Kind.{Kind}
 use Rattle.tape.specs.declared.kinds.Flags.{Flags}
 use Rattle.tape.specs.declared.kinds.Category.{Category}
@@ -330,12 +330,12 @@ module _ (t : Tape) (k : ℕ) {z : Kind} (ez : z .code ≡ kindAt t k) where
   close-none h = rw (ne-eqb (kindAt t k) 3 (λ x. h (ez ∙ x)))
 
   module _ {h : Bool} (eh : h ≡ holds (z .code)) where
-    pub last-link : h ≡ true → {l : ℕ} → l ≡ nodeAt t k .link → l ≡ lastOf t k
-    unfolding lastOf
+    pub last-link : h ≡ true → {l : ℕ} → l ≡ nodeAt t k .link → l ≡ lastHeld t k
+    unfolding lastHeld
     last-link y el = rw (ap holds (sym ez) ∙ sym eh ∙ y) el
 
-    pub last-self : h ≡ false → k ≡ lastOf t k
-    unfolding lastOf
+    pub last-self : h ≡ false → k ≡ lastHeld t k
+    unfolding lastHeld
     last-self y = rw (ap holds (sym ez) ∙ sym eh ∙ y)
 
     pub child-none : h ≡ false → Done ≡ firstChild t k
@@ -403,7 +403,7 @@ module _ (c : Sections) (file : Bytes) (k last : ℕ) where
   unfolding siblingPast
   past-some h l es ek ec x = rw (le-ltb last k h, node-count c file, lt-ltb (last + 1) (c .nodes) l, ← es, ← ek, ← ec, x)
 
-pub next-of : (t : Tape) (k : ℕ) {l : ℕ} {s : Step} → l ≡ lastOf t k → s ≡ siblingPast t k l → s ≡ nextSibling t k
+pub next-of : (t : Tape) (k : ℕ) {l : ℕ} {s : Step} → l ≡ lastHeld t k → s ≡ siblingPast t k l → s ≡ nextSibling t k
 unfolding nextSibling
 next-of t k el es = es ∙ ap (siblingPast t k) el
 
@@ -437,13 +437,13 @@ module _ {i j : Info} (ei : i ≡ j) where
   unfolding baseLen
   base-unknown h = ap baseLen (sym h ∙ ei)
 
-  pub name-known : (t : Tape) (e : Entry) {r : Bytes} → i ≡ Known e → r ≡ entryName t e → r ≡ nameOf t j
-  unfolding nameOf
-  name-known t e h er = er ∙ ap (nameOf t) (sym h ∙ ei)
+  pub name-known : (t : Tape) (e : Entry) {r : Bytes} → i ≡ Known e → r ≡ entryName t e → r ≡ infoName t j
+  unfolding infoName
+  name-known t e h er = er ∙ ap (infoName t) (sym h ∙ ei)
 
-  pub name-unknown : (t : Tape) {r : Bytes} → i ≡ Unknown → r ≡ [] → r ≡ nameOf t j
-  unfolding nameOf
-  name-unknown t h er = er ∙ ap (nameOf t) (sym h ∙ ei)
+  pub name-unknown : (t : Tape) {r : Bytes} → i ≡ Unknown → r ≡ [] → r ≡ infoName t j
+  unfolding infoName
+  name-unknown t h er = er ∙ ap (infoName t) (sym h ∙ ei)
 
 -- ---- where each field stands in the file
 

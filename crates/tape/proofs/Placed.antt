@@ -10,7 +10,7 @@ use Rattle.parts.specs.Bytes.{Bytes, part, begins}
 use Rattle.parts.specs.Place.{VeryPart}
 use Rattle.parts.proofs.Laws.{begins-fits}
 use Rattle.parts.proofs.Places.{very-at, very-within, very-self}
-use Rattle.tape.specs.File.{tapeIn, namesAt, sourceAt, nodeAt, textAt, textStart, entryName, entryStart, nameOf, nameOfStart}
+use Rattle.tape.specs.File.{tapeIn, namesAt, sourceAt, nodeAt, textAt, textStart, entryName, entryStart, infoName, nameOfStart}
 use Rattle.tape.specs.Name.{strip, bare, nameLen, nameIn, nameStart, markerName, markerStart, markerLen}
 use Rattle.tape.specs.declared.Sections.{Sections}
 use Rattle.tape.specs.declared.Entry.{Entry}
@@ -78,13 +78,13 @@ module _ (c : Sections) (file : RefT Bytes) where
 
   module _ {i j : Info} (ei : i ≡ j) where
     pub known-at : (e : Entry) {r : RefT Bytes} → i ≡ Known e → VeryPart file r (entryStart c (now file) e) (length (entryName (tapeIn c (now file)) e))
-        → VeryPart file r (nameOfStart c (now file) j) (length (nameOf (tapeIn c (now file)) j))
-    unfolding nameOfStart nameOf
+        → VeryPart file r (nameOfStart c (now file) j) (length (infoName (tapeIn c (now file)) j))
+    unfolding nameOfStart infoName
     known-at e h v = rw (sym ei ∙ h) v
 
     pub unknown-at : {r : RefT Bytes} → i ≡ Unknown → VeryPart file r 0 0
-        → VeryPart file r (nameOfStart c (now file) j) (length (nameOf (tapeIn c (now file)) j))
-    unfolding nameOfStart nameOf
+        → VeryPart file r (nameOfStart c (now file) j) (length (infoName (tapeIn c (now file)) j))
+    unfolding nameOfStart infoName
     unknown-at h v = rw (sym ei ∙ h) v
 
   pub marker-at : (k : ℕ) {s r : RefT Bytes} → now s ≡ textAt (tapeIn c (now file)) k → now r ≡ nameIn (now s)

@@ -8,7 +8,7 @@ use lib.ListN.{length}
 use lib.Dec.{ltb}
 use borrow.Author.Tests.{ltb-false, ltb-true}
 use Rattle.tape.specs.File.{Tape, kindAt}
-use Rattle.tape.specs.Tree.{isClose, lastOf, siblingPast, nextSibling, firstChild, left, along, walkFrom, children, siblings, found, upTo, without}
+use Rattle.tape.specs.Tree.{isClose, lastHeld, siblingPast, nextSibling, firstChild, left, along, walkFrom, children, siblings, found, upTo, without}
 use Rattle.tape.specs.declared.Cursor.{Cursor}
 use Rattle.tape.specs.declared.Step.{Step}
 use Rattle.tape.specs.declared.Step.the-variants.{At, Done}
@@ -45,7 +45,7 @@ past-left t k last = go (ltb last k) refl
 
 next-left : (t : Tape) (k : ℕ) → left t (nextSibling t k) ≤ length (t .nodes) - k
 unfolding nextSibling
-next-left t k = past-left t k (lastOf t k)
+next-left t k = past-left t k (lastHeld t k)
 
 -- enough is enough
 along-enough : (t : Tape) (n m : ℕ) (s : Step) → left t s ≤ n → left t s ≤ m → along t n s ≡ along t m s

@@ -188,9 +188,9 @@ baseLen (Known e) = e .len
 baseLen Unknown = 0
 
 -- the name of a node's entry; what is unknown has none
-unfoldable pub nameOf : Tape → Info → Bytes
-nameOf t (Known e) = entryName t e
-nameOf t Unknown = []
+unfoldable pub infoName : Tape → Info → Bytes
+infoName t (Known e) = entryName t e
+infoName t Unknown = []
 
 -- where the name of a node's entry starts in the file; nothing stands at the file's start
 unfoldable pub nameOfStart : Sections → Bytes → Info → ℕ

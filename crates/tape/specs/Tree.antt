@@ -31,8 +31,8 @@ unfoldable pub firstChild : Tape → ℕ → Step
 firstChild t k = cond (holds (kindAt t k)) (childBefore (length (t .nodes)) k (nodeAt t k .link)) Done
 
 -- the last node of what a node holds: its link, or itself
-unfoldable pub lastOf : Tape → ℕ → ℕ
-lastOf t k = cond (holds (kindAt t k)) (nodeAt t k .link) k
+unfoldable pub lastHeld : Tape → ℕ → ℕ
+lastHeld t k = cond (holds (kindAt t k)) (nodeAt t k .link) k
 
 -- the node behind `last`: none where it is not further on than k, not on the tape, or a close
 unfoldable pub siblingPast : Tape → ℕ → ℕ → Step
@@ -43,7 +43,7 @@ siblingPast t k last =
 
 -- the next sibling: behind all that the node holds
 unfoldable pub nextSibling : Tape → ℕ → Step
-nextSibling t k = siblingPast t k (lastOf t k)
+nextSibling t k = siblingPast t k (lastHeld t k)
 
 -- how many steps a walk along siblings can still take
 unfoldable pub left : Tape → Step → ℕ

@@ -16,9 +16,9 @@ ghost use Prim.Native.Nat.{_+_, _*_, _≤_, _<_, _^_};
 ghost use lib.ListN.{length, drop};
 ghost use Rattle.parts.specs.Bytes.{part, same};
 ghost use Rattle.parts.specs.Place.{VeryPart};
-ghost use Rattle.tape.specs.File.{le32 as le32Of, nodeOf, entryOf, sectionsOf, entriesAt, namesAt, sourceAt, tapeIn, nodeAt, entryAt, kindAt, textAt, textStart, entryName, entryStart, isSynthetic, isNested, bearsMarker, infoAt, numberAt, categoryOf, elementOf, baseLen, nameOf, nameOfStart};
+ghost use Rattle.tape.specs.File.{le32 as le32Of, nodeOf, entryOf, sectionsOf, entriesAt, namesAt, sourceAt, tapeIn, nodeAt, entryAt, kindAt, textAt, textStart, entryName, entryStart, isSynthetic, isNested, bearsMarker, infoAt, numberAt, categoryOf, elementOf, baseLen, infoName, nameOfStart};
 ghost use Rattle.tape.specs.Name.{markerName, markerStart, markerLen, entryIs};
-ghost use Rattle.tape.specs.Tree.{isClose, holds, matchingClose, childBefore, firstChild, lastOf, siblingPast, nextSibling, found};
+ghost use Rattle.tape.specs.Tree.{isClose, holds, matchingClose, childBefore, firstChild, lastHeld, siblingPast, nextSibling, found};
 
 // A node of the tape.
 pub struct Node {
@@ -418,8 +418,8 @@ impl Cursor {
 
     // The name of the node's entry; nothing where it is unknown.
     pub fn entry_name(self, file: &[u8], tape: Sections) -> &[u8]
-        ensures bytes { λ r. ⌜ now r ≡ nameOf (tapeIn tape (now (file .entry))) (infoAt (tapeIn tape (now (file .entry))) (self .at)) ⌝ }
-        ensures place { λ r. ⌜ VeryPart (file .entry) r (nameOfStart tape (now (file .entry)) (infoAt (tapeIn tape (now (file .entry))) (self .at))) (length (nameOf (tapeIn tape (now (file .entry))) (infoAt (tapeIn tape (now (file .entry))) (self .at)))) ⌝ }
+        ensures bytes { λ r. ⌜ now r ≡ infoName (tapeIn tape (now (file .entry))) (infoAt (tapeIn tape (now (file .entry))) (self .at)) ⌝ }
+        ensures place { λ r. ⌜ VeryPart (file .entry) r (nameOfStart tape (now (file .entry)) (infoAt (tapeIn tape (now (file .entry))) (self .at))) (length (infoName (tapeIn tape (now (file .entry))) (infoAt (tapeIn tape (now (file .entry))) (self .at)))) ⌝ }
     {
         match self.marker_info(file, tape) {
             Info::Known(e) => entry_name(file, tape, e),
@@ -465,7 +465,7 @@ impl Cursor {
 
     // The last node of what this one holds: its link, or itself.
     fn last(self, file: &[u8], tape: Sections) -> u32
-        ensures { λ r. ⌜ r ≡ lastOf (tapeIn tape (now (file .entry))) (self .at) ⌝ }
+        ensures { λ r. ⌜ r ≡ lastHeld (tapeIn tape (now (file .entry))) (self .at) ⌝ }
     {
         if self.kind(file, tape).holds() {
             self.link(file, tape)

@@ -24,7 +24,7 @@ use Rattle.render.specs.Follow.{nextSolid, inlineAt, inlineFollows, Kept}
 use Rattle.render.specs.Label.{labelOf}
 use Rattle.render.specs.Note.{remainder}
 use Rattle.render.proofs.Follows.{kept-on, kept-first, behind-far, behind-done, follows-of}
-use Rattle.fold.specs.Fold.{Folded, foldAt, numberOf}
+use Rattle.fold.specs.Fold.{Folded, foldAt, foldedNumber}
 use Rattle.lists.specs.Span.{nodesIn, foldedIn, foldsAt}
 use Rattle.lists.specs.declared.Span.{Span}
 use Rattle.lists.specs.declared.Folds.{Folds}
@@ -206,7 +206,7 @@ module _ (c : Sections) (file : Bytes) (span : Span) (k : Cursor) (sink : Sink) 
     {first : Step} (ef : first ≡ nextSibling (tapeIn c file) (k .at)) {kind : Kind} (ek : kind .code ≡ 7) (f : Folds)
     (e : foldedIn (tapeIn c file) span f ≡ foldAt (tapeIn c file) (kind .code) (nodesIn (tapeIn c file) span first)) where
   pub anchor-written : (r : Sink) (last : Bytes)
-      → deskIn (tapeIn c file .source) r last ≡ emit (deskIn (tapeIn c file .source) sink out) (verse (labelOf (tapeIn c file) (k .at)) (numberOf (tapeIn c file) (f .alt)) (numberOf (tapeIn c file) (f .published)))
+      → deskIn (tapeIn c file .source) r last ≡ emit (deskIn (tapeIn c file .source) sink out) (verse (labelOf (tapeIn c file) (k .at)) (foldedNumber (tapeIn c file) (f .alt)) (foldedNumber (tapeIn c file) (f .published)))
       → (node : ℕ → Bool → List Event) (behind trim : Bool)
       → emitAll (deskIn (tapeIn c file .source) r last) (inlineAll node (tapeIn c file) behind true (nodesIn (tapeIn c file) span (f .rest)))
       ≡ emitAll (deskIn (tapeIn c file .source) sink out) (plainFrom node (tapeIn c file) behind trim (k .at) (nodesIn (tapeIn c file) span (nextSibling (tapeIn c file) (k .at))) Anchor)

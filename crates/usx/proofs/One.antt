@@ -10,7 +10,7 @@ use Rattle.admit.proofs.Decide.{refusal-right}
 use Rattle.events.specs.Text.{textOf, Outcome, outcomeBy, outcome}
 use Rattle.bounds.proofs.Whole.{fitting-given}
 use Rattle.usx.proofs.Whole.{text-some}
-use Rattle.usx.specs.Answer.{numberOf, givenOf, outcomeOf}
+use Rattle.usx.specs.Answer.{answerNumber, answerLength, outcomeOf}
 use Rattle.usx.specs.declared.Answer.{Answer}
 use Rattle.usx.specs.declared.Answer.the-variants.{Written, Refused, NoRoom}
 
@@ -35,8 +35,8 @@ refused-given file out = go (refusal file) (refusal-right file)
     go (suc n) r e = (omega arith, below-eight r)
 
 -- an answer is known by its number and its length, if a length of 0 goes with 1 to 7 alone
-known : (n g : ℕ) → (g ≡ 0 → (0 < n) × (n < 8)) → (a₁ a₂ : Answer) → numberOf a₁ ≡ n → givenOf a₁ ≡ g → numberOf a₂ ≡ n → givenOf a₂ ≡ g → a₁ ≡ a₂
-unfolding numberOf givenOf
+known : (n g : ℕ) → (g ≡ 0 → (0 < n) × (n < 8)) → (a₁ a₂ : Answer) → answerNumber a₁ ≡ n → answerLength a₁ ≡ g → answerNumber a₂ ≡ n → answerLength a₂ ≡ g → a₁ ≡ a₂
+unfolding answerNumber answerLength
 known n g f (Written k) (Written l) n₁ g₁ n₂ g₂ = ap Written (g₁ ∙ sym g₂)
 known n g f (Refused k) (Refused l) n₁ g₁ n₂ g₂ = ap Refused (n₁ ∙ sym n₂)
 known n g f (NoRoom k) (NoRoom l) n₁ g₁ n₂ g₂ = ap NoRoom (g₁ ∙ sym g₂)

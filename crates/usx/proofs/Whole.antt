@@ -9,7 +9,7 @@ use lib.ListN.{length, getD, drop, drop-of-length-le}
 use lib.Dec.{eqb}
 use borrow.Author.Tests.{eq-eqb, ne-eqb, le-leb, lt-leb}
 use Rattle.parts.specs.Bytes.{Bytes, b}
-use Rattle.chars.specs.Escape.{escape, escaped}
+use Rattle.chars.specs.Escape.{escape, escapedByte}
 use Rattle.window.specs.Page.{Page, paint}
 use Rattle.window.proofs.Paint.{paint-append, paint-at, paint-front}
 use Rattle.tape.specs.File.{Tape, tapeIn, tapeOf, sectionsOf, nodeAt, kindAt, nowhere}
@@ -21,7 +21,7 @@ use Rattle.tape.specs.declared.Cursor.{Cursor}
 use Rattle.tape.specs.declared.Step.{Step}
 use Rattle.tape.proofs.Walk.{children-walk}
 use Rattle.tape.proofs.Laws.{node-count}
-use Rattle.admit.specs.Refusal.{Refusal, none, Kept₇, numberOf as admittedNumber, answerWith}
+use Rattle.admit.specs.Refusal.{Refusal, none, Kept₇, refusalNumber, answerWith}
 use Rattle.admit.specs.Decide.{refusal}
 use Rattle.admit.specs.declared.Admitted.{Admitted}
 use Rattle.admit.specs.declared.Admitted.the-variants.{Tape as Admitted-tape, Refused as Admitted-refused}
@@ -30,7 +30,7 @@ use Rattle.bounds.proofs.Whole.{text-small}
 use Rattle.tags.specs.Items.{Item, close, line, bytesOf, attrsBytes, attrBytes, valueOf, newLine, render, framed}
 use Rattle.tags.specs.Names.{nameOf}
 use Rattle.tags.proofs.Rendered.{render-append}
-use Rattle.lists.specs.Span.{filtered, cutAt, nodesIn}
+use Rattle.lists.specs.Span.{filtered, cutBy, nodesIn}
 use Rattle.lists.specs.declared.Span.{Span}
 use Rattle.events.specs.Event.{Event}
 use Rattle.events.specs.Pairing.{State, lastEnds, paired}
@@ -42,7 +42,7 @@ use Rattle.marks.specs.Mark.{newMarks}
 use Rattle.marks.specs.declared.Marks.{Marks}
 use Rattle.sink.specs.Desk.{chapterIn, verseIn, stateIn, deskIn, putOn}
 use Rattle.sink.specs.declared.Sink.{Sink}
-use Rattle.usx.specs.Answer.{numberOf, givenOf, outcomeOf, wholeIn}
+use Rattle.usx.specs.Answer.{answerNumber, answerLength, outcomeOf, wholeIn}
 use Rattle.usx.specs.declared.Answer.{Answer}
 use Rattle.usx.specs.declared.Answer.the-variants.{Written, Refused, NoRoom}
 
@@ -92,7 +92,7 @@ abbrev ends : Bytes
 ends = b "\n</usx>"
 
 framed-bytes : (is : List Item) → render (framed (is ++ (line 0 ∷ []))) ≡ opens ++ (render is ++ ends)
-unfolding render bytesOf nameOf attrsBytes attrBytes valueOf escape escaped newLine
+unfolding render bytesOf nameOf attrsBytes attrBytes valueOf escape escapedByte newLine
 framed-bytes is =
     ap (λ (z : Bytes). opens ++ z)
     (render-append (is ++ (line 0 ∷ [])) (close 1 ∷ [])
@@ -140,7 +140,7 @@ abbrev all : Span
 all = record { cut = false; sifted = false }
 
 events-all : (t : Tape) {s : Step} → s ≡ firstChild t 0 → blocksE t 64 1 (nodesIn t all s) ≡ eventsOf t
-unfolding nodesIn cutAt filtered eventsOf eventsWithin
+unfolding nodesIn cutBy filtered eventsOf eventsWithin
 events-all t es = ap (blocksE t 64 1) (children-walk t 0 es)
 
 first-state : (t : Tape) {n : ℕ} {m : Marks} → m ≡ newMarks n → n ≡ firstState t .number → stateIn (t .source) m ≡ firstState t
@@ -179,7 +179,7 @@ nothing-before (y ∷ ys) out h = absurd (omega arith)
 
 pub no-room : (t : Tape) (l out ys : Bytes) (n : ℕ) → n ≡ wholeIn t l .at → length ys ≡ 0 → length (ys ++ out) < n
     → length (textOf t) < 2 ^ 60 → outcomeOf (NoRoom n) (ys ++ out) ≡ fitting (textOf t) out
-unfolding fitting outcomeOf numberOf givenOf
+unfolding fitting outcomeOf answerNumber answerLength
 no-room t l out ys n e hy h small =
     let is : n ≡ length (textOf t) = measured t l small e in
     let same : ys ++ out ≡ out = nothing-before ys out hy in
@@ -188,7 +188,7 @@ no-room t l out ys n e hy h small =
 
 pub room : (t : Tape) (l out ys last : Bytes) (n : ℕ) → n ≡ wholeIn t l .at → length ys ≡ 0 → n ≤ length (ys ++ out) → last ≡ wholeIn t (ys ++ out) .buf
     → length (textOf t) < 2 ^ 60 → outcomeOf (Written n) last ≡ fitting (textOf t) out
-unfolding fitting outcomeOf numberOf givenOf wholeIn
+unfolding fitting outcomeOf answerNumber answerLength wholeIn
 room t l out ys last n e hy h el small =
     let is : n ≡ length (textOf t) = measured t l small e in
     let same : ys ++ out ≡ out = nothing-before ys out hy in
@@ -205,10 +205,10 @@ is-admitted {n} {file} r e = go (subst (Refusal file) e r)
     go : Refusal file 0 → Kept₇ file
     go (none k) = k
 
-module _ (file out : Bytes) {a : Admitted} (en : Refusal file (admittedNumber a)) (ea : a ≡ answerWith file (admittedNumber a)) where
+module _ (file out : Bytes) {a : Admitted} (en : Refusal file (refusalNumber a)) (ea : a ≡ answerWith file (refusalNumber a)) where
   pub refused : {n : ℕ} → a ≡ Admitted-refused n → outcomeOf (Refused n) out ≡ outcome file out
-  unfolding outcome outcomeBy outcomeOf numberOf givenOf admittedNumber answerWith
-  refused {n} e = go n (subst (λ (x : Admitted). Refusal file (admittedNumber x)) e en) (sym e ∙ ea ∙ ap (λ (x : Admitted). answerWith file (admittedNumber x)) e)
+  unfolding outcome outcomeBy outcomeOf answerNumber answerLength refusalNumber answerWith
+  refused {n} e = go n (subst (λ (x : Admitted). Refusal file (refusalNumber x)) e en) (sym e ∙ ea ∙ ap (λ (x : Admitted). answerWith file (refusalNumber x)) e)
     where
       go : (n : ℕ) → Refusal file n → Admitted-refused n ≡ cond (eqb n 0) (Admitted-tape (sectionsOf file)) (Admitted-refused n)
           → record { number = n; given = 0; buffer = out } ≡ outcomeBy (refusal file) (textOf (tapeOf file)) out
@@ -217,10 +217,10 @@ module _ (file out : Bytes) {a : Admitted} (en : Refusal file (admittedNumber a)
 
   pub written : {c : Sections} → a ≡ Admitted-tape c → (r : Answer) (last : Bytes)
       → (length (textOf (tapeIn c file)) < 2 ^ 60 → outcomeOf r last ≡ fitting (textOf (tapeIn c file)) out) → outcomeOf r last ≡ outcome file out
-  unfolding outcome outcomeBy admittedNumber answerWith tapeOf
+  unfolding outcome outcomeBy refusalNumber answerWith tapeOf
   written {c} e r last f =
-      let zero-of : Refusal file 0 = subst (λ (x : Admitted). Refusal file (admittedNumber x)) e en in
-      let sections : Admitted-tape c ≡ Admitted-tape (sectionsOf file) = sym e ∙ ea ∙ ap (λ (x : Admitted). answerWith file (admittedNumber x)) e in
+      let zero-of : Refusal file 0 = subst (λ (x : Admitted). Refusal file (refusalNumber x)) e en in
+      let sections : Admitted-tape c ≡ Admitted-tape (sectionsOf file) = sym e ∙ ea ∙ ap (λ (x : Admitted). answerWith file (refusalNumber x)) e in
       let is : c ≡ sectionsOf file = cc in
       let small : length (textOf (tapeIn c file)) < 2 ^ 60 = rw is (text-small file (is-admitted zero-of refl)) in
       f small ∙ rw is (ap (λ (k : ℕ). outcomeBy k (textOf (tapeOf file)) out) (refusal-unique zero-of (refusal-right file)))

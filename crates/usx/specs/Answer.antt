@@ -8,20 +8,20 @@ use Rattle.usx.specs.declared.Answer.{Answer}
 use Rattle.usx.specs.declared.Answer.the-variants.{Written, Refused, NoRoom}
 
 -- document 01's number of an answer: 0 where the text is written, 8 where there is no room
-unfoldable pub numberOf : Answer → ℕ
-numberOf (Written n) = 0
-numberOf (Refused n) = n
-numberOf (NoRoom n) = 8
+unfoldable pub answerNumber : Answer → ℕ
+answerNumber (Written n) = 0
+answerNumber (Refused n) = n
+answerNumber (NoRoom n) = 8
 
 -- the length that an answer gives: none where the tape is refused
-unfoldable pub givenOf : Answer → ℕ
-givenOf (Written n) = n
-givenOf (Refused n) = 0
-givenOf (NoRoom n) = n
+unfoldable pub answerLength : Answer → ℕ
+answerLength (Written n) = n
+answerLength (Refused n) = 0
+answerLength (NoRoom n) = n
 
 -- an answer and the buffer behind it
 unfoldable pub outcomeOf : Answer → Bytes → Outcome
-outcomeOf a buffer = record { number = numberOf a; given = givenOf a; buffer = buffer }
+outcomeOf a buffer = record { number = answerNumber a; given = answerLength a; buffer = buffer }
 
 -- the page that the whole text leaves in a buffer, from the text's first byte on
 unfoldable pub wholeIn : Tape → Bytes → Page

@@ -16,7 +16,7 @@ use Rattle.tape.specs.File.{Tape, textAt}
 use Rattle.tape.specs.declared.Cursor.{Cursor}
 use Rattle.tape.specs.declared.Step.{Step}
 use Rattle.tape.specs.declared.Step.the-variants.{At, Done}
-use Rattle.render.specs.Note.{categoryText, trimmedAt, categoryOf}
+use Rattle.render.specs.Note.{categoryText, trimmedAt, writtenCategory}
 use Rattle.attrs.specs.Attr.{Pair, attributesOf}
 use Rattle.attrs.specs.Walk.{fixedKeys, valueOf, keyOf, remaining, nextList, soughtOf}
 use Rattle.attrs.specs.declared.Value.{Value}
@@ -27,8 +27,8 @@ use Rattle.attrs.specs.declared.Next.the-variants.{Pair as NextPair, Done as Ne
 use Rattle.attrs.specs.declared.Sought.{Sought}
 use Rattle.attrs.specs.declared.Sought.the-variants.{At as Found, Nowhere}
 use Rattle.attrs.proofs.Walks.{next-end, next-listed}
-use Rattle.fold.specs.Fold.{numberIn, numberOf}
-use Rattle.fold.specs.Number.{spaceIf, toCome, pieceList}
+use Rattle.fold.specs.Fold.{numberIn, foldedNumber}
+use Rattle.fold.specs.Number.{gapSpace, toCome, pieceList}
 use Rattle.fold.specs.declared.Number.{Number}
 use Rattle.fold.specs.declared.Piece.{Piece}
 use Rattle.fold.specs.declared.Piece.the-variants.{Some, Done as PieceDone}
@@ -90,22 +90,22 @@ module _ (key : Bytes) (p : Page) where
   unfolding soughtOf perhaps
   sought-written source {v} {x} e es eq = rw e ((rw es at eq) ∙ ap (paint p) (one-listed key (valueOf source x)))
 
-  pub number-missing : (t : Tape) {s : Step} → s ≡ Done → p ≡ paint p (attrsBytes (perhaps key (numberOf t s)))
-  unfolding numberOf perhaps attrsBytes paint
+  pub number-missing : (t : Tape) {s : Step} → s ≡ Done → p ≡ paint p (attrsBytes (perhaps key (foldedNumber t s)))
+  unfolding foldedNumber perhaps attrsBytes paint
   number-missing t e = rw e
 
   pub number-written : (t : Tape) {s : Step} {c : Cursor} → s ≡ At c → {q : Page} → q ≡ paint p (attrBytes (escaped key (numberIn t (c .at))))
-      → q ≡ paint p (attrsBytes (perhaps key (numberOf t s)))
-  unfolding numberOf perhaps
+      → q ≡ paint p (attrsBytes (perhaps key (foldedNumber t s)))
+  unfolding foldedNumber perhaps
   number-written t {s} {c} e eq = rw e (eq ∙ ap (paint p) (one-listed key (numberIn t (c .at))))
 
-  pub category-missing : (t : Tape) (k : ℕ) {s : Step} → s ≡ categoryText t k → s ≡ Done → p ≡ paint p (attrsBytes (perhaps key (categoryOf t k)))
-  unfolding categoryOf trimmedAt perhaps attrsBytes paint
+  pub category-missing : (t : Tape) (k : ℕ) {s : Step} → s ≡ categoryText t k → s ≡ Done → p ≡ paint p (attrsBytes (perhaps key (writtenCategory t k)))
+  unfolding writtenCategory trimmedAt perhaps attrsBytes paint
   category-missing t k es e = rw (sym es ∙ e)
 
   pub category-written : (t : Tape) (k : ℕ) {s : Step} → s ≡ categoryText t k → {c : Cursor} → s ≡ At c → {x : Bytes} → x ≡ trim Unicode (textAt t (c .at))
-      → {q : Page} → q ≡ paint p (attrBytes (escaped key x)) → q ≡ paint p (attrsBytes (perhaps key (categoryOf t k)))
-  unfolding categoryOf trimmedAt perhaps
+      → {q : Page} → q ≡ paint p (attrBytes (escaped key x)) → q ≡ paint p (attrsBytes (perhaps key (writtenCategory t k)))
+  unfolding writtenCategory trimmedAt perhaps
   category-written t k es e {x} ex eq = rw (sym es ∙ e, ← ex) (eq ∙ ap (paint p) (one-listed key x))
 
 -- ---- the pieces of a number
@@ -118,13 +118,13 @@ module _ (t : Tape) (n : Number) {r : Piece} (er : toCome t n ≡ pieceList t r)
       sym (ap (λ (s : Bytes). paint p (escape true s)) (er ∙ ap (pieceList t) e)) ∙ inv ∙ ap (λ (s : Bytes). paint z (escape true s)) all
 
   pub number-turn : {w : Part} {x : Bool} {left : Number} → r ≡ Some w x left → {s y : Bytes} → s ≡ t .source → y ≡ part s (w .start) (w .len) → (p : Page)
-      {q z : Page} → q ≡ paint p (escape true (spaceIf x ++ y)) → paint p (escape true (toCome t n)) ≡ z → paint q (escape true (toCome t left)) ≡ z
+      {q z : Page} → q ≡ paint p (escape true (gapSpace x ++ y)) → paint p (escape true (toCome t n)) ≡ z → paint q (escape true (toCome t left)) ≡ z
   unfolding pieceList
   number-turn {w} {x} {left} e {s} {y} es ey p eq inv =
       let here : y ≡ part (t .source) (w .start) (w .len) = ey ∙ ap (λ (z : Bytes). part z (w .start) (w .len)) es in
-      let whole : toCome t n ≡ (spaceIf x ++ y) ++ toCome t left =
-      er ∙ ap (pieceList t) e ∙ rw (← here) (sym (append-assoc (spaceIf x) y (toCome t left))) in
-      escape-two p (spaceIf x ++ y) (toCome t left) eq refl ∙ ap (λ (z : Bytes). paint p (escape true z)) (sym whole) ∙ inv
+      let whole : toCome t n ≡ (gapSpace x ++ y) ++ toCome t left =
+      er ∙ ap (pieceList t) e ∙ rw (← here) (sym (append-assoc (gapSpace x) y (toCome t left))) in
+      escape-two p (gapSpace x ++ y) (toCome t left) eq refl ∙ ap (λ (z : Bytes). paint p (escape true z)) (sym whole) ∙ inv
 
 -- ---- figures of old
 

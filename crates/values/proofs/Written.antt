@@ -7,7 +7,7 @@ use native.Mathlib.Omega.{arith}
 use lib.ListN.{length, drop, length-drop}
 use lib.Seq.{drop-drop}
 use Rattle.parts.specs.Bytes.{Bytes, b, part}
-use Rattle.chars.specs.Escape.{escape, escaped as escapedByte}
+use Rattle.chars.specs.Escape.{escape, escapedByte}
 use Rattle.chars.proofs.Escapes.{escape-append}
 use Rattle.window.specs.Page.{Page, paint}
 use Rattle.window.proofs.Paint.{paint-two}
@@ -16,7 +16,7 @@ use Rattle.attrs.specs.Walk.{fixedKeys, valueOf, keyOf}
 use Rattle.attrs.specs.declared.Value.{Value}
 use Rattle.attrs.specs.declared.Key.{Key}
 use Rattle.attrs.proofs.Values.{piece-some, piece-last, piece-in}
-use Rattle.fold.specs.Number.{spaceIf}
+use Rattle.fold.specs.Number.{gapSpace}
 use Rattle.tags.specs.Items.{attrBytes, valueOf as valueWritten}
 use Rattle.events.specs.Event.{escaped}
 use Rattle.values.specs.Parts.{keyOpens}
@@ -92,18 +92,18 @@ next-written source k v ex p eq = eq ∙ rw ex
 -- ---- a piece of a number
 
 module _ {x : Bool} (p : Page) {q : Page} where
-  pub space-some : x ≡ true → q ≡ paint p (b " ") → q ≡ paint p (spaceIf x)
-  unfolding spaceIf
+  pub space-some : x ≡ true → q ≡ paint p (b " ") → q ≡ paint p (gapSpace x)
+  unfolding gapSpace
   space-some h eq = eq ∙ rw h
 
-pub space-none : {x : Bool} (p : Page) → x ≡ false → p ≡ paint p (spaceIf x)
-unfolding spaceIf paint
+pub space-none : {x : Bool} (p : Page) → x ≡ false → p ≡ paint p (gapSpace x)
+unfolding gapSpace paint
 space-none p h = rw h
 
-space-plain : (x : Bool) → spaceIf x ≡ escape true (spaceIf x)
-unfolding spaceIf escape escapedByte
+space-plain : (x : Bool) → gapSpace x ≡ escape true (gapSpace x)
+unfolding gapSpace escape escapedByte
 space-plain true = refl
 space-plain false = refl
 
-pub word-written : (p q : Page) {r : Page} (x : Bool) (s : Bytes) → q ≡ paint p (spaceIf x) → r ≡ paint q (escape true s) → r ≡ paint p (escape true (spaceIf x ++ s))
-word-written p q x s eq er = escape-two p (spaceIf x) s (eq ∙ ap (paint p) (space-plain x)) er
+pub word-written : (p q : Page) {r : Page} (x : Bool) (s : Bytes) → q ≡ paint p (gapSpace x) → r ≡ paint q (escape true s) → r ≡ paint p (escape true (gapSpace x ++ s))
+word-written p q x s eq er = escape-two p (gapSpace x) s (eq ∙ ap (paint p) (space-plain x)) er

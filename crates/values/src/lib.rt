@@ -17,11 +17,11 @@ ghost use Rattle.parts.specs.Bytes.{b};
 ghost use Rattle.chars.specs.Escape.{escape};
 ghost use Rattle.window.specs.Page.{pageOf, paint};
 ghost use Rattle.tape.specs.File.{tapeIn};
-ghost use Rattle.render.specs.Note.{categoryOf};
+ghost use Rattle.render.specs.Note.{writtenCategory};
 ghost use Rattle.attrs.specs.Attr.{unquoted, attributesOf};
 ghost use Rattle.attrs.specs.Walk.{fixedKeys, valueOf, keyOf, soughtOf};
-ghost use Rattle.fold.specs.Fold.{numberIn, numberOf};
-ghost use Rattle.fold.specs.Number.{spaceIf};
+ghost use Rattle.fold.specs.Fold.{numberIn, foldedNumber};
+ghost use Rattle.fold.specs.Number.{gapSpace};
 ghost use Rattle.figure.specs.Figure.{fieldAt, valued, legacyPairs};
 ghost use Rattle.tags.specs.Items.{attrBytes, attrsBytes};
 ghost use Rattle.events.specs.Event.{escaped, perhaps, collected};
@@ -150,7 +150,7 @@ pub fn put_sought(
 // ---- folded numbers
 
 fn put_space(w: Window, out: &mut [u8], space: bool) -> Window
-    ensures { λ r. ⌜ pageOf r (now (out .exit)) ≡ paint (pageOf w (now (out .entry))) (spaceIf space) ⌝ }
+    ensures { λ r. ⌜ pageOf r (now (out .exit)) ≡ paint (pageOf w (now (out .entry))) (gapSpace space) ⌝ }
 {
     if space {
         return window::put_run(w, out, b" ");
@@ -160,7 +160,7 @@ fn put_space(w: Window, out: &mut [u8], space: bool) -> Window
 
 // A piece of a number, with or without a space in front.
 fn put_word(w: Window, out: &mut [u8], s: &[u8], space: bool) -> Window
-    ensures { λ r. ⌜ pageOf r (now (out .exit)) ≡ paint (pageOf w (now (out .entry))) (escape true (spaceIf space ++ now (s .entry))) ⌝ }
+    ensures { λ r. ⌜ pageOf r (now (out .exit)) ≡ paint (pageOf w (now (out .entry))) (escape true (gapSpace space ++ now (s .entry))) ⌝ }
 {
     let v = put_space(w, out, space);
     window::escape_xml_attr(v, out, s)
@@ -213,7 +213,7 @@ pub fn put_numbered(
     key: &[u8],
     s: Step,
 ) -> Window
-    ensures { λ r. ⌜ pageOf r (now (out .exit)) ≡ paint (pageOf w (now (out .entry))) (attrsBytes (perhaps (now (key .entry)) (numberOf (tapeIn tape (now (file .entry))) s))) ⌝ }
+    ensures { λ r. ⌜ pageOf r (now (out .exit)) ≡ paint (pageOf w (now (out .entry))) (attrsBytes (perhaps (now (key .entry)) (foldedNumber (tapeIn tape (now (file .entry))) s))) ⌝ }
 {
     match s {
         Step::Done => w,
@@ -225,7 +225,7 @@ pub fn put_numbered(
 
 // The category of a note or sidebar, where it has one.
 pub fn put_category(w: Window, out: &mut [u8], file: &[u8], tape: Sections, c: Cursor) -> Window
-    ensures { λ r. ⌜ pageOf r (now (out .exit)) ≡ paint (pageOf w (now (out .entry))) (attrsBytes (perhaps (b "category") (categoryOf (tapeIn tape (now (file .entry))) (c .at)))) ⌝ }
+    ensures { λ r. ⌜ pageOf r (now (out .exit)) ≡ paint (pageOf w (now (out .entry))) (attrsBytes (perhaps (b "category") (writtenCategory (tapeIn tape (now (file .entry))) (c .at)))) ⌝ }
 {
     match render::category_text(file, tape, c) {
         Step::Done => w,

@@ -11,17 +11,17 @@ use lib.Dec.{eqb}
 use borrow.Author.Tests.{ne-eqb}
 use Rattle.parts.specs.Bytes.{Bytes, b, firstAt}
 use Rattle.parts.proofs.Laws.{drop-part, drop-at, first-turn, first-stop, first-end, first-le, first-found}
-use Rattle.chars.specs.Escape.{special, escape, escaped}
+use Rattle.chars.specs.Escape.{special, escape, escapedByte}
 use Rattle.chars.proofs.Escapes.{escaped-plain}
 use Rattle.window.specs.Page.{Page, paint}
-use Rattle.window.specs.Plain.{anySpecial, plainLen, PlainTo, RunTo, nameOf, nameStart, nameEnd}
+use Rattle.window.specs.Plain.{anySpecial, plainLen, PlainTo, RunTo, entityOf, nameStart, nameEnd}
 use Rattle.window.proofs.Paint.{paint-two}
 
 -- ---- one byte
 
 -- a byte that has a name is written by it
-pub special-escaped : (attr : Bool) (x : ℕ) → special attr x ≡ true → escaped attr x ≡ nameOf x
-unfolding special escaped nameOf
+pub special-escaped : (attr : Bool) (x : ℕ) → special attr x ≡ true → escapedByte attr x ≡ entityOf x
+unfolding special escapedByte entityOf
 special-escaped attr x e = go (eqb x 60) (eqb x 62) (eqb x 38) (attr && eqb x 34) (b "&lt;") (b "&gt;") (b "&amp;") (b "&quot;") e
   where
     go : (p q r t : Bool) (k l m n : Bytes) → p || (q || (r || t)) ≡ true
@@ -48,8 +48,8 @@ name-fits x ea ee = rw (ea, ee) (go (eqb x 60) (eqb x 62) (eqb x 38))
     go false false false = (omega arith, omega arith)
 
 pub name-part : (p : Page) {q : Page} (x : ℕ) {a e : ℕ} → a ≡ nameStart x → e ≡ nameEnd x
-    → q ≡ paint p (take (e - a) (drop a names)) → q ≡ paint p (nameOf x)
-unfolding nameStart nameEnd nameOf
+    → q ≡ paint p (take (e - a) (drop a names)) → q ≡ paint p (entityOf x)
+unfolding nameStart nameEnd entityOf
 name-part p x ea ee eq = eq ∙ ap (paint p) (rw (ea, ee) (go (eqb x 60) (eqb x 62) (eqb x 38)))
   where
     go : (p q r : Bool)
@@ -207,12 +207,12 @@ module _ (attr : Bool) (s : Bytes) (start i : ℕ) (z : RunTo attr s start i) (h
 
   -- a run, and the name of the byte behind it
   pub run-turn : (p q : Page) {r w : Page} → (i ≡ length s → ⊥) → q ≡ paint p (take (i - start) (drop start s))
-      → r ≡ paint q (nameOf (getD s i 0)) → paint p (escape attr (drop start s)) ≡ w
+      → r ≡ paint q (entityOf (getD s i 0)) → paint p (escape attr (drop start s)) ≡ w
       → paint r (escape attr (drop (i + 1) s)) ≡ w
   unfolding escape
   run-turn p q {r} ne eq er inv =
       let l : i < length s = omega (arith, z .within) in
-      let name : Bytes = nameOf (getD s i 0) in
+      let name : Bytes = entityOf (getD s i 0) in
       let run : Bytes = take (i - start) (drop start s) in
       let rest : Bytes = escape attr (drop (i + 1) s) in
       let next : escape attr (drop i s) ≡ name ++ rest =

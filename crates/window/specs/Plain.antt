@@ -29,8 +29,8 @@ pub record RunTo (attr : Bool) (s : Bytes) (start i : ℕ) : Type 0 where
   pub is : i ≡ start + plainLen attr (drop start s)
 
 -- the name of a byte that has one
-unfoldable pub nameOf : ℕ → Bytes
-nameOf x = cond (eqb x 60) (b "&lt;") (cond (eqb x 62) (b "&gt;") (cond (eqb x 38) (b "&amp;") (b "&quot;")))
+unfoldable pub entityOf : ℕ → Bytes
+entityOf x = cond (eqb x 60) (b "&lt;") (cond (eqb x 62) (b "&gt;") (cond (eqb x 38) (b "&amp;") (b "&quot;")))
 
 -- where it starts in the row of all names
 unfoldable pub nameStart : ℕ → ℕ

@@ -8,7 +8,7 @@ ghost use Rattle.chars.specs.Escape.{special as isSpecial, escape};
 ghost use Rattle.chars.specs.Decimal.{decimal};
 ghost use Rattle.window.specs.Page.{pageOf, paint, stamp as stampOf};
 ghost use Rattle.window.specs.Lay.{lay, over};
-ghost use Rattle.window.specs.Plain.{anySpecial, plainLen, PlainTo, RunTo, nameStart, nameEnd, nameOf};
+ghost use Rattle.window.specs.Plain.{anySpecial, plainLen, PlainTo, RunTo, nameStart, nameEnd, entityOf};
 
 // How many bytes of the text are written, and which byte of it the buffer starts with.
 pub struct Window {
@@ -237,7 +237,7 @@ fn name_end(x: u8) -> usize
 
 // The name of a byte that has one.
 fn put_escape(w: Window, out: &mut [u8], x: u8) -> Window
-    ensures { λ r. ⌜ pageOf r (now (out .exit)) ≡ paint (pageOf w (now (out .entry))) (nameOf x) ⌝ }
+    ensures { λ r. ⌜ pageOf r (now (out .exit)) ≡ paint (pageOf w (now (out .entry))) (entityOf x) ⌝ }
 {
     let names = *b"&lt;&gt;&amp;&quot;";
     let a = name_start(x);

@@ -8,7 +8,7 @@ use native.Mathlib.Omega.{arith}
 use lib.Dec.{eqb}
 use borrow.Author.Tests.{eqb-true, eqb-false}
 use Rattle.parts.specs.Bytes.{Bytes, b}
-use Rattle.chars.specs.Escape.{escaped, escape}
+use Rattle.chars.specs.Escape.{escapedByte, escape}
 use Rattle.chars.proofs.Escapes.{escape-safe}
 use Rattle.xml.specs.Entities.{Entity, lt, gt, amp, quot, predefined, reference}
 use Rattle.xml.specs.Productions.{CharData, Content, data-last, data-more, ValueChars, none, a-char, a-reference, AttValue}
@@ -72,7 +72,7 @@ runs-reference : {s : Bytes} (e : Entity) → List·Memᴰ e predefined → Runs
 runs-reference e m r = run-more e nothing-plain m r
 
 text-runs : (s : Bytes) → Runs (escape false s)
-unfolding escape escaped
+unfolding escape escapedByte
 text-runs [] = run-last nothing-plain
 text-runs (x ∷ s) = go (eqb x 60) (eqb x 62) (eqb x 38) refl refl refl (text-runs s)
   where
@@ -95,7 +95,7 @@ text-no-section-end s a z e =
 -- ---- values
 
 value-chars : (s : Bytes) → ValueChars (escape true s)
-unfolding escape escaped
+unfolding escape escapedByte
 value-chars [] = none
 value-chars (x ∷ s) = go (eqb x 60) (eqb x 62) (eqb x 38) (eqb x 34) refl refl refl (value-chars s)
   where

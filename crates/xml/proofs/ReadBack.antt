@@ -9,7 +9,7 @@ use lib.ListN.{length}
 use lib.Dec.{eqb}
 use borrow.Author.Tests.{eqb-true, eqb-false, ne-eqb}
 use Rattle.parts.specs.Bytes.{Bytes, b, begins}
-use Rattle.chars.specs.Escape.{escaped, escape}
+use Rattle.chars.specs.Escape.{escapedByte, escape}
 use Rattle.xml.specs.Entities.{Entity, predefined, reference, referenceAt, readAs, readPast, readFrom, readBack}
 
 -- a byte that is no `&` begins no reference
@@ -22,8 +22,8 @@ unfolding readFrom readAs readPast
 read-plain x s n = rw (plain-at x s n)
 
 -- what each byte is written as is read as that byte
-read-one : (attr : Bool) (x : ℕ) (s : Bytes) → readFrom 0 (escaped attr x ++ s) ≡ x ∷ readFrom 0 s
-unfolding escaped readFrom readAs readPast referenceAt begins
+read-one : (attr : Bool) (x : ℕ) (s : Bytes) → readFrom 0 (escapedByte attr x ++ s) ≡ x ∷ readFrom 0 s
+unfolding escapedByte readFrom readAs readPast referenceAt begins
 read-one attr x s = go (eqb x 60) (eqb x 62) (eqb x 38) (attr && eqb x 34) refl refl refl (quote attr (eqb x 34) refl)
   where
     quote : (a q : Bool) → eqb x 34 ≡ q → (a && q) ≡ true → x ≡ 34

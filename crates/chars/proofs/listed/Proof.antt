@@ -2,14 +2,14 @@ use Prim.Native.Nat.{_≤_, _-_}
 use mathlib.Core.Path.{_≡_, refl}
 use native.Mathlib.Omega.{arith}
 use lib.ListN.{length, drop}
-use Rattle.chars.specs.Space.{found}
+use Rattle.chars.specs.Space.{searched}
 use Rattle.chars.proofs.White.{white-stop, white-turn, white-end}
 use borrow.Author.Needs.{needs}
 use Rattle.chars.proofs.listed.Statement.{statement}
 use Rattle.chars.proofs.listed.Tie as tie
 
 abbrev Inv-loop : tie.InvT-loop
-Inv-loop table code i₀ i = (i ≤ length table) × (found code (drop i table) ≡ found code table)
+Inv-loop table code i₀ i = (i ≤ length table) × (searched code (drop i table) ≡ searched code table)
 
 abbrev μ-loop : tie.MeasureT-loop
 μ-loop table code i₀ i = length table - i

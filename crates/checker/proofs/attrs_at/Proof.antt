@@ -1,7 +1,7 @@
 use Rattle.checker.proofs.Laws.{attrs-in, attrs-rest, attrs-mark, attrs-end}
 use Rattle.checker.specs.View.{bare, markOn}
 use Rattle.checker.specs.Code.{markIn}
-use Rattle.tags.specs.Form.{pairAt, pairsFrom}
+use Rattle.tags.specs.Form.{pairAt, pairsRow}
 use borrow.Author.Needs.{needs}
 use lib.ListN.{length, drop}
 use mathlib.Core.Path.{_≡_, refl}
@@ -13,8 +13,8 @@ use Rattle.checker.proofs.attrs_at.Tie as tie
 abbrev Inv-loop : tie.InvT-loop
 Inv-loop text at form₀ i₀ next₀ form i next =
     (next ≡ pairAt (drop i text))
-    × (pairsFrom (drop i text) .rest ≡ pairsFrom (drop at text) .rest)
-    × (markOn (markIn text form) (pairsFrom (drop i text) .list) ≡ markOn bare (pairsFrom (drop at text) .list))
+    × (pairsRow (drop i text) .rest ≡ pairsRow (drop at text) .rest)
+    × (markOn (markIn text form) (pairsRow (drop i text) .list) ≡ markOn bare (pairsRow (drop at text) .list))
 
 abbrev μ-loop : tie.MeasureT-loop
 μ-loop text at form₀ i₀ next₀ form i next = length text - i
