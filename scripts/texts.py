@@ -180,7 +180,7 @@ def stream(texts):
 
 def ours(texts):
     """What the proved checker writes of each text."""
-    return reports(subprocess.run([PROGRAMS / "check_replay"], input=stream(texts), stdout=subprocess.PIPE, check=True).stdout)
+    return reports(subprocess.run([PROGRAMS / "test_check_replay"], input=stream(texts), stdout=subprocess.PIPE, check=True).stdout)
 
 
 def rust(texts):
