@@ -3,7 +3,7 @@ import pathlib, random, re, struct, subprocess
 
 ROOT = pathlib.Path(__file__).resolve().parent.parent
 TOOLS = ROOT / "oracle" / "target" / "release"
-PROGRAMS = ROOT / "target" / "bin"
+RUN = ROOT / "scripts" / "run"
 LONGEST = 65536
 MUTATIONS = 20
 FEW = 1
@@ -180,7 +180,7 @@ def stream(texts):
 
 def ours(texts):
     """What the proved checker writes of each text."""
-    return reports(subprocess.run([PROGRAMS / "test_check_replay"], input=stream(texts), stdout=subprocess.PIPE, check=True).stdout)
+    return reports(subprocess.run([RUN, "test_check_replay"], input=stream(texts), stdout=subprocess.PIPE, check=True).stdout)
 
 
 def rust(texts):
