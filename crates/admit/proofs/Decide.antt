@@ -18,7 +18,7 @@ use Rattle.nest.proofs.Walk.{by-test}
 use Rattle.nest.proofs.Decide.{decides-6, decides-7}
 use Rattle.admit.specs.Rules.{LaidOut, Small, GoodEntry, GoodNames, GoodNode, GoodNodes, LabelCut}
 use Rattle.admit.specs.Pieces.{GoodByte}
-use Rattle.admit.specs.Refusal.{Kept₁, Kept₂, Kept₃, Kept₄, Kept₅, Kept₆, Refusal, none, first, second, third, fourth, fifth, sixth, seventh, refusalNumber, answerWith}
+use Rattle.admit.specs.Refusal.{Kept₁, Kept₂, Kept₃, Kept₄, Kept₅, Kept₆, Kept₇, Refusal, none, first, second, third, fourth, fifth, sixth, seventh, refusalNumber, answerWith}
 use Rattle.admit.specs.Decide.{allBelow, laidOut, small, goodByte, goodEntry, goodNames, labelCut, goodNode, goodNodes, refusalIn, refusal}
 use Rattle.admit.specs.declared.Admitted.{Admitted}
 use Rattle.admit.proofs.All.{eq-is, le-is, same-is}
@@ -249,6 +249,10 @@ module _ (file : Bytes) where
 -- a file has one number
 pub refusal-unique : {file : Bytes} {n m : ℕ} → Refusal file n → Refusal file m → n ≡ m
 refusal-unique {file} p q = sym (computed file p) ∙ computed file q
+
+-- a file with the number 0 keeps every rule: it is admitted
+pub kept-all : {file : Bytes} → Refusal file 0 → Kept₇ file
+kept-all (none k) = k
 
 -- ---- what the contract of admit settles
 

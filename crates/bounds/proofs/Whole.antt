@@ -12,9 +12,9 @@ use Rattle.tape.specs.File.{Tape, tapeOf}
 use Rattle.tape.specs.Tree.{children}
 use Rattle.nest.specs.Tape.{linkAt}
 use Rattle.tags.specs.Items.{Attr, Item, start, close, line, bytesOf, framed}
-use Rattle.admit.specs.Refusal.{Kept₇, Refusal, none, first, second, third, fourth, fifth, sixth, seventh}
+use Rattle.admit.specs.Refusal.{Kept₇, Refusal}
 use Rattle.admit.specs.Decide.{refusal}
-use Rattle.admit.proofs.Decide.{refusal-right}
+use Rattle.admit.proofs.Decide.{kept-all, refusal-right}
 use Rattle.admit.proofs.Gives.{node-limit}
 use Rattle.events.specs.Pairing.{paired}
 use Rattle.events.specs.Walk.{eventsWithin, eventsOf}
@@ -81,16 +81,6 @@ module _ (file : Bytes) (z : Kept₇ file) where
 
 -- ---- every call
 
-kept : {file : Bytes} {n : ℕ} → Refusal file n → n ≡ 0 → Kept₇ file
-kept (none k) e = k
-kept (first x) e = absurd (omega arith)
-kept (second k x) e = absurd (omega arith)
-kept (third k x) e = absurd (omega arith)
-kept (fourth k x) e = absurd (omega arith)
-kept (fifth k x) e = absurd (omega arith)
-kept (sixth k x) e = absurd (omega arith)
-kept (seventh k x) e = absurd (omega arith)
-
 pub fitting-given : (s out : Bytes) → fitting s out .given ≡ length s
 unfolding fitting
 fitting-given s out = go (leb (length s) (length out))
@@ -106,5 +96,5 @@ unfolding outcome outcomeBy
 given-small file out = go (refusal file) (refusal-right file)
   where
     go : (n : ℕ) → Refusal file n → outcomeBy n (textOf (tapeOf file)) out .given < 2 ^ 60
-    go zero r = omega (arith, fitting-given (textOf (tapeOf file)) out, text-small file (kept r refl))
+    go zero r = omega (arith, fitting-given (textOf (tapeOf file)) out, text-small file (kept-all r))
     go (suc n) r = omega arith

@@ -13,7 +13,8 @@ use Rattle.nest.specs.Walk.{In}
 use Rattle.nest.proofs.Tape.{opens-inside}
 use Rattle.nest.proofs.Walk.{by-part, tiles-in}
 use Rattle.nest.proofs.Depth.{Open}
-use Rattle.admit.specs.Refusal.{Kept₇}
+use Rattle.admit.specs.Refusal.{Kept₇, Refusal}
+use Rattle.admit.proofs.Decide.{kept-all}
 use Rattle.admit.proofs.Gives.{leaf-children, children-cover, root-cover, root-depth, child-depth, left-depth, open-limit}
 use Rattle.render.specs.Shape.{isCategoryMarker}
 use Rattle.render.specs.Follow.{followed}
@@ -152,7 +153,10 @@ module _ (file : Bytes) (z : Kept₇ file) where
   root-at : AllAt 0 (children t 0)
   root-at c i = record { behind = omega (arith, tiles-in (t .nodes) (children t 0) 1 _ (root-cover file z) .1 c i); deep = root-depth file z c i }
 
-  -- for each admitted file, any depth of 64 or more gives the same events
-  pub depth-enough : (d : ℕ) → 64 ≤ d → eventsWithin d t ≡ eventsOf t
+  within-enough : (d : ℕ) → 64 ≤ d → eventsWithin d t ≡ eventsOf t
   unfolding eventsOf eventsWithin
-  depth-enough d s = blocks-enough d 64 0 1 (children t 0) root-at (omega arith) (omega arith)
+  within-enough d s = blocks-enough d 64 0 1 (children t 0) root-at (omega arith) (omega arith)
+
+-- for each admitted file, any depth of 64 or more gives the same events
+pub depth-enough : (file : Bytes) → Refusal file 0 → (d : ℕ) → 64 ≤ d → eventsWithin d (tapeOf file) ≡ eventsOf (tapeOf file)
+depth-enough file r = within-enough file (kept-all r)

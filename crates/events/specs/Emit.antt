@@ -18,6 +18,7 @@ lay w is = record { page = paint (w .page) (render is); state = w .state }
 unfoldable pub emit : Desk → Event → Desk
 emit w e = record { page = paint (w .page) (render (itemsOf (w .state) e)); state = after (w .state) e }
 
+-- a list of events more
 unfoldable pub emitAll : Desk → List Event → Desk
 emitAll w [] = w
 emitAll w (e ∷ es) = emitAll (emit w e) es

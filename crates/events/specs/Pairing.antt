@@ -60,6 +60,7 @@ verseAttrs code n label alt published =
 unfoldable pub bookAttrs : Bytes → List Attr
 bookAttrs code = rawly (b "code") code ∷ rawly (b "style") (b "id") ∷ []
 
+-- a book: its rest as text, or an empty tag where there is none
 unfoldable pub bookItems : Bytes → Bytes → List Item
 bookItems code [] = empty el.book (bookAttrs code) ∷ []
 bookItems code (x ∷ rest) = start el.book (bookAttrs code) ∷ text (x ∷ rest) ∷ close el.book ∷ []

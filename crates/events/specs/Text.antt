@@ -14,6 +14,7 @@ use Rattle.events.specs.Pairing.{State, paired}
 use Rattle.events.specs.Walk.{eventsOf}
 use Rattle.tape.specs.Kind as kinds
 
+-- whether the tape has a Chapter node, written or not
 unfoldable pub anyChapter : List Node → Bool
 anyChapter [] = false
 anyChapter (n ∷ ns) = eqb (n .kind .code) kinds.chapter || anyChapter ns

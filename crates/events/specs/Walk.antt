@@ -45,6 +45,7 @@ unfoldable pub breaks : List Bytes → List Event
 breaks [] = []
 breaks (g ∷ gs) = item (empty el.optbreak []) ∷ item (text g) ∷ breaks gs
 
+-- all segments
 unfoldable pub segmented : List Bytes → List Event
 segmented [] = []
 segmented (g ∷ gs) = item (text g) ∷ breaks gs
@@ -77,12 +78,14 @@ pub data Manner : Type 0 where
 pub data Role : Type 0 where
   unknownBlock unknownInline unwritten figure ref id note ms char para : Role
 
+-- an unknown marker by its shape: a leaf is not written
 unfoldable pub roleOfShape : Shape → Role
 roleOfShape Block = unknownBlock
 roleOfShape Inline = unknownInline
 roleOfShape Leaf = unwritten
 roleOfShape Other = unwritten
 
+-- a known marker by its category: Note, Milestone, Character, else a paragraph
 unfoldable pub roleOfCategory : ℕ → Role
 roleOfCategory category = cond (eqb category categories.note) note (cond (eqb category categories.milestone) ms (cond (eqb category categories.character) char para))
 
@@ -95,6 +98,7 @@ roleBy t k (Known e) =
     (cond (same (markerName t k) (b "ref")) ref
     (cond (eqb (e .category .code) categories.identification && same (entryName t e) (b "id")) id (roleOfCategory (e .category .code)))))
 
+-- the role of a node
 unfoldable pub roleOf : Tape → ℕ → Role
 roleOf t k = roleBy t k (infoAt t k)
 
@@ -153,17 +157,19 @@ unfollowed = false
 abbrev pub trimming : Bool
 trimming = true
 
--- what a child is to its list: Attribute and Error are passed over
+-- what a child is to its list
 pub data Child : Type 0 where
   anchor words passed marker : Child
 
+-- a Verse is an anchor, a Text words; Attribute and Error are passed over; any other is entered as a marker
 unfoldable pub childOf : ℕ → Child
 childOf kind = cond (eqb kind kinds.verse) anchor (cond (eqb kind kinds.text) words (cond (eqb kind kinds.attribute || eqb kind kinds.error) passed marker))
 
--- what a child is to a note: `cat`, Attribute and Error are left out; a Verse is entered as a marker is, and folds nothing
+-- what a child is to a note
 pub data NoteChild : Type 0 where
   direct leftOut entered : NoteChild
 
+-- `cat`, Attribute and Error are left out; a Verse is entered as a marker is, and folds nothing
 unfoldable pub noteChildOf : Tape → ℕ → NoteChild
 noteChildOf t k =
     cond (isCategoryMarker t k) leftOut

@@ -21,11 +21,11 @@ use Rattle.tape.specs.declared.Cursor.{Cursor}
 use Rattle.tape.specs.declared.Step.{Step}
 use Rattle.tape.proofs.Walk.{children-walk}
 use Rattle.tape.proofs.Laws.{node-count}
-use Rattle.admit.specs.Refusal.{Refusal, none, Kept₇, refusalNumber, answerWith}
+use Rattle.admit.specs.Refusal.{Refusal, refusalNumber, answerWith}
 use Rattle.admit.specs.Decide.{refusal}
 use Rattle.admit.specs.declared.Admitted.{Admitted}
 use Rattle.admit.specs.declared.Admitted.the-variants.{Tape as Admitted-tape, Refused as Admitted-refused}
-use Rattle.admit.proofs.Decide.{refusal-right, refusal-unique}
+use Rattle.admit.proofs.Decide.{kept-all, refusal-right, refusal-unique}
 use Rattle.bounds.proofs.Whole.{text-small}
 use Rattle.tags.specs.Items.{Item, close, line, bytesOf, attrsBytes, attrBytes, valueOf, newLine, render, framed}
 use Rattle.tags.specs.Names.{nameOf}
@@ -199,12 +199,6 @@ room t l out ys last n e hy h el small =
 
 -- ---- every file
 
-is-admitted : {n : ℕ} {file : Bytes} → Refusal file n → n ≡ 0 → Kept₇ file
-is-admitted {n} {file} r e = go (subst (Refusal file) e r)
-  where
-    go : Refusal file 0 → Kept₇ file
-    go (none k) = k
-
 module _ (file out : Bytes) {a : Admitted} (en : Refusal file (refusalNumber a)) (ea : a ≡ answerWith file (refusalNumber a)) where
   pub refused : {n : ℕ} → a ≡ Admitted-refused n → outcomeOf (Refused n) out ≡ outcome file out
   unfolding outcome outcomeBy outcomeOf answerNumber answerLength refusalNumber answerWith
@@ -222,5 +216,5 @@ module _ (file out : Bytes) {a : Admitted} (en : Refusal file (refusalNumber a))
       let zero-of : Refusal file 0 = subst (λ (x : Admitted). Refusal file (refusalNumber x)) e en in
       let sections : Admitted-tape c ≡ Admitted-tape (sectionsOf file) = sym e ∙ ea ∙ ap (λ (x : Admitted). answerWith file (refusalNumber x)) e in
       let is : c ≡ sectionsOf file = cc in
-      let small : length (textOf (tapeIn c file)) < 2 ^ 60 = rw is (text-small file (is-admitted zero-of refl)) in
+      let small : length (textOf (tapeIn c file)) < 2 ^ 60 = rw is (text-small file (kept-all zero-of)) in
       f small ∙ rw is (ap (λ (k : ℕ). outcomeBy k (textOf (tapeOf file)) out) (refusal-unique zero-of (refusal-right file)))
