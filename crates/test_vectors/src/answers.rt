@@ -1,10 +1,14 @@
 // The answer to each operation, written at the front of a buffer.
+ghost use Rattle.window.specs.Page.{pageOf};
+ghost use Rattle.test_vectors.specs.Front.{Written};
 use libc::STDOUT_FILENO;
 use window::Window;
 use words::Part;
 use words::Set;
 
-fn yes_or_no(w: Window, out: &mut [u8], yes: bool) -> Window {
+fn yes_or_no(w: Window, out: &mut [u8], yes: bool) -> Window
+    ensures { λ r. ⌜ Written (pageOf w (now (out .entry))) (pageOf r (now (out .exit))) ⌝ }
+{
     if yes {
         window::put_run(w, out, b"1")
     } else {
@@ -12,17 +16,23 @@ fn yes_or_no(w: Window, out: &mut [u8], yes: bool) -> Window {
     }
 }
 
-fn pair(w: Window, out: &mut [u8], a: usize, b: usize) -> Window {
+fn pair(w: Window, out: &mut [u8], a: usize, b: usize) -> Window
+    ensures { λ r. ⌜ Written (pageOf w (now (out .entry))) (pageOf r (now (out .exit))) ⌝ }
+{
     let w1 = count(w, out, a);
     let w2 = window::put_run(w1, out, b" ");
     count(w2, out, b)
 }
 
-fn count(w: Window, out: &mut [u8], n: usize) -> Window {
+fn count(w: Window, out: &mut [u8], n: usize) -> Window
+    ensures { λ r. ⌜ Written (pageOf w (now (out .entry))) (pageOf r (now (out .exit))) ⌝ }
+{
     window::put_number(w, out, (n % 4294967296) as u32)
 }
 
-fn place(w: Window, out: &mut [u8], p: Part) -> Window {
+fn place(w: Window, out: &mut [u8], p: Part) -> Window
+    ensures { λ r. ⌜ Written (pageOf w (now (out .entry))) (pageOf r (now (out .exit))) ⌝ }
+{
     pair(w, out, p.start, p.len)
 }
 
@@ -31,7 +41,9 @@ fn le(s: &[u8]) -> u32 {
     (tape::length_of(s) % 4294967296) as u32
 }
 
-fn boundaries(w: Window, out: &mut [u8], s: &[u8], places: usize) -> Window {
+fn boundaries(w: Window, out: &mut [u8], s: &[u8], places: usize) -> Window
+    ensures { λ r. ⌜ Written (pageOf w (now (out .entry))) (pageOf r (now (out .exit))) ⌝ }
+{
     let mut next = w;
     let mut i = 0;
     while i < places {
@@ -42,7 +54,9 @@ fn boundaries(w: Window, out: &mut [u8], s: &[u8], places: usize) -> Window {
 }
 
 // Whether each of so many code points is white space.
-fn white(w: Window, out: &mut [u8], start: u32, many: u32) -> Window {
+fn white(w: Window, out: &mut [u8], start: u32, many: u32) -> Window
+    ensures { λ r. ⌜ Written (pageOf w (now (out .entry))) (pageOf r (now (out .exit))) ⌝ }
+{
     let mut next = w;
     let mut i: u32 = 0;
     while i < many {
@@ -56,7 +70,9 @@ fn white(w: Window, out: &mut [u8], start: u32, many: u32) -> Window {
     next
 }
 
-fn ascii_white(w: Window, out: &mut [u8], start: u32, many: u32) -> Window {
+fn ascii_white(w: Window, out: &mut [u8], start: u32, many: u32) -> Window
+    ensures { λ r. ⌜ Written (pageOf w (now (out .entry))) (pageOf r (now (out .exit))) ⌝ }
+{
     let mut next = w;
     let mut i: u32 = 0;
     while i < many {
@@ -67,14 +83,18 @@ fn ascii_white(w: Window, out: &mut [u8], start: u32, many: u32) -> Window {
     next
 }
 
-fn first(w: Window, out: &mut [u8], s: &[u8]) -> Window {
+fn first(w: Window, out: &mut [u8], s: &[u8]) -> Window
+    ensures { λ r. ⌜ Written (pageOf w (now (out .entry))) (pageOf r (now (out .exit))) ⌝ }
+{
     let c = chars::first_char(s);
     let w1 = window::put_number(w, out, c.code);
     let w2 = window::put_run(w1, out, b" ");
     count(w2, out, c.width)
 }
 
-fn of_chars(op: u8, n: usize, s: &[u8], w: Window, out: &mut [u8]) -> Window {
+fn of_chars(op: u8, n: usize, s: &[u8], w: Window, out: &mut [u8]) -> Window
+    ensures { λ r. ⌜ Written (pageOf w (now (out .entry))) (pageOf r (now (out .exit))) ⌝ }
+{
     let many = (n % 65536) as u32;
     match op {
         0 => yes_or_no(w, out, chars::is_utf8(s)),
@@ -85,7 +105,9 @@ fn of_chars(op: u8, n: usize, s: &[u8], w: Window, out: &mut [u8]) -> Window {
     }
 }
 
-fn of_words(op: u8, set: Set, n: usize, s: &[u8], w: Window, out: &mut [u8]) -> Window {
+fn of_words(op: u8, set: Set, n: usize, s: &[u8], w: Window, out: &mut [u8]) -> Window
+    ensures { λ r. ⌜ Written (pageOf w (now (out .entry))) (pageOf r (now (out .exit))) ⌝ }
+{
     match op {
         5 => window::put_run(w, out, words::trim_start(s, set)),
         6 => window::put_run(w, out, words::trim_end(s, set)),
@@ -99,7 +121,9 @@ fn of_words(op: u8, set: Set, n: usize, s: &[u8], w: Window, out: &mut [u8]) -> 
     }
 }
 
-fn of_parts(op: u8, n: usize, s: &[u8], w: Window, out: &mut [u8]) -> Window {
+fn of_parts(op: u8, n: usize, s: &[u8], w: Window, out: &mut [u8]) -> Window
+    ensures { λ r. ⌜ Written (pageOf w (now (out .entry))) (pageOf r (now (out .exit))) ⌝ }
+{
     match op {
         13 => window::escape_xml(w, out, s),
         14 => window::escape_xml_attr(w, out, s),
@@ -117,7 +141,9 @@ fn of_parts(op: u8, n: usize, s: &[u8], w: Window, out: &mut [u8]) -> Window {
 }
 
 // The answer to an operation, and its length.
-pub fn answer(code: usize, set: Set, n: usize, s: &[u8], out: &mut [u8]) -> usize {
+pub fn answer(code: usize, set: Set, n: usize, s: &[u8], out: &mut [u8]) -> usize
+    ensures { λ r. ⌜ Written (record { at = 0; from = 0; buf = now (out .entry) }) (record { at = r; from = 0; buf = now (out .exit) }) ⌝ }
+{
     let w = Window { at: 0, from: 0 };
     let op = (code % 256) as u8;
     if op < 5 {

@@ -1,3 +1,6 @@
+use Rattle.window.specs.Page.{pageOf}
+use Rattle.test_vectors.specs.Front.{Written}
+use Rattle.test_vectors.proofs.Fronts.{still, onward}
 use Prim.Native.Nat.{_-_}
 use mathlib.Core.Path.{_≡_}
 use lib.ListN.{length}
@@ -6,13 +9,13 @@ use Rattle.test_vectors.proofs.answers.boundaries.Statement.{statement}
 use Rattle.test_vectors.proofs.answers.boundaries.Tie as tie
 
 abbrev Inv-loop : tie.InvT-loop
-Inv-loop out₀ s places next₀ i₀ out next i = length out ≡ length out₀
+Inv-loop out₀ s places next₀ i₀ out next i = (length out ≡ length out₀) × Written (pageOf next₀ out₀) (pageOf next out)
 
 abbrev μ-loop : tie.MeasureT-loop
 μ-loop out₀ s places next₀ i₀ out next i = places - i
 
 loop-holds : tie.Need-loop-holds Inv-loop μ-loop
-loop-holds c = search needs
+loop-holds c = (search needs, still _)
 
 is-boundary-requires : tie.Need-is-boundary-requires Inv-loop μ-loop
 is-boundary-requires c κs = search needs
@@ -27,7 +30,7 @@ loop-less : tie.Need-loop-less Inv-loop μ-loop
 loop-less c = search needs
 
 loop-again : tie.Need-loop-again Inv-loop μ-loop
-loop-again c = search needs
+loop-again c = (search needs, search onward)
 
 same-length : tie.Need-same-length Inv-loop μ-loop
 same-length c = search needs
