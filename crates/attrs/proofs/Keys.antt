@@ -1,11 +1,13 @@
 -- Laws of keys: each test of the code leads to the key that the definition gives.
 use mathlib.Core.Path.{_≡_, sym, ap, _∙_}
 use mathlib.Core.Bool.{Bool, true, false}
+use denote.Ref.{RefT}
 use Rattle.parts.specs.Bytes.{Bytes, b, part, same, begins}
+use Rattle.parts.specs.Place.{VeryPart}
 use Rattle.words.specs.Words.{bytesOf}
 use Rattle.words.specs.declared.Part.{Part}
 use Rattle.attrs.specs.Attr.{isWordMarker, defaultKey, keyFor}
-use Rattle.attrs.specs.Walk.{fixedKeys, keyOf}
+use Rattle.attrs.specs.Walk.{fixedKeys, keyOf, KeyPart}
 use Rattle.attrs.specs.declared.Key.{Key}
 use Rattle.attrs.specs.declared.Key.the-variants.{Own, Fixed}
 
@@ -97,6 +99,15 @@ module _ (source fixed : Bytes) (p : Part) {k : Key} {r : Bytes} where
   pub key-fixed : k ≡ Fixed p → r ≡ part fixed (p .start) (p .len) → r ≡ keyOf source fixed k
   unfolding keyOf
   key-fixed ek er = rw ek er
+
+module _ (source fixed : RefT Bytes) (p : Part) {k : Key} {r : RefT Bytes} where
+  pub own-at : k ≡ Own p → VeryPart source r (p .start) (p .len) → KeyPart source fixed k r
+  unfolding KeyPart
+  own-at ek v = rw ek v
+
+  pub fixed-at : k ≡ Fixed p → VeryPart fixed r (p .start) (p .len) → KeyPart source fixed k r
+  unfolding KeyPart
+  fixed-at ek v = rw ek v
 
 -- ---- a key that is sought
 

@@ -5,7 +5,9 @@ use mathlib.Core.List.{List, [], _∷_, _++_, map}
 use mathlib.Core.Bool.{cond}
 use mathlib.Core.Option.{Option, none, some}
 use lib.ListN.{length, drop}
+use denote.Ref.{RefT}
 use Rattle.parts.specs.Bytes.{Bytes, b, part, same}
+use Rattle.parts.specs.Place.{VeryPart}
 use Rattle.words.specs.Words.{bytesOf}
 use Rattle.words.specs.declared.Part.{Part}
 use Rattle.tape.specs.File.{Tape}
@@ -44,6 +46,11 @@ valueOf s v = shown (v .quoted) (part s (v .start) (v .len))
 unfoldable pub keyOf : Bytes → Bytes → Key → Bytes
 keyOf source fixed (Own p) = bytesOf source p
 keyOf source fixed (Fixed p) = bytesOf fixed p
+
+-- r is that very part
+unfoldable pub KeyPart : RefT Bytes → RefT Bytes → Key → RefT Bytes → Type 0
+KeyPart source fixed (Own p) r = VeryPart source r (p .start) (p .len)
+KeyPart source fixed (Fixed p) r = VeryPart fixed r (p .start) (p .len)
 
 -- a pair in front of the pairs of a text, by its parts
 pub record Front (s : Bytes) (key : Part) (v : Taken) : Type 0 where

@@ -16,7 +16,7 @@ ghost use Rattle.words.specs.Words.{words as wordsOf, lastOf, bytesOf};
 ghost use Rattle.words.specs.declared.Set.the-variants.{Unicode};
 ghost use Rattle.tape.specs.File.{tapeIn, textAt};
 ghost use Rattle.attrs.specs.Attr.{closesAt, quotedLen, pieceLen, valueAt, pairsIn, isWordMarker, defaultKey, keyFor, keyedFor, attributeBody, bodyPairs, pairsAt, pairsAlong, attributesOf};
-ghost use Rattle.attrs.specs.Walk.{fixedKeys, Spot, keyOf, FirstOf, itemList, gotList, remaining, attrsOf, nextList, firstOf, soughtOf};
+ghost use Rattle.attrs.specs.Walk.{fixedKeys, Spot, keyOf, FirstOf, itemList, gotList, remaining, attrsOf, nextList, firstOf, soughtOf, KeyPart};
 ghost use Rattle.tape.specs.Tree.{walkFrom};
 
 // The keys that stand in no source, one behind the other.
@@ -275,7 +275,8 @@ fn key_for(source: &[u8], marker: &[u8], key: Part) -> Key
 
 // The bytes of a key: a part of the source or of the fixed keys.
 pub fn key_of<'a>(source: &'a [u8], fixed: &'a [u8], k: Key) -> &'a [u8]
-    ensures { λ r. ⌜ now r ≡ keyOf (now (source .entry)) (now (fixed .entry)) k ⌝ }
+    ensures bytes { λ r. ⌜ now r ≡ keyOf (now (source .entry)) (now (fixed .entry)) k ⌝ }
+    ensures place { λ r. ⌜ KeyPart (source .entry) (fixed .entry) k r ⌝ }
 {
     match k {
         Key::Own(p) => parts::part(source, p.start, p.len),

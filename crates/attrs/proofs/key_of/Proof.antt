@@ -1,4 +1,4 @@
-use Rattle.attrs.proofs.Keys.{key-own, key-fixed}
+use Rattle.attrs.proofs.Keys.{key-own, key-fixed, own-at, fixed-at}
 use borrow.Author.Needs.{needs}
 use Rattle.attrs.proofs.key_of.Statement.{statement}
 use Rattle.attrs.proofs.key_of.Tie as tie
@@ -16,10 +16,10 @@ part-requires-2 : tie.Need-part-requires-2
 part-requires-2 c κs = search needs
 
 returns : tie.Need-returns
-returns c = search key-own
+returns c = (search key-own, search own-at)
 
 returns-2 : tie.Need-returns-2
-returns-2 c = search key-fixed
+returns-2 c = (search key-fixed, search fixed-at)
 
 pub key-of-spec : {M : Type 1} → statement M
 key-of-spec =

@@ -17,6 +17,9 @@ of-requires c κs = search needs
 loop-holds : tie.Need-loop-holds Inv-loop μ-loop
 loop-holds c = search needs
 
+new-requires : tie.Need-new-requires Inv-loop μ-loop
+new-requires c κs = search needs
+
 line-requires : tie.Need-line-requires Inv-loop μ-loop
 line-requires c κs = search needs
 
@@ -55,6 +58,7 @@ dump-spec =
     μ-loop
     of-requires
     loop-holds
+    new-requires
     line-requires
     part-requires
     write-all-requires
