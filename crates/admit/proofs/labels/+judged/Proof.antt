@@ -21,149 +21,44 @@ judged-at t = and 3 judged-kinds.ps (is 3 judged-kinds.ps μ-judged t) judged.Pr
 abbrev judged-below : ℕ → In 3 judged-kinds.ps
 judged-below t = and 3 judged-kinds.ps (falls 3 judged-kinds.ps _<_ μ-judged t) judged.Pre
 
-judged-long-requires : (t : ℕ) → judged-lts.Need-long-requires (
-  long-reads.Asked,
-  long-reads.Learnt,
-  tabled-reads.Asked,
-  tabled-reads.Learnt,
-  judged-below t,
-  judged.Post,
-  judged-long-reads.Asked,
-  judged-long-reads.Learnt,
-) (judged-at t) judged.Post
+abbrev judged-calls : ℕ → judged-lts.Claims
+judged-calls t = (long-reads.Asked, long-reads.Learnt, tabled-reads.Asked, tabled-reads.Learnt, judged-below t, judged.Post, judged-long-reads.Asked, judged-long-reads.Learnt)
+
+judged-long-requires : (t : ℕ) → judged-lts.Need-long-requires (judged-calls t) (judged-at t) judged.Post
 judged-long-requires t c κs = search needs
 
-judged-tabled-requires : (t : ℕ) → judged-lts.Need-tabled-requires (
-  long-reads.Asked,
-  long-reads.Learnt,
-  tabled-reads.Asked,
-  tabled-reads.Learnt,
-  judged-below t,
-  judged.Post,
-  judged-long-reads.Asked,
-  judged-long-reads.Learnt,
-) (judged-at t) judged.Post
+judged-tabled-requires : (t : ℕ) → judged-lts.Need-tabled-requires (judged-calls t) (judged-at t) judged.Post
 judged-tabled-requires t c κs = search needs
 
-judged-same-length : (t : ℕ) → judged-lts.Need-same-length (
-  long-reads.Asked,
-  long-reads.Learnt,
-  tabled-reads.Asked,
-  tabled-reads.Learnt,
-  judged-below t,
-  judged.Post,
-  judged-long-reads.Asked,
-  judged-long-reads.Learnt,
-) (judged-at t) judged.Post
+judged-same-length : (t : ℕ) → judged-lts.Need-same-length (judged-calls t) (judged-at t) judged.Post
 judged-same-length t c = search needs
 
-judged-same-length-2 : (t : ℕ) → judged-lts.Need-same-length-2 (
-  long-reads.Asked,
-  long-reads.Learnt,
-  tabled-reads.Asked,
-  tabled-reads.Learnt,
-  judged-below t,
-  judged.Post,
-  judged-long-reads.Asked,
-  judged-long-reads.Learnt,
-) (judged-at t) judged.Post
+judged-same-length-2 : (t : ℕ) → judged-lts.Need-same-length-2 (judged-calls t) (judged-at t) judged.Post
 judged-same-length-2 t c = search needs
 
-judged-returns : (t : ℕ) → judged-lts.Need-returns (
-  long-reads.Asked,
-  long-reads.Learnt,
-  tabled-reads.Asked,
-  tabled-reads.Learnt,
-  judged-below t,
-  judged.Post,
-  judged-long-reads.Asked,
-  judged-long-reads.Learnt,
-) (judged-at t) judged.Post
+judged-returns : (t : ℕ) → judged-lts.Need-returns (judged-calls t) (judged-at t) judged.Post
 judged-returns t c = search needs
 
-judged-slice-aggregate-judged : (t : ℕ) → judged-lts.Need-slice-aggregate-judged (
-  long-reads.Asked,
-  long-reads.Learnt,
-  tabled-reads.Asked,
-  tabled-reads.Learnt,
-  judged-below t,
-  judged.Post,
-  judged-long-reads.Asked,
-  judged-long-reads.Learnt,
-) (judged-at t) judged.Post
+judged-slice-aggregate-judged : (t : ℕ) → judged-lts.Need-slice-aggregate-judged (judged-calls t) (judged-at t) judged.Post
 judged-slice-aggregate-judged t c = search needs
 
-judged-slice-aggregate-judged-2 : (t : ℕ) → judged-lts.Need-slice-aggregate-judged-2 (
-  long-reads.Asked,
-  long-reads.Learnt,
-  tabled-reads.Asked,
-  tabled-reads.Learnt,
-  judged-below t,
-  judged.Post,
-  judged-long-reads.Asked,
-  judged-long-reads.Learnt,
-) (judged-at t) judged.Post
+judged-slice-aggregate-judged-2 : (t : ℕ) → judged-lts.Need-slice-aggregate-judged-2 (judged-calls t) (judged-at t) judged.Post
 judged-slice-aggregate-judged-2 t c = search needs
 
-judged-judged-requires : (t : ℕ) → judged-lts.Need-judged-requires (
-  long-reads.Asked,
-  long-reads.Learnt,
-  tabled-reads.Asked,
-  tabled-reads.Learnt,
-  judged-below t,
-  judged.Post,
-  judged-long-reads.Asked,
-  judged-long-reads.Learnt,
-) (judged-at t) judged.Post
+judged-judged-requires : (t : ℕ) → judged-lts.Need-judged-requires (judged-calls t) (judged-at t) judged.Post
 judged-judged-requires t c κs = search needs
 
-judged-returns-2 : (t : ℕ) → judged-lts.Need-returns-2 (
-  long-reads.Asked,
-  long-reads.Learnt,
-  tabled-reads.Asked,
-  tabled-reads.Learnt,
-  judged-below t,
-  judged.Post,
-  judged-long-reads.Asked,
-  judged-long-reads.Learnt,
-) (judged-at t) judged.Post
+judged-returns-2 : (t : ℕ) → judged-lts.Need-returns-2 (judged-calls t) (judged-at t) judged.Post
 judged-returns-2 t c = search needs
 
-judged-judged-long-requires : (t : ℕ) → judged-lts.Need-judged-long-requires (
-  long-reads.Asked,
-  long-reads.Learnt,
-  tabled-reads.Asked,
-  tabled-reads.Learnt,
-  judged-below t,
-  judged.Post,
-  judged-long-reads.Asked,
-  judged-long-reads.Learnt,
-) (judged-at t) judged.Post
+judged-judged-long-requires : (t : ℕ) → judged-lts.Need-judged-long-requires (judged-calls t) (judged-at t) judged.Post
 judged-judged-long-requires t c κs = search needs
 
-judged-returns-3 : (t : ℕ) → judged-lts.Need-returns-3 (
-  long-reads.Asked,
-  long-reads.Learnt,
-  tabled-reads.Asked,
-  tabled-reads.Learnt,
-  judged-below t,
-  judged.Post,
-  judged-long-reads.Asked,
-  judged-long-reads.Learnt,
-) (judged-at t) judged.Post
+judged-returns-3 : (t : ℕ) → judged-lts.Need-returns-3 (judged-calls t) (judged-at t) judged.Post
 judged-returns-3 t c = search needs
 
 pub +judged-spec : {M : Type 1} → statement M
-+judged-spec = close μ-judged λ t. judged-lts.spec (
-  long-reads.Asked,
-  long-reads.Learnt,
-  tabled-reads.Asked,
-  tabled-reads.Learnt,
-  judged-below t,
-  judged.Post,
-  judged-long-reads.Asked,
-  judged-long-reads.Learnt,
-)
++judged-spec = close μ-judged λ t. judged-lts.spec (judged-calls t)
     (judged-at t)
     judged.Post
     (judged-long-requires t)
