@@ -97,14 +97,6 @@ fn write_blocks(file: &[u8], tape: Sections, table: &mut [u32], out: &mut [u8]) 
     write_tabled(file, tape, &mut table[..n], out)
 }
 
-// The same with a table for a source of 4,096 bytes.
-fn write_short(file: &[u8], tape: Sections, out: &mut [u8]) -> Answer
-    ensures { λ r. ⌜ (length (textOf (tapeIn tape (now (file .entry)))) < 2 ^ 60 → outcomeOf r (now (out .exit)) ≡ fitting (textOf (tapeIn tape (now (file .entry)))) (now (out .entry))) ⌝ }
-{
-    let mut table = [0u32; 64];
-    write_blocks(file, tape, &mut table, out)
-}
-
 // The same with a table for the longest source.
 fn write_long(file: &[u8], tape: Sections, out: &mut [u8]) -> Answer
     ensures { λ r. ⌜ (length (textOf (tapeIn tape (now (file .entry)))) < 2 ^ 60 → outcomeOf r (now (out .exit)) ≡ fitting (textOf (tapeIn tape (now (file .entry)))) (now (out .entry))) ⌝ }
@@ -113,15 +105,28 @@ fn write_long(file: &[u8], tape: Sections, out: &mut [u8]) -> Answer
     write_blocks(file, tape, &mut table, out)
 }
 
-// The same, whatever the source's length.
-fn write_in(file: &[u8], tape: Sections, out: &mut [u8]) -> Answer
+// The same with a table that is lent, where it has a place for each block of the source, or else with a longer one. It calls itself, so the
+// compiler leaves the longest table to a function of its own: short sources take no stack for it.
+fn write_in(file: &[u8], tape: Sections, table: &mut [u32], out: &mut [u8]) -> Answer
     ensures { λ r. ⌜ (length (textOf (tapeIn tape (now (file .entry)))) < 2 ^ 60 → outcomeOf r (now (out .exit)) ≡ fitting (textOf (tapeIn tape (now (file .entry)))) (now (out .entry))) ⌝ }
 {
-    if tape.source <= 4096 {
-        write_short(file, tape, out)
-    } else {
-        write_long(file, tape, out)
+    let blocks = table.len();
+    if long(tape.source) / 64 < blocks {
+        return write_blocks(file, tape, table, out);
     }
+    if blocks < 1024 {
+        let mut more = [0u32; 1024];
+        return write_in(file, tape, &mut more, out);
+    }
+    write_long(file, tape, out)
+}
+
+// The same, begun with a table for a source of 4,096 bytes.
+fn write_tape(file: &[u8], tape: Sections, out: &mut [u8]) -> Answer
+    ensures { λ r. ⌜ (length (textOf (tapeIn tape (now (file .entry)))) < 2 ^ 60 → outcomeOf r (now (out .exit)) ≡ fitting (textOf (tapeIn tape (now (file .entry)))) (now (out .entry))) ⌝ }
+{
+    let mut table = [0u32; 64];
+    write_in(file, tape, &mut table, out)
 }
 
 // Writes the USX text of a tape file at the front of a buffer, or says why not.
@@ -130,6 +135,6 @@ pub fn serialize(file: &[u8], out: &mut [u8]) -> Answer
 {
     match admit::admit(file) {
         Admitted::Refused(n) => Answer::Refused(n),
-        Admitted::Tape(tape) => write_in(file, tape, out),
+        Admitted::Tape(tape) => write_tape(file, tape, out),
     }
 }

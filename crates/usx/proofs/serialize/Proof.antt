@@ -12,8 +12,8 @@ enum-known-n c = search needs
 enum-known-tape : tie.Need-enum-known-tape
 enum-known-tape c = search needs
 
-write-in-requires : tie.Need-write-in-requires
-write-in-requires c κs = search needs
+write-tape-requires : tie.Need-write-tape-requires
+write-tape-requires c κs = search needs
 
 returns : tie.Need-returns
 returns c = search refused
@@ -31,7 +31,7 @@ serialize-spec =
     admit-requires
     enum-known-n
     enum-known-tape
-    write-in-requires
+    write-tape-requires
     returns
     same-length
     returns-2)
