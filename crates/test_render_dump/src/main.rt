@@ -36,8 +36,9 @@ fn nodes(file: &[u8], t: Sections, solids: &[u32])
 {
     let mut at: u32 = 0;
     while at < t.nodes {
-        shapes::line(file, t, solids, Cursor::new(at));
-        by_kind(file, t, solids, Cursor::new(at));
+        let c = Cursor::new(at);
+        shapes::line(file, t, solids, c);
+        by_kind(file, t, solids, c);
         at += 1;
     }
 }

@@ -13,6 +13,9 @@ abbrev μ-loop : tie.MeasureT-loop
 loop-holds : tie.Need-loop-holds Inv-loop μ-loop
 loop-holds c = omega arith
 
+new-requires : tie.Need-new-requires Inv-loop μ-loop
+new-requires c κs = search needs
+
 line-requires : tie.Need-line-requires Inv-loop μ-loop
 line-requires c κs = search needs
 
@@ -38,6 +41,7 @@ nodes-spec =
     Inv-loop
     μ-loop
     loop-holds
+    new-requires
     line-requires
     by-kind-requires
     add-at
