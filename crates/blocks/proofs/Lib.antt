@@ -1,4 +1,2 @@
-pub mod Tags
-pub mod Finds
 pub mod Places
 pub mod Steps

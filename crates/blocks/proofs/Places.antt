@@ -9,6 +9,7 @@ use Rattle.tape.specs.File.{Tape, kindAt, infoAt, numberAt}
 use Rattle.tape.specs.Tree.{nextSibling, upTo, left, fromFirst}
 use Rattle.tape.specs.declared.Cursor.{Cursor}
 use Rattle.tape.specs.declared.kinds.Kind.{Kind}
+use Rattle.tape.specs.declared.Info.{Info}
 use Rattle.tape.specs.declared.Step.{Step}
 use Rattle.tape.specs.declared.Step.the-variants.{At}
 use Rattle.tape.proofs.Walk.{left-turn, up-to-go}
@@ -35,6 +36,32 @@ use Rattle.tables.specs.Rows.{isNoRow}
 use Rattle.tables.proofs.Spans.{up-row}
 use Rattle.blocks.specs.Blocks.{holderOf, runOpens, runIn, uncut, stepBehind}
 use Rattle.blocks.specs.declared.Holder.the-variants.{Sidebar, Periph, Neither}
+
+-- ---- what a node holds blocks as
+
+module _ (t : Tape) (k : ℕ) {x : Bool} (ex : x ≡ isRow t k) where
+  pub holder-row : x ≡ true → Neither ≡ holderOf t k
+  unfolding holderOf
+  holder-row h = rw (sym ex ∙ h)
+
+  module _ (hx : x ≡ false) {z : Kind} (ek : z .code ≡ kindAt t k) where
+    pub holder-chapter : z .code ≡ 6 → Neither ≡ holderOf t k
+    unfolding holderOf
+    holder-chapter h = rw (sym ex ∙ hx, kind-is t k ek 6 h)
+
+    module _ (n₆ : z .code ≡ 6 → ⊥) {i : Info} (ei : i ≡ infoAt t k) {y : Bool} (ey : y ≡ isElement 1 i) where
+      pub holder-sidebar : y ≡ true → Sidebar ≡ holderOf t k
+      unfolding holderOf
+      holder-sidebar h = rw (sym ex ∙ hx, kind-not t k ek 6 n₆, ← ei, sym ey ∙ h)
+
+      module _ (hy : y ≡ false) {v : Bool} (ev : v ≡ isElement 2 i) where
+        pub holder-periph : v ≡ true → Periph ≡ holderOf t k
+        unfolding holderOf
+        holder-periph h = rw (sym ex ∙ hx, kind-not t k ek 6 n₆, ← ei, sym ey ∙ hy, sym ev ∙ h)
+
+        pub holder-neither : v ≡ false → Neither ≡ holderOf t k
+        unfolding holderOf
+        holder-neither h = rw (sym ex ∙ hx, kind-not t k ek 6 n₆, ← ei, sym ey ∙ hy, sym ev ∙ h)
 
 -- ---- places
 

@@ -25,7 +25,8 @@ use Rattle.events.proofs.Emits.{between, then}
 use Rattle.sink.specs.Desk.{deskIn}
 use Rattle.sink.specs.declared.Sink.{Sink}
 use Rattle.tables.specs.Rows.{depthAt}
-use Rattle.blocks.specs.Blocks.{uncut, holderOf, isBlockOrRow, below, sidebarAttrs, periphAttrs, attrsOf, elementNo, holderIn}
+use Rattle.holders.specs.Holders.{isBlockOrRow, sidebarAttrs, periphAttrs, attrsOf, elementNo}
+use Rattle.blocks.specs.Blocks.{uncut, holderOf, below, holderIn}
 use Rattle.blocks.specs.declared.Holder.{Holder}
 use Rattle.blocks.specs.declared.Holder.the-variants.{Sidebar, Periph, Neither}
 use Rattle.blocks.proofs.Places.{place-side, place-peri, turn-by}

@@ -1,20 +1,18 @@
 -- Blocks, and the sidebars and periphs that hold them.
 use Prim.Native.Nat.{ℕ, zero, suc, _+_}
-use mathlib.Core.List.{List, [], _∷_, _++_}
+use mathlib.Core.List.{List, [], _∷_}
 use mathlib.Core.Bool.{Bool, true, false, cond, _||_}
 use Rattle.parts.specs.Bytes.{b}
 use Rattle.tape.specs.File.{Tape, infoAt}
 use Rattle.tape.specs.declared.Step.{Step}
 use Rattle.tape.specs.Tree.{nextSibling, upTo}
 use Rattle.render.specs.Shape.{isRow, isChapter, isElement, isTopLevelBlock}
-use Rattle.render.specs.Note.{writtenCategory, periphAlt}
-use Rattle.attrs.specs.Attr.{attributesOf}
-use Rattle.tags.specs.Items.{Attr, start, line}
+use Rattle.tags.specs.Items.{start, line}
 use Rattle.lists.specs.Span.{runEnd, foldsAt}
 use Rattle.lists.specs.declared.Span.{Span}
 use Rattle.lists.specs.declared.Stop.the-variants.{Block, NoRow}
-use Rattle.events.specs.Event.{Event, item, perhaps, collected, element}
-use Rattle.events.specs.Walk.{style, styled, unclosed, unfollowed, trimming, nodeIn, inside, inlineAll, sidebarIn, periphIn, Place, aRow, aChapter, aSidebar, aPeriph, aBlock, aVerse, dropped, blocksE}
+use Rattle.events.specs.Event.{Event, item, element}
+use Rattle.events.specs.Walk.{styled, unfollowed, trimming, nodeIn, inside, inlineAll, sidebarIn, periphIn, Place, aRow, aChapter, aSidebar, aPeriph, aBlock, aVerse, dropped, blocksE}
 use Rattle.blocks.specs.declared.Holder.{Holder}
 use Rattle.blocks.specs.declared.Holder.the-variants.{Sidebar, Periph, Neither}
 use Rattle.tape.specs.Kind as kinds
@@ -31,32 +29,10 @@ holderOf t k =
     cond (isRow t k || isChapter t k) Neither
     (cond (isElement elements.sidebar (infoAt t k)) Sidebar (cond (isElement elements.periph (infoAt t k)) Periph Neither))
 
--- a block or a row
-unfoldable pub isBlockOrRow : Tape → ℕ → Bool
-isBlockOrRow t k = isTopLevelBlock t k || isRow t k
-
 -- the events of a list of blocks one level down, by the depth that is left above: none where none is left
 unfoldable pub below : Tape → ℕ → ℕ → List ℕ → List Event
 below t zero level ks = []
 below t (suc d) level ks = blocksE t d (level + 1) ks
-
--- a sidebar's attributes
-unfoldable pub sidebarAttrs : Tape → ℕ → List Attr
-sidebarAttrs t k = style t k ∷ (perhaps (b "category") (writtenCategory t k) ++ unclosed t k)
-
--- a periph's attributes
-unfoldable pub periphAttrs : Tape → ℕ → List Attr
-periphAttrs t k = perhaps (b "alt") (periphAlt t k) ++ collected (attributesOf t k (b "periph"))
-
--- a holder's attributes: of a sidebar, or of a periph
-unfoldable pub attrsOf : Tape → ℕ → Bool → List Attr
-attrsOf t k true = sidebarAttrs t k
-attrsOf t k false = periphAttrs t k
-
--- a holder's element
-unfoldable pub elementNo : Bool → ℕ
-elementNo true = el.sidebar
-elementNo false = el.periph
 
 -- what a holder writes
 unfoldable pub holderIn : Tape → ℕ → ℕ → Bool → ℕ → List Event

@@ -27,11 +27,11 @@ use Rattle.blocks.proofs.inner.Reads as inner
 use Rattle.blocks.proofs.inner.Kinds as inner-kinds
 use Rattle.blocks.proofs.+blocks+full_holder+held+inner.Lts-inner as inner-lts
 use Rattle.blocks.proofs.block_turn.Reads as block-turn-reads
-use Rattle.blocks.proofs.close_holder.Reads as close-holder-reads
-use Rattle.blocks.proofs.empty_holder.Reads as empty-holder-reads
-use Rattle.blocks.proofs.has_block.Reads as has-block-reads
+use Rattle.holders.proofs.close_holder.Reads as close-holder-reads
+use Rattle.holders.proofs.empty_holder.Reads as empty-holder-reads
+use Rattle.holders.proofs.has_block.Reads as has-block-reads
 use Rattle.blocks.proofs.holder_of.Reads as holder-of-reads
-use Rattle.blocks.proofs.open_holder.Reads as open-holder-reads
+use Rattle.holders.proofs.open_holder.Reads as open-holder-reads
 use Rattle.lists.proofs.member_of.Reads as member-of-reads
 use Rattle.sink.proofs.line.Reads as line-reads
 use Rattle.tables.proofs.depth_at.Reads as depth-at-reads

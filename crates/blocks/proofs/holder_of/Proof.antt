@@ -1,4 +1,4 @@
-use Rattle.blocks.proofs.Tags.{holder-row, holder-chapter, holder-sidebar, holder-periph, holder-neither}
+use Rattle.blocks.proofs.Places.{holder-row, holder-chapter, holder-sidebar, holder-periph, holder-neither}
 use borrow.Author.Needs.{needs}
 use Rattle.blocks.proofs.holder_of.Statement.{statement}
 use Rattle.blocks.proofs.holder_of.Tie as tie

@@ -1,7 +1,7 @@
-use Rattle.blocks.proofs.Tags.{put-side, put-peri}
+use Rattle.holders.proofs.Tags.{put-side, put-peri}
 use borrow.Author.Needs.{needs}
-use Rattle.blocks.proofs.put_holder.Statement.{statement}
-use Rattle.blocks.proofs.put_holder.Tie as tie
+use Rattle.holders.proofs.put_holder.Statement.{statement}
+use Rattle.holders.proofs.put_holder.Tie as tie
 
 put-sidebar-requires : tie.Need-put-sidebar-requires
 put-sidebar-requires c κs = search needs

@@ -1,7 +1,7 @@
-use Rattle.blocks.proofs.Tags.{block-or, or-row}
+use Rattle.holders.proofs.Tags.{block-or, or-row}
 use borrow.Author.Needs.{needs}
-use Rattle.blocks.proofs.is_block.Statement.{statement}
-use Rattle.blocks.proofs.is_block.Tie as tie
+use Rattle.holders.proofs.is_block.Statement.{statement}
+use Rattle.holders.proofs.is_block.Tie as tie
 
 is-top-level-block-requires : tie.Need-is-top-level-block-requires
 is-top-level-block-requires c κs = search needs

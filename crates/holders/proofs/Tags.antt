@@ -1,4 +1,4 @@
--- What holds blocks, and the tags of sidebars and periphs.
+-- A block or a row, and the tags of sidebars and periphs.
 use mathlib.Core.Path.{_≡_, refl, sym, ap, _∙_}
 use mathlib.Core.Bool.{Bool, true, false}
 use mathlib.Core.List.{List, [], _∷_, _++_, append-assoc, append-nil}
@@ -15,14 +15,11 @@ use Rattle.words.proofs.Blank.{blank-words}
 use Rattle.window.specs.Page.{Page, pageOf, paint}
 use Rattle.window.specs.declared.Window.{Window}
 use Rattle.window.proofs.Paint.{paint-two}
-use Rattle.tape.specs.File.{Tape, kindAt, infoAt}
+use Rattle.tape.specs.File.{Tape}
 use Rattle.tape.specs.Name.{markerName}
-use Rattle.tape.specs.declared.kinds.Kind.{Kind}
-use Rattle.tape.specs.declared.Info.{Info}
-use Rattle.render.specs.Shape.{isRow, isElement, isTopLevelBlock}
+use Rattle.render.specs.Shape.{isRow, isTopLevelBlock}
 use Rattle.render.specs.Children.{firstText}
 use Rattle.render.specs.Note.{writtenCategory, stepText, firstWords, unlessEmpty, periphAlt}
-use Rattle.render.proofs.Shapes.{kind-is, kind-not}
 use Rattle.attrs.specs.Attr.{attributesOf}
 use Rattle.tags.specs.Items.{Attr, start, empty, close, line, valueOf, attrBytes, attrsBytes, bytesOf}
 use Rattle.tags.specs.Names.{nameOf}
@@ -33,34 +30,9 @@ use Rattle.events.specs.Emit.{emit, emitAll}
 use Rattle.sink.specs.Desk.{windowIn, overBy, deskIn, putOn}
 use Rattle.sink.specs.declared.Sink.{Sink}
 use Rattle.sink.proofs.Chains.{paint-three, desk-item, on-line}
-use Rattle.blocks.specs.Blocks.{holderOf, isBlockOrRow, sidebarAttrs, periphAttrs, attrsOf, elementNo}
-use Rattle.blocks.specs.declared.Holder.the-variants.{Sidebar, Periph, Neither}
+use Rattle.holders.specs.Holders.{isBlockOrRow, sidebarAttrs, periphAttrs, attrsOf, elementNo}
 
--- ---- what a node holds blocks as
-
-module _ (t : Tape) (k : ℕ) {x : Bool} (ex : x ≡ isRow t k) where
-  pub holder-row : x ≡ true → Neither ≡ holderOf t k
-  unfolding holderOf
-  holder-row h = rw (sym ex ∙ h)
-
-  module _ (hx : x ≡ false) {z : Kind} (ek : z .code ≡ kindAt t k) where
-    pub holder-chapter : z .code ≡ 6 → Neither ≡ holderOf t k
-    unfolding holderOf
-    holder-chapter h = rw (sym ex ∙ hx, kind-is t k ek 6 h)
-
-    module _ (n₆ : z .code ≡ 6 → ⊥) {i : Info} (ei : i ≡ infoAt t k) {y : Bool} (ey : y ≡ isElement 1 i) where
-      pub holder-sidebar : y ≡ true → Sidebar ≡ holderOf t k
-      unfolding holderOf
-      holder-sidebar h = rw (sym ex ∙ hx, kind-not t k ek 6 n₆, ← ei, sym ey ∙ h)
-
-      module _ (hy : y ≡ false) {v : Bool} (ev : v ≡ isElement 2 i) where
-        pub holder-periph : v ≡ true → Periph ≡ holderOf t k
-        unfolding holderOf
-        holder-periph h = rw (sym ex ∙ hx, kind-not t k ek 6 n₆, ← ei, sym ey ∙ hy, sym ev ∙ h)
-
-        pub holder-neither : v ≡ false → Neither ≡ holderOf t k
-        unfolding holderOf
-        holder-neither h = rw (sym ex ∙ hx, kind-not t k ek 6 n₆, ← ei, sym ey ∙ hy, sym ev ∙ h)
+-- ---- what a list is searched for
 
 module _ (t : Tape) (k : ℕ) {x : Bool} (ex : x ≡ isTopLevelBlock t k) where
   pub block-or : x ≡ true → true ≡ isBlockOrRow t k

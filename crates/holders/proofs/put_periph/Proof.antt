@@ -1,7 +1,7 @@
-use Rattle.blocks.proofs.Tags.{periph-put}
+use Rattle.holders.proofs.Tags.{periph-put}
 use borrow.Author.Needs.{needs}
-use Rattle.blocks.proofs.put_periph.Statement.{statement}
-use Rattle.blocks.proofs.put_periph.Tie as tie
+use Rattle.holders.proofs.put_periph.Statement.{statement}
+use Rattle.holders.proofs.put_periph.Tie as tie
 
 slice-aggregate-put-run : tie.Need-slice-aggregate-put-run
 slice-aggregate-put-run c = search needs

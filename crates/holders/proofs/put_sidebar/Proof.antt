@@ -1,7 +1,7 @@
-use Rattle.blocks.proofs.Tags.{sidebar-put}
+use Rattle.holders.proofs.Tags.{sidebar-put}
 use borrow.Author.Needs.{needs}
-use Rattle.blocks.proofs.put_sidebar.Statement.{statement}
-use Rattle.blocks.proofs.put_sidebar.Tie as tie
+use Rattle.holders.proofs.put_sidebar.Statement.{statement}
+use Rattle.holders.proofs.put_sidebar.Tie as tie
 
 slice-aggregate-put-style : tie.Need-slice-aggregate-put-style
 slice-aggregate-put-style c = search needs

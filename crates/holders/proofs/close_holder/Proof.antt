@@ -1,7 +1,7 @@
-use Rattle.blocks.proofs.Tags.{side-closed, peri-closed}
+use Rattle.holders.proofs.Tags.{side-closed, peri-closed}
 use borrow.Author.Needs.{needs}
-use Rattle.blocks.proofs.close_holder.Statement.{statement}
-use Rattle.blocks.proofs.close_holder.Tie as tie
+use Rattle.holders.proofs.close_holder.Statement.{statement}
+use Rattle.holders.proofs.close_holder.Tie as tie
 
 line-requires : tie.Need-line-requires
 line-requires c κs = search needs

@@ -4,11 +4,11 @@ use Rattle.tape.specs.Tree.{left}
 use Rattle.tape.proofs.Walk.{left-turn}
 use Rattle.lists.specs.Span.{nodesIn}
 use Rattle.render.specs.First.{any}
-use Rattle.blocks.specs.Blocks.{isBlockOrRow}
-use Rattle.blocks.proofs.Finds.{has-ended, has-cut, has-skipped, has-found, has-past}
+use Rattle.holders.specs.Holders.{isBlockOrRow}
+use Rattle.holders.proofs.Finds.{has-ended, has-cut, has-skipped, has-found, has-past}
 use borrow.Author.Needs.{needs}
-use Rattle.blocks.proofs.has_block.Statement.{statement}
-use Rattle.blocks.proofs.has_block.Tie as tie
+use Rattle.holders.proofs.has_block.Statement.{statement}
+use Rattle.holders.proofs.has_block.Tie as tie
 
 abbrev Inv-loop : tie.InvT-loop
 Inv-loop file tape span step₀ step = any (isBlockOrRow (tapeIn tape file)) (nodesIn (tapeIn tape file) span step) ≡ any (isBlockOrRow (tapeIn tape file)) (nodesIn (tapeIn tape file) span step₀)

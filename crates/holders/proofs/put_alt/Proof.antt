@@ -1,7 +1,7 @@
-use Rattle.blocks.proofs.Tags.{alt-none, alt-some}
+use Rattle.holders.proofs.Tags.{alt-none, alt-some}
 use borrow.Author.Needs.{needs}
-use Rattle.blocks.proofs.put_alt.Statement.{statement}
-use Rattle.blocks.proofs.put_alt.Tie as tie
+use Rattle.holders.proofs.put_alt.Statement.{statement}
+use Rattle.holders.proofs.put_alt.Tie as tie
 
 leading-text-requires : tie.Need-leading-text-requires
 leading-text-requires c κs = search needs
