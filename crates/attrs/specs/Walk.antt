@@ -82,8 +82,8 @@ remaining t marker a =
     map (keyedFor marker) (pairsIn (bytesOf (t .source) (a .rest))) ++ pairsAlong t marker (walkFrom t (a .next))
 
 -- a walk before the first attribute: nothing is left of a body, and the first child is next
-unfoldable pub attrsOf : Tape → ℕ → Attrs
-attrsOf t k = record { rest = record { start = 0; len = 0 }; next = firstChild t k }
+unfoldable pub attrsStart : Tape → ℕ → Attrs
+attrsStart t k = record { rest = record { start = 0; len = 0 }; next = firstChild t k }
 
 -- an answer: one attribute and those behind it
 unfoldable pub nextList : Tape → Bytes → Next → List Pair

@@ -16,7 +16,7 @@ ghost use Rattle.words.specs.Words.{words as wordsOf, lastOf, bytesOf};
 ghost use Rattle.words.specs.declared.Set.the-variants.{Unicode};
 ghost use Rattle.tape.specs.File.{tapeIn, textAt};
 ghost use Rattle.attrs.specs.Attr.{closesAt, quotedLen, pieceLen, valueAt, pairsIn, isWordMarker, defaultKey, keyFor, keyedFor, attributeBody, bodyPairs, pairsAt, pairsAlong, attributesOf};
-ghost use Rattle.attrs.specs.Walk.{fixedKeys, Spot, keyOf, FirstOf, itemList, gotList, remaining, attrsOf, nextList, firstOf, soughtOf, KeyPart};
+ghost use Rattle.attrs.specs.Walk.{fixedKeys, Spot, keyOf, FirstOf, itemList, gotList, remaining, attrsStart, nextList, firstOf, soughtOf, KeyPart};
 ghost use Rattle.tape.specs.Tree.{walkFrom};
 
 // The keys that stand in no source, one behind the other.
@@ -401,7 +401,7 @@ impl Attrs {
     // The attributes of a node, from the first on.
     pub fn of(file: &[u8], tape: Sections, c: Cursor) -> Self
         ensures { λ r. ⌜ ((m : Bytes) → remaining (tapeIn tape (now (file .entry))) m r ≡ attributesOf (tapeIn tape (now (file .entry))) (c .at) m) ⌝ }
-        ensures { λ r. ⌜ r ≡ attrsOf (tapeIn tape (now (file .entry))) (c .at) ⌝ }
+        ensures { λ r. ⌜ r ≡ attrsStart (tapeIn tape (now (file .entry))) (c .at) ⌝ }
     {
         Attrs {
             rest: Part { start: 0, len: 0 },

@@ -5,7 +5,7 @@ use Prim.Native.Nat.{ℕ, zero, suc}
 use Rattle.parts.specs.Bytes.{Bytes, b, same, begins}
 use Rattle.tags.specs.Names.{which, elementAt}
 use Rattle.tags.specs.Form.{plain, escapeAt, keyByte, ok, run, pairAt, pairsAt, pairsRow, closeHead, openHead, textHead, headAt, tailAt, ended, tagged, headed, next, tokensAt, tokensFrom, tokens}
-use Rattle.checker.specs.View.{keyOf, notedBy, noted, markOn, view}
+use Rattle.checker.specs.View.{idKeyOf, notedBy, noted, markOn, view}
 use Rattle.checker.specs.Steps.{rise, broke, push, pop, growIn, grow, turn, missed, chapterTo, verseTo, isShut, isMilestone, pairUp}
 use Rattle.checker.specs.Check.{stepOn, foldOn, noneOpen, oneTree, pairedOff, verdictOf, settle, foldVerdict}
 use Rattle.checker.specs.Answer.{Answer, answerOf}
@@ -51,7 +51,7 @@ table =
 
 -- the answer to a text, by computation: every definition that it rests on is opened by this one name
 unfoldable pub computed : Bytes → Answer
-unfolding plain escapeAt keyByte ok run which elementAt pairAt pairsAt pairsRow closeHead openHead textHead headAt tailAt ended tagged headed next tokensAt tokensFrom tokens notedBy noted markOn view rise broke push pop growIn grow turn missed chapterTo verseTo isShut isMilestone pairUp stepOn foldOn noneOpen oneTree pairedOff verdictOf settle foldVerdict same begins answerOf keyOf
+unfolding plain escapeAt keyByte ok run which elementAt pairAt pairsAt pairsRow closeHead openHead textHead headAt tailAt ended tagged headed next tokensAt tokensFrom tokens notedBy noted markOn view rise broke push pop growIn grow turn missed chapterTo verseTo isShut isMilestone pairUp stepOn foldOn noneOpen oneTree pairedOff verdictOf settle foldVerdict same begins answerOf idKeyOf
 computed s = answerOf (foldVerdict s)
 
 -- what is computed is document 01's answer
@@ -96,5 +96,5 @@ EachSpot (r ∷ rs) =
     (brokenPlace (foldVerdict (r .text)) (r .text) ≡ r .place) × (lineOf (r .text) (r .place) ≡ r .line) × EachSpot rs
 
 pub places : EachSpot spots
-unfolding plain escapeAt keyByte ok run which elementAt pairAt pairsAt pairsRow closeHead openHead textHead headAt tailAt ended tagged headed next tokensAt tokensFrom tokens notedBy noted markOn view rise broke push pop growIn grow turn missed chapterTo verseTo isShut isMilestone pairUp stepOn foldOn noneOpen oneTree pairedOff verdictOf settle foldVerdict same begins keyOf isBroken brokenAt brokenFrom brokenPlace lineEnd lineEnds lineOf
+unfolding plain escapeAt keyByte ok run which elementAt pairAt pairsAt pairsRow closeHead openHead textHead headAt tailAt ended tagged headed next tokensAt tokensFrom tokens notedBy noted markOn view rise broke push pop growIn grow turn missed chapterTo verseTo isShut isMilestone pairUp stepOn foldOn noneOpen oneTree pairedOff verdictOf settle foldVerdict same begins idKeyOf isBroken brokenAt brokenFrom brokenPlace lineEnd lineEnds lineOf
 places = (refl, refl, (refl, refl, (refl, refl, (refl, refl, (refl, refl, (refl, refl, (refl, refl, (refl, refl, tt))))))))

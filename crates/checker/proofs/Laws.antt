@@ -16,7 +16,7 @@ use Rattle.tags.specs.declared.Tail.{Tail}
 use Rattle.tags.specs.declared.Tail.the-variants.{Open, Empty, Neither}
 use Rattle.tags.proofs.Laws.{pair-fits, pairs-by}
 use Rattle.tags.proofs.Tokens.{Within, head-within, tailLen, tail-fits}
-use Rattle.checker.specs.View.{Mark, bare, keyOf, notedBy, noted, markOn, words, opened, closed, single, view}
+use Rattle.checker.specs.View.{Mark, bare, idKeyOf, notedBy, noted, markOn, words, opened, closed, single, view}
 use Rattle.checker.specs.Code.{markIn, bytesOf, viewIn, sight, brief, sightIn}
 use Rattle.checker.specs.declared.Part.{Part}
 use Rattle.checker.specs.declared.IdKey.{IdKey}
@@ -106,23 +106,23 @@ module _ (v : Part) {f : Form} (k : IdKey) (x : List ℕ) where
 
 pub ruleset formed-laws = (formed-bare-end, formed-bare-start, formed-bare-plain, formed-plain-end, formed-plain-start, formed-plain, formed-start-end, formed-start-start, formed-start, formed-end, formed-other)
 
-pub with-attr : {k : IdKey} (m : Mark) {n : Mark} (key v : List ℕ) → k ≡ keyOf key → n ≡ notedBy m k v → n ≡ noted m (record { key = key; value = v })
+pub with-attr : {k : IdKey} (m : Mark) {n : Mark} (key v : List ℕ) → k ≡ idKeyOf key → n ≡ notedBy m k v → n ≡ noted m (record { key = key; value = v })
 unfolding noted
 with-attr m key v e h = rw (← e) h
 
 -- the key by two tests
 module _ (key : Bytes) {e : Bool} (ee : e ≡ same key (b "eid")) where
-  pub key-eid : e ≡ true → Eid ≡ keyOf key
-  unfolding keyOf
+  pub key-eid : e ≡ true → Eid ≡ idKeyOf key
+  unfolding idKeyOf
   key-eid h = rw (← ee, h)
 
   module _ {s : Bool} (es : s ≡ same key (b "sid")) (h : e ≡ false) where
-    pub key-sid : s ≡ true → Sid ≡ keyOf key
-    unfolding keyOf
+    pub key-sid : s ≡ true → Sid ≡ idKeyOf key
+    unfolding idKeyOf
     key-sid l = rw (← ee, h, ← es, l)
 
-    pub key-another : s ≡ false → Another ≡ keyOf key
-    unfolding keyOf
+    pub key-another : s ≡ false → Another ≡ idKeyOf key
+    unfolding idKeyOf
     key-another l = rw (← ee, h, ← es, l)
 
 -- ---- tokens

@@ -8,7 +8,7 @@ use native.Mathlib.Omega.{arith}
 use Rattle.parts.specs.Bytes.{Bytes, b, same}
 use Rattle.parts.proofs.Laws.{same-true, same-refl}
 use Rattle.tags.specs.Form.{Pair}
-use Rattle.checker.specs.View.{Mark, bare, plain, other, start, ends, keyOf, notedBy, noted, markOn}
+use Rattle.checker.specs.View.{Mark, bare, plain, other, start, ends, idKeyOf, notedBy, noted, markOn}
 use Rattle.checker.specs.declared.IdKey.{IdKey}
 use Rattle.checker.specs.declared.IdKey.the-variants.{Eid, Sid, Another}
 use Rattle.checker.specs.Words.{No, none, more, IsEnd, IsStart}
@@ -28,14 +28,14 @@ key-other a k h = go (same (a .key) k) refl
     go true e = absurd (h (same-true (a .key) k e))
 
 other-stays : (ps : List Pair) → markOn other ps ≡ other
-unfolding markOn noted notedBy keyOf
+unfolding markOn noted notedBy idKeyOf
 other-stays [] = refl
 other-stays (a ∷ ps) = other-stays ps
 
 -- ---- behind a start
 
 start-says : (j i : Bytes) (ps : List Pair) → markOn (start j) ps ≡ start i → (j ≡ i) × No (b "sid") ps × No (b "eid") ps
-unfolding markOn noted notedBy keyOf
+unfolding markOn noted notedBy idKeyOf
 start-says j i [] e = let k : j ≡ i = cc in (k, none, none)
 start-says j i (a ∷ ps) e = go (same (a .key) (b "eid")) refl (same (a .key) (b "sid")) refl e (start-says j i ps)
   where
@@ -48,7 +48,7 @@ start-says j i (a ∷ ps) e = go (same (a .key) (b "eid")) refl (same (a .key) (
         (w .0, more (key-not a (b "sid") q) (w .1), more (key-not a (b "eid") p) (w .2))
 
 start-keeps : (i : Bytes) (ps : List Pair) → No (b "sid") ps → No (b "eid") ps → markOn (start i) ps ≡ start i
-unfolding markOn noted notedBy keyOf
+unfolding markOn noted notedBy idKeyOf
 start-keeps i [] none none = refl
 start-keeps i (a ∷ ps) (more s ss) (more e es) = rw (key-other a (b "eid") e, key-other a (b "sid") s) (start-keeps i ps ss es)
 
@@ -77,7 +77,7 @@ one-more a i ps p q w =
     }
 
 plain-start : (i : Bytes) (ps : List Pair) → markOn plain ps ≡ start i → IsStart ps i
-unfolding markOn noted notedBy keyOf
+unfolding markOn noted notedBy idKeyOf
 plain-start i [] e = absurd (let no-way : _≡_ {A = ℕ} 0 1 = cc in omega arith)
 plain-start i (a ∷ ps) e = go (same (a .key) (b "eid")) refl (same (a .key) (b "sid")) refl e (plain-start i ps)
   where
@@ -88,12 +88,12 @@ plain-start i (a ∷ ps) e = go (same (a .key) (b "eid")) refl (same (a .key) (b
     go false p false q e f = one-more a i ps p q (f e)
 
 end-says : (j : Bytes) (ps : List Pair) (m : Mark) → markOn (ends j) ps ≡ m → (m ≡ other → ⊥) → (ps ≡ []) × (ends j ≡ m)
-unfolding markOn noted notedBy keyOf
+unfolding markOn noted notedBy idKeyOf
 end-says j [] m e h = (refl, e)
 end-says j (a ∷ ps) m e h = absurd (h (sym e ∙ other-stays ps))
 
 start-no-end : (i j : Bytes) (ps : List Pair) → markOn (start j) ps ≡ ends i → ⊥
-unfolding markOn noted notedBy keyOf
+unfolding markOn noted notedBy idKeyOf
 start-no-end i j [] e = let no-way : _≡_ {A = ℕ} 0 1 = cc in omega arith
 start-no-end i j (a ∷ ps) e = go (same (a .key) (b "eid")) (same (a .key) (b "sid")) e (start-no-end i j ps)
   where
@@ -103,7 +103,7 @@ start-no-end i j (a ∷ ps) e = go (same (a .key) (b "eid")) (same (a .key) (b "
     go false false e f = f e
 
 plain-no-end : (i : Bytes) (ps : List Pair) → markOn plain ps ≡ ends i → ⊥
-unfolding markOn noted notedBy keyOf
+unfolding markOn noted notedBy idKeyOf
 plain-no-end i [] e = let no-way : _≡_ {A = ℕ} 0 1 = cc in omega arith
 plain-no-end i (a ∷ ps) e = go (same (a .key) (b "eid")) (same (a .key) (b "sid")) e (plain-no-end i ps)
   where
@@ -113,23 +113,23 @@ plain-no-end i (a ∷ ps) e = go (same (a .key) (b "eid")) (same (a .key) (b "si
     go false false e f = f e
 
 quiet-plain : (a : Pair) → (a .key ≡ b "sid" → ⊥) → (a .key ≡ b "eid" → ⊥) → noted plain a ≡ plain
-unfolding noted notedBy keyOf
+unfolding noted notedBy idKeyOf
 quiet-plain a s e = rw (key-other a (b "eid") e, key-other a (b "sid") s)
 
 quiet-bare : (a : Pair) → (a .key ≡ b "sid" → ⊥) → (a .key ≡ b "eid" → ⊥) → noted bare a ≡ plain
-unfolding noted notedBy keyOf
+unfolding noted notedBy idKeyOf
 quiet-bare a s e = rw (key-other a (b "eid") e, key-other a (b "sid") s)
 
 plain-keeps : (i : Bytes) (c z : List Pair) → No (b "sid") c → No (b "eid") c → No (b "sid") z → No (b "eid") z
     → markOn plain (c ++ (record { key = b "sid"; value = i } ∷ z)) ≡ start i
-unfolding markOn noted notedBy keyOf same
+unfolding markOn noted notedBy idKeyOf same
 plain-keeps i [] z none none s e = start-keeps i z s e
 plain-keeps i (a ∷ c) z (more s ss) (more e es) sz ez =
     ap (λ (m : Mark). markOn m (c ++ (record { key = b "sid"; value = i } ∷ z))) (quiet-plain a s e) ∙ plain-keeps i c z ss es sz ez
 
 -- a start: exactly where it has one `sid` and no `eid`
 pub start-exact : (ps : List Pair) (i : Bytes) → (markOn bare ps ≡ start i) ↔ IsStart ps i
-unfolding markOn noted notedBy keyOf same
+unfolding markOn noted notedBy idKeyOf same
 start-exact ps i = (to ps, from)
   where
     to : (ps : List Pair) → markOn bare ps ≡ start i → IsStart ps i
@@ -154,7 +154,7 @@ start-exact ps i = (to ps, from)
 
 -- an end: exactly where `eid` is its one attribute
 pub end-exact : (ps : List Pair) (i : Bytes) → (markOn bare ps ≡ ends i) ↔ IsEnd ps i
-unfolding markOn noted notedBy keyOf same
+unfolding markOn noted notedBy idKeyOf same
 end-exact ps i = (to ps, from)
   where
     to : (ps : List Pair) → markOn bare ps ≡ ends i → IsEnd ps i

@@ -14,8 +14,8 @@ pub data Mark : Type 0 where
   start ends : Bytes → Mark
 
 -- whether a key is `eid`, `sid` or another
-unfoldable pub keyOf : Bytes → IdKey
-keyOf k = cond (same k (b "eid")) Eid (cond (same k (b "sid")) Sid Another)
+unfoldable pub idKeyOf : Bytes → IdKey
+idKeyOf k = cond (same k (b "eid")) Eid (cond (same k (b "sid")) Sid Another)
 
 -- a tag with one attribute more, by its key and its value: `eid` makes an end if it is the only one, the first `sid` a start
 unfoldable pub notedBy : Mark → IdKey → Bytes → Mark
@@ -33,7 +33,7 @@ notedBy other k v = other
 
 -- a tag with one attribute more
 unfoldable pub noted : Mark → Pair → Mark
-noted m a = notedBy m (keyOf (a .key)) (a .value)
+noted m a = notedBy m (idKeyOf (a .key)) (a .value)
 
 -- a tag with a row of attributes more
 unfoldable pub markOn : Mark → List Pair → Mark

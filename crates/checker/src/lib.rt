@@ -9,7 +9,7 @@ ghost use lib.Signed.{mag, ltZ};
 ghost use mir.Syntax.{w64};
 ghost use mir.Val.{SFits};
 ghost use Rattle.tags.specs.Form.{pairsRow, tagged, next, tokensFrom};
-ghost use Rattle.checker.specs.View.{keyOf, bare, notedBy, noted, markOn, single as singleV};
+ghost use Rattle.checker.specs.View.{idKeyOf, bare, notedBy, noted, markOn, single as singleV};
 ghost use Rattle.checker.specs.Answer.{answerOf};
 ghost use Rattle.checker.specs.Words.{highest, Judged};
 ghost use Rattle.checker.specs.Steps.{rise, broke, push, pop, grow, turn, missed, chapterTo, verseTo, isShut, isHeld, isMilestone, pairUp};
@@ -127,7 +127,7 @@ fn part_of(s: &[u8], p: Part) -> &[u8]
 }
 
 fn key_of(key: &[u8]) -> IdKey
-    ensures { λ r. ⌜ r ≡ keyOf (now (key .entry)) ⌝ }
+    ensures { λ r. ⌜ r ≡ idKeyOf (now (key .entry)) ⌝ }
 {
     if same(key, b"eid") {
         return IdKey::Eid;

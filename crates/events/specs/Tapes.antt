@@ -249,5 +249,5 @@ markers =
     ∷ []
 
 -- Root and its children
-abbrev pub tapeOf : List Piece → Bytes
-tapeOf = tape markers
+abbrev pub fileOf : List Piece → Bytes
+fileOf = tape markers

@@ -38,8 +38,8 @@ unfoldable pub toCome : Tape → Number → Bytes
 toCome t n = collapse (n .begun) (n .gap) (bytesOf (t .source) (n .rest) ++ textsOf t (walkFrom t (n .next)))
 
 -- a walk before a number's first byte: no text is begun, and the first child is next
-unfoldable pub walkOf : Tape → ℕ → Number
-walkOf t k = record { rest = record { start = 0; len = 0 }; next = firstChild t k; begun = false; gap = false }
+unfoldable pub numberStart : Tape → ℕ → Number
+numberStart t k = record { rest = record { start = 0; len = 0 }; next = firstChild t k; begun = false; gap = false }
 
 -- an answer: a piece, with or without a space in front, and what comes behind it
 unfoldable pub pieceList : Tape → Piece → Bytes

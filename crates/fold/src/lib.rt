@@ -14,7 +14,7 @@ ghost use Rattle.words.specs.Words.{bytesOf};
 ghost use Rattle.tape.specs.File.{tapeIn};
 ghost use Rattle.lean.specs.Lean.{Solids};
 ghost use Rattle.fold.specs.Fold.{slotBy, slotOf, free as freeOf, claimOf, ownText, numberIn};
-ghost use Rattle.fold.specs.Number.{collapse, runList, toCome, walkOf, pieceList, wordSome, pieceSome};
+ghost use Rattle.fold.specs.Number.{collapse, runList, toCome, numberStart, pieceList, wordSome, pieceSome};
 
 // What a node behind an anchor is: nothing, a number that folds, or the end of the fold.
 pub enum Claim {
@@ -171,7 +171,7 @@ impl Number {
     // The number of a marker, from its first byte on.
     pub fn of(file: &[u8], tape: Sections, c: Cursor) -> Self
         ensures { λ r. ⌜ toCome (tapeIn tape (now (file .entry))) r ≡ numberIn (tapeIn tape (now (file .entry))) (c .at) ⌝ }
-        ensures { λ r. ⌜ r ≡ walkOf (tapeIn tape (now (file .entry))) (c .at) ⌝ }
+        ensures { λ r. ⌜ r ≡ numberStart (tapeIn tape (now (file .entry))) (c .at) ⌝ }
     {
         Number {
             rest: Part { start: 0, len: 0 },

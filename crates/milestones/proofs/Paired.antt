@@ -9,7 +9,7 @@ use native.Mathlib.Omega.{arith}
 use lib.Dec.{eqb}
 use Rattle.parts.specs.Bytes.{Bytes, b, same}
 use Rattle.tags.specs.Items.{Item, start, empty, close, text, line}
-use Rattle.checker.specs.View.{Mark, start as starts, ends, bare, View, single, keyOf, notedBy, noted, markOn, view}
+use Rattle.checker.specs.View.{Mark, start as starts, ends, bare, View, single, idKeyOf, notedBy, noted, markOn, view}
 use Rattle.checker.specs.Words.{Kind, Demand, startsIn}
 use Rattle.checker.specs.Steps.{Held, shut, held}
 use Rattle.checker.specs.Meaning.{since, Fits, of-words, of-open, of-close, of-single, chapter-start, chapter-end, verse-start, verse-end}
@@ -28,7 +28,7 @@ heldOf (some i) = held i
 -- a chapter's start, by its attributes
 chapter-seen : (code : Bytes) (n : ℕ) (alt published : Option Bytes)
     → view (tokenOf (empty 3 (chapterAttrs code n alt published))) ≡ single 3 (starts (chapterId code n))
-unfolding view tokenOf pairs chapterAttrs perhaps rawly escaped markOn noted notedBy keyOf same
+unfolding view tokenOf pairs chapterAttrs perhaps rawly escaped markOn noted notedBy idKeyOf same
 chapter-seen code n none none = refl
 chapter-seen code n none (some p) = refl
 chapter-seen code n (some a) none = refl
@@ -36,14 +36,14 @@ chapter-seen code n (some a) (some p) = refl
 
 verse-seen : (code : Bytes) (n : ℕ) (label : Bytes) (alt published : Option Bytes)
     → view (tokenOf (empty 4 (verseAttrs code n label alt published))) ≡ single 4 (starts (verseId code n label))
-unfolding view tokenOf pairs verseAttrs perhaps rawly escaped markOn noted notedBy keyOf same
+unfolding view tokenOf pairs verseAttrs perhaps rawly escaped markOn noted notedBy idKeyOf same
 verse-seen code n label none none = refl
 verse-seen code n label none (some p) = refl
 verse-seen code n label (some a) none = refl
 verse-seen code n label (some a) (some p) = refl
 
 end-seen : (k : ℕ) (i : Bytes) → view (tokenOf (empty k (rawly (b "eid") i ∷ []))) ≡ single k (ends i)
-unfolding view tokenOf pairs rawly markOn noted notedBy keyOf same
+unfolding view tokenOf pairs rawly markOn noted notedBy idKeyOf same
 end-seen k i = refl
 
 -- ---- rows of tags

@@ -14,7 +14,7 @@ use Rattle.parts.proofs.Laws.{drop-part, drop-at, first-turn, first-stop, first
 use Rattle.chars.specs.Escape.{special, escape, escapedByte}
 use Rattle.chars.proofs.Escapes.{escaped-plain}
 use Rattle.window.specs.Page.{Page, paint}
-use Rattle.window.specs.Plain.{anySpecial, plainLen, PlainTo, RunTo, entityOf, nameStart, nameEnd}
+use Rattle.window.specs.Plain.{anySpecial, plainLen, PlainTo, RunTo, entityOf, entityStart, entityEnd}
 use Rattle.window.proofs.Paint.{paint-two}
 
 -- ---- one byte
@@ -36,8 +36,8 @@ special-escaped attr x e = go (eqb x 60) (eqb x 62) (eqb x 38) (attr && eqb x 34
 abbrev names : Bytes
 names = b "&lt;&gt;&amp;&quot;"
 
-pub name-fits : (x : ℕ) {a e : ℕ} → a ≡ nameStart x → e ≡ nameEnd x → (a ≤ e) × (e ≤ 19)
-unfolding nameStart nameEnd
+pub name-fits : (x : ℕ) {a e : ℕ} → a ≡ entityStart x → e ≡ entityEnd x → (a ≤ e) × (e ≤ 19)
+unfolding entityStart entityEnd
 name-fits x ea ee = rw (ea, ee) (go (eqb x 60) (eqb x 62) (eqb x 38))
   where
     go : (p q r : Bool)
@@ -47,9 +47,9 @@ name-fits x ea ee = rw (ea, ee) (go (eqb x 60) (eqb x 62) (eqb x 38))
     go false false true = (omega arith, omega arith)
     go false false false = (omega arith, omega arith)
 
-pub name-part : (p : Page) {q : Page} (x : ℕ) {a e : ℕ} → a ≡ nameStart x → e ≡ nameEnd x
+pub name-part : (p : Page) {q : Page} (x : ℕ) {a e : ℕ} → a ≡ entityStart x → e ≡ entityEnd x
     → q ≡ paint p (take (e - a) (drop a names)) → q ≡ paint p (entityOf x)
-unfolding nameStart nameEnd entityOf
+unfolding entityStart entityEnd entityOf
 name-part p x ea ee eq = eq ∙ ap (paint p) (rw (ea, ee) (go (eqb x 60) (eqb x 62) (eqb x 38)))
   where
     go : (p q r : Bool)

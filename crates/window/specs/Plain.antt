@@ -33,9 +33,9 @@ unfoldable pub entityOf : ℕ → Bytes
 entityOf x = cond (eqb x 60) (b "&lt;") (cond (eqb x 62) (b "&gt;") (cond (eqb x 38) (b "&amp;") (b "&quot;")))
 
 -- where it starts in the row of all names
-unfoldable pub nameStart : ℕ → ℕ
-nameStart x = cond (eqb x 60) 0 (cond (eqb x 62) 4 (cond (eqb x 38) 8 13))
+unfoldable pub entityStart : ℕ → ℕ
+entityStart x = cond (eqb x 60) 0 (cond (eqb x 62) 4 (cond (eqb x 38) 8 13))
 
 -- where it ends there
-unfoldable pub nameEnd : ℕ → ℕ
-nameEnd x = cond (eqb x 60) 4 (cond (eqb x 62) 8 (cond (eqb x 38) 13 19))
+unfoldable pub entityEnd : ℕ → ℕ
+entityEnd x = cond (eqb x 60) 4 (cond (eqb x 62) 8 (cond (eqb x 38) 13 19))

@@ -8,7 +8,7 @@ ghost use Rattle.chars.specs.Escape.{special as isSpecial, escape};
 ghost use Rattle.chars.specs.Decimal.{decimal};
 ghost use Rattle.window.specs.Page.{pageOf, paint, stamp as stampOf};
 ghost use Rattle.window.specs.Lay.{lay, over};
-ghost use Rattle.window.specs.Plain.{anySpecial, plainLen, PlainTo, RunTo, nameStart, nameEnd, entityOf};
+ghost use Rattle.window.specs.Plain.{anySpecial, plainLen, PlainTo, RunTo, entityStart, entityEnd, entityOf};
 
 // How many bytes of the text are written, and which byte of it the buffer starts with.
 pub struct Window {
@@ -224,13 +224,13 @@ fn pick(t: bool, yes: usize, no: usize) -> usize
 
 // Where a byte's name starts and ends in the row of names.
 fn name_start(x: u8) -> usize
-    ensures { λ r. ⌜ r ≡ nameStart x ⌝ }
+    ensures { λ r. ⌜ r ≡ entityStart x ⌝ }
 {
     pick(x == b'<', 0, pick(x == b'>', 4, pick(x == b'&', 8, 13)))
 }
 
 fn name_end(x: u8) -> usize
-    ensures { λ r. ⌜ r ≡ nameEnd x ⌝ }
+    ensures { λ r. ⌜ r ≡ entityEnd x ⌝ }
 {
     pick(x == b'<', 4, pick(x == b'>', 8, pick(x == b'&', 13, 19)))
 }

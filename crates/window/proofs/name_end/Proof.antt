@@ -1,4 +1,4 @@
-use Rattle.window.specs.Plain.{nameEnd}
+use Rattle.window.specs.Plain.{entityEnd}
 use borrow.Author.Needs.{needs}
 use Rattle.window.proofs.name_end.Statement.{statement}
 use Rattle.window.proofs.name_end.Tie as tie
@@ -13,7 +13,7 @@ pick-requires-3 : tie.Need-pick-requires-3
 pick-requires-3 c κs = search needs
 
 returns : tie.Need-returns
-unfolding nameEnd
+unfolding entityEnd
 returns c = cc
 
 pub name-end-spec : {M : Type 1} → statement M

@@ -1,4 +1,4 @@
-use Rattle.window.specs.Plain.{nameStart}
+use Rattle.window.specs.Plain.{entityStart}
 use borrow.Author.Needs.{needs}
 use Rattle.window.proofs.name_start.Statement.{statement}
 use Rattle.window.proofs.name_start.Tie as tie
@@ -13,7 +13,7 @@ pick-requires-3 : tie.Need-pick-requires-3
 pick-requires-3 c κs = search needs
 
 returns : tie.Need-returns
-unfolding nameStart
+unfolding entityStart
 returns c = cc
 
 pub name-start-spec : {M : Type 1} → statement M

@@ -1,4 +1,4 @@
-use Rattle.attrs.specs.Walk.{attrsOf}
+use Rattle.attrs.specs.Walk.{attrsStart}
 use Rattle.attrs.proofs.Walks.{walk-starts}
 use borrow.Author.Needs.{needs}
 use Rattle.attrs.proofs.Attrs.of.Statement.{statement}
@@ -8,7 +8,7 @@ first-child-requires : tie.Need-first-child-requires
 first-child-requires c κs = search needs
 
 returns : tie.Need-returns
-unfolding attrsOf
+unfolding attrsStart
 returns c = (search walk-starts, rw (c .first-child .ensures))
 
 pub of-spec : {M : Type 1} → statement M
