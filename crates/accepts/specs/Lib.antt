@@ -1,0 +1,2 @@
+pub mod Proviso
+pub mod Sound

@@ -1,0 +1,1 @@
+// The grammar of the events of the walk. It holds no code.
