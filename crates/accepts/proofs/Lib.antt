@@ -4,3 +4,6 @@ pub mod Free
 pub mod Legal
 pub mod Agree
 pub mod Accepted
+pub mod Keys
+pub mod FreeKeys
+pub mod Kept
