@@ -7,3 +7,4 @@ pub mod Accepted
 pub mod Keys
 pub mod FreeKeys
 pub mod Kept
+pub mod Starts

@@ -1,2 +1,3 @@
 pub mod Proviso
 pub mod Sound
+pub mod Ends

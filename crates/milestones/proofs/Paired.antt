@@ -26,7 +26,7 @@ heldOf none = shut
 heldOf (some i) = held i
 
 -- a chapter's start, by its attributes
-chapter-seen : (code : Bytes) (n : ℕ) (alt published : Option Bytes)
+pub chapter-seen : (code : Bytes) (n : ℕ) (alt published : Option Bytes)
     → view (tokenOf (empty 3 (chapterAttrs code n alt published))) ≡ single 3 (starts (chapterId code n))
 unfolding view tokenOf pairs chapterAttrs perhaps rawly escaped markOn noted notedBy idKeyOf same
 chapter-seen code n none none = refl
@@ -34,7 +34,7 @@ chapter-seen code n none (some p) = refl
 chapter-seen code n (some a) none = refl
 chapter-seen code n (some a) (some p) = refl
 
-verse-seen : (code : Bytes) (n : ℕ) (label : Bytes) (alt published : Option Bytes)
+pub verse-seen : (code : Bytes) (n : ℕ) (label : Bytes) (alt published : Option Bytes)
     → view (tokenOf (empty 4 (verseAttrs code n label alt published))) ≡ single 4 (starts (verseId code n label))
 unfolding view tokenOf pairs verseAttrs perhaps rawly escaped markOn noted notedBy idKeyOf same
 verse-seen code n label none none = refl
@@ -42,7 +42,7 @@ verse-seen code n label none (some p) = refl
 verse-seen code n label (some a) none = refl
 verse-seen code n label (some a) (some p) = refl
 
-end-seen : (k : ℕ) (i : Bytes) → view (tokenOf (empty k (rawly (b "eid") i ∷ []))) ≡ single k (ends i)
+pub end-seen : (k : ℕ) (i : Bytes) → view (tokenOf (empty k (rawly (b "eid") i ∷ []))) ≡ single k (ends i)
 unfolding view tokenOf pairs rawly markOn noted notedBy idKeyOf same
 end-seen k i = refl
 
