@@ -8,3 +8,4 @@ pub mod Keys
 pub mod FreeKeys
 pub mod Kept
 pub mod Starts
+pub mod Ends

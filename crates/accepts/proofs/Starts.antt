@@ -1,6 +1,6 @@
 -- What is said of each chapter and verse start among items, by places and by events.
 use mathlib.Core.Path.{_≡_, refl, sym, ap, _∙_, subst}
-use mathlib.Core.List.{List, [], _∷_, _++_, append-assoc, append-nil}
+use mathlib.Core.List.{List, [], _∷_, _++_, append-assoc}
 use mathlib.Core.Logic.{inl, inr}
 use mathlib.Core.Option.{Option, none as nothing, some}
 use Prim.Native.Nat.{ℕ}
@@ -42,6 +42,22 @@ end-no-start k i j h =
 book-plain : Kind 2 → ⊥
 book-plain (inl e) = omega arith
 book-plain (inr e) = omega arith
+
+-- ---- what pairing makes of one event, and what follows
+
+-- what a chapter writes
+pub chapter-items : (s : State) (n : ℕ) (alt published : Option Bytes) (es : List Event) (js : List Item)
+    → paired s (chapter n alt published ∷ es) ++ js
+    ≡ endOf 4 (s .verse) ++ (endOf 3 (s .chapter) ++ empty 3 (chapterAttrs (s .book) n alt published) ∷ (paired (after s (chapter n alt published)) es ++ js))
+unfolding paired itemsOf
+chapter-items s n alt published es js = simp append-assoc
+
+-- what a verse writes
+pub verse-items : (s : State) (label : Bytes) (alt published : Option Bytes) (es : List Event) (js : List Item)
+    → paired s (verse label alt published ∷ es) ++ js
+    ≡ endOf 4 (s .verse) ++ empty 4 (verseAttrs (s .book) (s .number) label alt published) ∷ (paired (after s (verse label alt published)) es ++ js)
+unfolding paired itemsOf
+verse-items s label alt published es js = simp append-assoc
 
 -- ---- each start
 
@@ -113,12 +129,12 @@ module _ (P : ℕ → List Attr → Bytes → List Item → Type 0) where
   each-paired s [] js p f h = rw append-assoc (each-end 4 (s .verse) _ (each-end 3 (s .chapter) js h))
   each-paired s (item i ∷ es) js p f h = each-plain i (paired s es ++ js) (p .0) (each-paired s es js (p .1) f h)
   each-paired s (chapter n alt published ∷ es) js p f h =
-      rw (append-assoc, append-assoc, append-assoc)
+      subst Each (sym (chapter-items s n alt published es js))
       (each-end 4 (s .verse) _
       (each-end 3 (s .chapter) _
       (each-tag 3 _ _ _ (chapter-seen (s .book) n alt published) (f .0) (each-paired (after s (chapter n alt published)) es js p (f .1) h))))
   each-paired s (verse label alt published ∷ es) js p f h =
-      rw (append-assoc, append-assoc)
+      subst Each (sym (verse-items s label alt published es js))
       (each-end 4 (s .verse) _
       (each-tag 4 _ _ _ (verse-seen (s .book) (s .number) label alt published) (f .0) (each-paired (after s (verse label alt published)) es js p (f .1) h)))
   each-paired s (book code rest ∷ es) js p f h =
@@ -148,16 +164,10 @@ module _ (P : ℕ → List Attr → Bytes → List Item → Type 0) where
   each-id s [] js h = tt
   each-id s (item i ∷ es) js h = each-id s es js (past-plain i (paired s es ++ js) h)
   each-id s (chapter n alt published ∷ es) js h =
-      let z : List Item = paired (after s (chapter n alt published)) es ++ js in
-      let x : Item = empty 3 (chapterAttrs (s .book) n alt published) in
-      let e : (endOf 4 (s .verse) ++ (endOf 3 (s .chapter) ++ x ∷ [])) ++ paired (after s (chapter n alt published)) es ++ js ≡ endOf 4 (s .verse) ++ (endOf 3 (s .chapter) ++ x ∷ z) = simp append-assoc in
-      let g = past-end 3 (s .chapter) (x ∷ z) (past-end 4 (s .verse) _ (subst Each e h)) in
+      let g = past-end 3 (s .chapter) _ (past-end 4 (s .verse) _ (subst Each (chapter-items s n alt published es js) h)) in
       (g .0 (inl refl) _ (seen-start 3 _ _ (chapter-seen (s .book) n alt published)), each-id (after s (chapter n alt published)) es js (g .1))
   each-id s (verse label alt published ∷ es) js h =
-      let z : List Item = paired (after s (verse label alt published)) es ++ js in
-      let x : Item = empty 4 (verseAttrs (s .book) (s .number) label alt published) in
-      let e : (endOf 4 (s .verse) ++ x ∷ []) ++ paired (after s (verse label alt published)) es ++ js ≡ endOf 4 (s .verse) ++ x ∷ z = simp append-assoc in
-      let g = past-end 4 (s .verse) (x ∷ z) (subst Each e h) in
+      let g = past-end 4 (s .verse) _ (subst Each (verse-items s label alt published es js) h) in
       (g .0 (inr refl) _ (seen-start 4 _ _ (verse-seen (s .book) (s .number) label alt published)), each-id (after s (verse label alt published)) es js (g .1))
   each-id s (book code rest ∷ es) js h =
       each-id (after s (book code rest)) es js
