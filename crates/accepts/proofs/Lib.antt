@@ -9,3 +9,4 @@ pub mod FreeKeys
 pub mod Kept
 pub mod Starts
 pub mod Ends
+pub mod Whole
