@@ -20,6 +20,14 @@ pub(crate) fn book(c: Cursor<'_>) -> String {
     written(|out, st| usx_book(c, out, st))
 }
 
+/// The code of a node that is written as a book.
+pub(crate) fn book_code(c: Cursor<'_>) -> Option<String> {
+    let (mut front, mut state) = (Front::default(), UsxState::default());
+    // It stops at the first piece; of a book the code is noted before that.
+    let _ = usx_node(c, &mut front, &mut state);
+    front.0.starts_with("<book ").then_some(state.book)
+}
+
 /// The node's attributes, its marker going by this name.
 pub(crate) fn attributes(c: Cursor<'_>, marker: &str) -> String {
     written(|out, _| write_xml_attributes(c, marker, out))
@@ -76,6 +84,17 @@ impl Write for Head {
         let end = s.find('>');
         self.0.push_str(end.map_or(s, |end| &s[..=end]));
         if end.is_some() { Err(fmt::Error) } else { Ok(()) }
+    }
+}
+
+/// Takes the first piece that is written, and nothing behind it.
+#[derive(Default)]
+struct Front(String);
+
+impl Write for Front {
+    fn write_str(&mut self, s: &str) -> fmt::Result {
+        self.0.push_str(s);
+        Err(fmt::Error)
     }
 }
 

@@ -35,6 +35,10 @@ impl<'src> Document<'src> {
         Cursor::new(&self.tape, self.source, self.table.table(), 0)
     }
 
+    pub(crate) fn source(&self) -> &'src str {
+        self.source
+    }
+
     pub(crate) fn nodes(&self) -> &[Node] {
         &self.tape.nodes
     }

@@ -16,21 +16,26 @@ pub fn stream(input: impl Read, output: impl Write) -> io::Result<()> {
 /// Writes of each node what `write` does, and an empty line behind each tape.
 pub(crate) fn each_node<W: Write>(
     input: impl Read,
-    mut output: W,
+    output: W,
     write: fn(&mut W, &Document<'_>, Cursor<'_>) -> io::Result<()>,
+) -> io::Result<()> {
+    each_tape(input, output, |out, document| document.cursors().try_for_each(|cursor| write(out, document, cursor)))
+}
+
+/// Writes of each tape what `write` does, or its refusal, and an empty line behind each.
+pub(crate) fn each_tape<W: Write>(
+    input: impl Read,
+    mut output: W,
+    write: impl Fn(&mut W, &Document<'_>) -> io::Result<()>,
 ) -> io::Result<()> {
     let mut input = BufReader::with_capacity(1 << 16, input);
     let mut tape = Vec::new();
     while read_tape(&mut input, &mut tape)? {
         match loader::load(&tape) {
-            Ok(document) => {
-                for cursor in document.cursors() {
-                    write(&mut output, &document, cursor)?;
-                }
-                output.write_all(b"\n")?;
-            }
-            Err(refusal) => writeln!(output, "refused {}\n", refusal.0)?,
+            Ok(document) => write(&mut output, &document)?,
+            Err(refusal) => writeln!(output, "refused {}", refusal.0)?,
         }
+        output.write_all(b"\n")?;
     }
     output.flush()
 }

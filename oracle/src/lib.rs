@@ -30,6 +30,7 @@ mod document;
 pub mod dump;
 pub mod generate;
 pub mod loader;
+pub mod names;
 pub mod notation;
 pub mod rendered;
 pub mod replay;

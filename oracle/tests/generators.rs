@@ -1,7 +1,10 @@
 //! Every generator makes what it is meant to make.
 
 use oracle::answer::{Answer, answer, answer_or_panic};
-use oracle::generate::{damaged, glued, limits, links, random, shared, small, structured};
+use oracle::check::{Verdict, check};
+use oracle::generate::{damaged, glued, hostile, limits, links, random, shared, small, structured};
+use oracle::loader::load;
+use oracle::names::{What, names};
 
 const SEED: u64 = 1;
 
@@ -40,6 +43,31 @@ fn shared_tapes_are_admitted_and_their_texts_overlap() {
     assert!(overlapping > 200, "{overlapping}");
 }
 
+/// Kept or not, accepted or not, and each of the four bytes in each of the four kinds of name.
+#[test]
+fn hostile_tapes_have_names_of_every_kind() {
+    let kinds = [What::BookCode, What::Label, What::MarkerName, What::Key];
+    let (mut kept, mut harmless, mut harmful, mut seen) = (0, 0, 0, [[0; 4]; 4]);
+    for number in 0..4_000 {
+        let tape = hostile(SEED, number);
+        let document = load(&tape).unwrap_or_else(|refusal| panic!("tape {number}: {refusal:?}"));
+        let broken: Vec<_> = names(&document).into_iter().filter(|name| name.is_broken()).collect();
+        let accepted = matches!(check(written(&tape).as_bytes()), Verdict::Accepted { .. });
+        match (broken.is_empty(), accepted) {
+            (true, true) => kept += 1,
+            (true, false) => panic!("tape {number} is kept, its text refused"),
+            (false, true) => harmless += 1,
+            (false, false) => harmful += 1,
+        }
+        for name in broken {
+            let kind = kinds.iter().position(|&k| k == name.what).unwrap();
+            (0..4).filter(|&i| name.text.contains(['&', '<', '>', '"'][i])).for_each(|i| seen[kind][i] += 1);
+        }
+    }
+    assert!(kept > 1_500 && harmless > 200 && harmful > 200, "{kept} {harmless} {harmful}");
+    assert!(seen.as_flattened().iter().all(|&count| count > 50), "{seen:?}");
+}
+
 /// The lengths of the spans of a tape's nodes, in sum.
 fn spans(tape: &[u8]) -> usize {
     let word = |at: usize| u32::from_le_bytes(tape[at..at + 4].try_into().unwrap()) as usize;
@@ -52,6 +80,7 @@ fn tapes_are_determined_by_seed_and_number() {
         assert_eq!(structured(SEED, number), structured(SEED, number));
         assert_eq!(random(SEED, number), random(SEED, number));
         assert_eq!(shared(SEED, number), shared(SEED, number));
+        assert_eq!(hostile(SEED, number), hostile(SEED, number));
         assert_ne!(structured(SEED, number), structured(SEED + 1, number));
     }
 }

@@ -11,6 +11,7 @@ const USAGE: &str = "usage: gen structured SEED COUNT [FIRST]
        gen damaged SEED COUNT [FIRST]
        gen glued SEED COUNT [FIRST]
        gen shared SEED COUNT [FIRST]
+       gen hostile SEED COUNT [FIRST]
        gen small SIZE
        gen links SIZE
        gen limits";
@@ -45,6 +46,7 @@ fn tapes(args: &[String]) -> Option<Tapes> {
         "damaged" => seeded(|seed, i| generate::damaged(seed, i).file),
         "glued" => seeded(generate::glued),
         "shared" => seeded(generate::shared),
+        "hostile" => seeded(generate::hostile),
         "small" => Some(Box::new(generate::small(number(1)? as usize))),
         "links" => Some(Box::new(generate::links(number(1)? as usize))),
         "limits" => Some(Box::new(generate::limits().map(|t| t.0))),

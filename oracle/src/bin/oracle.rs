@@ -3,12 +3,14 @@
 use std::io::{self, BufWriter, Read, Write};
 use std::process::ExitCode;
 
-use oracle::{answer, both_sides, check, check_cases, dump, notation, rendered, replay};
+use oracle::{answer, both_sides, check, check_cases, dump, names, notation, rendered, replay};
 
 const USAGE: &str = "usage: oracle print   one tape on standard input, printed as the printing program prints it
        oracle stream  a stream of tapes to a stream of answers
        oracle cursor  a stream of tapes to what the cursor says of every node
        oracle render  a stream of tapes to what the helpers of rendering say of every node
+       oracle names   a stream of tapes to what usx_names writes of each
+       oracle name-list  a stream of tapes to all names of every node
        oracle check   a stream of finished texts to what usx_check writes of each
        oracle check-cases  the texts on both sides of each rule of the checker, as a stream
        oracle replay  a stream of tapes to what calls with buffers of several lengths give
@@ -23,6 +25,8 @@ fn main() -> ExitCode {
         ["tape", line] => io::stdout().lock().write_all(&notation::file(line)),
         ["cursor"] => dump::stream(io::stdin().lock(), BufWriter::new(io::stdout().lock())),
         ["render"] => rendered::stream(io::stdin().lock(), BufWriter::new(io::stdout().lock())),
+        ["names"] => names::stream(io::stdin().lock(), BufWriter::new(io::stdout().lock())),
+        ["name-list"] => names::list(io::stdin().lock(), BufWriter::new(io::stdout().lock())),
         ["check"] => check::stream(io::stdin().lock(), BufWriter::new(io::stdout().lock())),
         ["check-cases"] => check_cases::write(BufWriter::new(io::stdout().lock())),
         ["replay"] => replay::stream(io::stdin().lock(), BufWriter::new(io::stdout().lock())),

@@ -2,6 +2,7 @@
 
 mod damaged;
 mod glued;
+mod hostile;
 mod limits;
 mod links;
 mod pool;
@@ -13,6 +14,7 @@ mod structured;
 
 pub use damaged::{Damaged, damaged};
 pub use glued::glued;
+pub use hostile::hostile;
 pub use limits::limits;
 pub use links::links;
 pub use random::random;
