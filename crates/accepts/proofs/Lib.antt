@@ -10,3 +10,5 @@ pub mod Kept
 pub mod Starts
 pub mod Ends
 pub mod Whole
+pub mod Outside
+pub mod Samples

@@ -1,3 +1,4 @@
 pub mod Proviso
 pub mod Sound
 pub mod Ends
+pub mod Samples
