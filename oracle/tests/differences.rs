@@ -1,33 +1,44 @@
-//! Every tape of docs/DIFFERENCES.md gives the text that stands below it, and the checker accepts every text that is marked so.
+//! Every tape of docs/DIFFERENCES.md and docs/IDENTIFIERS.md gives the text that stands below it, and the checker accepts every text that is marked so.
 
 use oracle::answer::{Answer, answer};
 use oracle::check::{Verdict, check};
 use oracle::notation;
 
 const PAPER: &str = include_str!("../../docs/DIFFERENCES.md");
+const IDENTIFIERS: &str = include_str!("../../docs/IDENTIFIERS.md");
 
-/// The lines of all blocks marked `tape`, each block ending in an empty line.
-fn tape_lines() -> Vec<&'static str> {
-    let blocks = PAPER.split("```tape\n").skip(1);
+/// The lines of all blocks of a paper marked `tape`, each block ending in an empty line.
+fn tape_lines(paper: &'static str) -> Vec<&'static str> {
+    let blocks = paper.split("```tape\n").skip(1);
     blocks.flat_map(|b| b.split("```").next().unwrap_or("").lines().chain([""])).collect()
 }
 
 /// The tapes with the lines below each.
-fn findings() -> Vec<(&'static str, Vec<String>)> {
-    let lines = tape_lines();
+fn findings(paper: &'static str) -> Vec<(&'static str, Vec<String>)> {
+    let lines = tape_lines(paper);
     let groups = lines.split(|line| line.is_empty()).filter(|group| !group.is_empty());
     groups.map(|group| (group[0], group[1..].iter().map(|l| notation::unescaped(l)).collect())).collect()
 }
 
-#[test]
-fn every_finding_is_what_the_rust_writes() {
-    let all = findings();
-    assert!(all.len() > 50, "{}", all.len());
+/// Every tape of a paper, of which there are more than this.
+fn holds(paper: &'static str, more_than: usize) {
+    let all = findings(paper);
+    assert!(all.len() > more_than, "{}", all.len());
     for (tape, lines) in all {
         let inner: String = lines.iter().map(|line| format!("\n{line}")).collect();
         let text = format!("<usx version=\"3.0\">{inner}\n</usx>");
         assert_eq!(answer(&notation::file(tape)), Answer::Written(text), "{tape}");
     }
+}
+
+#[test]
+fn every_finding_is_what_the_rust_writes() {
+    holds(PAPER, 50);
+}
+
+#[test]
+fn every_tape_on_identifiers_is_what_the_rust_writes() {
+    holds(IDENTIFIERS, 8);
 }
 
 /// The bytes of a text, `\x{80}` being one of them.
