@@ -1,3 +1,4 @@
 pub mod Reading
 pub mod Cuts
 pub mod Attrs
+pub mod Items
