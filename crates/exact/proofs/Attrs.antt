@@ -53,7 +53,7 @@ stuck-tag (a ∷ qs) f r (more w ws) =
 -- ---- reading
 
 -- a key that begins where ` />` could stand
-slash : (k z r : Bytes) → 0 < length k → 47 ∷ 62 ∷ r ≡ k ++ 61 ∷ z → (d : Bytes) × (k ≡ 47 ∷ 62 ∷ d) × (r ≡ d ++ 61 ∷ z)
+pub slash : (k z r : Bytes) → 0 < length k → 47 ∷ 62 ∷ r ≡ k ++ 61 ∷ z → (d : Bytes) × (k ≡ 47 ∷ 62 ∷ d) × (r ≡ d ++ 61 ∷ z)
 slash [] z r h e = absurd (omega arith)
 slash (x ∷ []) z r h e = absurd (let i : _≡_ {A = ℕ} 62 61 = cc in omega arith)
 slash (x ∷ y ∷ d) z r h e = (d, cc, cc)

@@ -2,3 +2,4 @@ pub mod Reading
 pub mod Cuts
 pub mod Attrs
 pub mod Items
+pub mod Ends
