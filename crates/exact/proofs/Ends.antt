@@ -128,16 +128,16 @@ module _ {c v : Held} (k : ℕ) (kind : Kind k) (i r : Bytes) where
 -- ---- ends of what is open
 
 -- what an end finds open
-verse-held : {c v : Held} {i : Bytes} → Fits c v (single 4 (ends i)) → v ≡ held i
+pub verse-held : {c v : Held} {i : Bytes} → Fits c v (single 4 (ends i)) → v ≡ held i
 verse-held (of-single f g) = absurd (g refl)
 verse-held (verse-end e) = e
 
-chapter-held : {c v : Held} {i : Bytes} → Fits c v (single 3 (ends i)) → c ≡ held i
+pub chapter-held : {c v : Held} {i : Bytes} → Fits c v (single 3 (ends i)) → c ≡ held i
 chapter-held (of-single f g) = absurd (f refl)
 chapter-held (chapter-end e f) = e
 
 -- the end of a start whose identifier was written with its escapes: it is free, and no more is open
-held-end : {c v : Held} {k : ℕ} {i r : Bytes} → ((a : Bytes) → Fits c v (single k (ends a)) → held (escape true i) ≡ held a) → EndRead c v k i r
+pub held-end : {c v : Held} {k : ℕ} {i r : Bytes} → ((a : Bytes) → Fits c v (single k (ends a)) → held (escape true i) ≡ held a) → EndRead c v k i r
     → Free i × Reads (since 3 c (single k (ends i))) (since 4 v (single k (ends i))) r
 held-end {i = i} is (whole f z) = (free-escape i (let e = is i f in cc), z)
 held-end {i = i} is (less a h f) =

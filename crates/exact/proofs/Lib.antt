@@ -3,3 +3,5 @@ pub mod Cuts
 pub mod Attrs
 pub mod Items
 pub mod Ends
+pub mod Wordy
+pub mod Sound
