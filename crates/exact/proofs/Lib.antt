@@ -5,3 +5,5 @@ pub mod Items
 pub mod Ends
 pub mod Wordy
 pub mod Sound
+pub mod Judged
+pub mod Accepted
