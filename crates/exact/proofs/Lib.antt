@@ -7,3 +7,4 @@ pub mod Wordy
 pub mod Sound
 pub mod Judged
 pub mod Accepted
+pub mod Spaces
