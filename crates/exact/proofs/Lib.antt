@@ -8,3 +8,4 @@ pub mod Sound
 pub mod Judged
 pub mod Accepted
 pub mod Spaces
+pub mod Keys
