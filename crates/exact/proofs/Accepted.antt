@@ -25,6 +25,7 @@ use Rattle.exact.proofs.Items.{reads-item}
 use Rattle.exact.proofs.Wordy.{known, wordy-escaped, WordyEvents}
 use Rattle.exact.proofs.Sound.{read-sound}
 use Rattle.exact.proofs.Judged.{form-reads}
+use Rattle.exact.proofs.Walked.{walk-wordy}
 
 -- usx around items, and what stands behind them
 frame-reads : (is js : List Item) → Reads shut shut (render (framed (is ++ js))) → Reads shut shut (render is ++ (render js ++ render (close 1 ∷ [])))
@@ -41,3 +42,7 @@ read-tape : (t : Tape) → WordyEvents (eventsOf t) → Reads shut shut (textOf 
 unfolding textOf itemsOfTape firstState
 read-tape t w z =
     record { events = read-sound (firstState t) (eventsOf t) (render (line 0 ∷ []) ++ render (close 1 ∷ [])) w (frame-reads (paired (firstState t) (eventsOf t)) (line 0 ∷ []) z) .sound }
+
+-- a tape whose text is accepted is sound
+pub accepted-sound : (t : Tape) (c v : ℕ) → Judged (textOf t) (accepted c v) → Sound t
+accepted-sound t c v (is-0 ts form low tree demand) = read-tape t (walk-wordy t) (form-reads (textOf t) ts form demand)

@@ -6,6 +6,7 @@ pub mod Ends
 pub mod Wordy
 pub mod Sound
 pub mod Judged
-pub mod Accepted
 pub mod Spaces
 pub mod Keys
+pub mod Walked
+pub mod Accepted
