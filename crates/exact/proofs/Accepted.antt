@@ -1,5 +1,5 @@
 -- What is accepted is sound.
-use mathlib.Core.Path.{_≡_, refl, sym, ap, _∙_, subst}
+use mathlib.Core.Path.{refl, ap, _∙_, subst}
 use mathlib.Core.List.{List, [], _∷_, _++_, append-assoc}
 use mathlib.Core.Bool.{false}
 use Prim.Native.Nat.{ℕ}
@@ -8,7 +8,7 @@ use Rattle.parts.specs.Bytes.{Bytes, b}
 use Rattle.chars.proofs.Lists.{all}
 use Rattle.tape.specs.File.{Tape}
 use Rattle.tags.specs.Names.{IsName}
-use Rattle.tags.specs.Items.{Attr, Item, start, close, line, bytesOf, render, framed}
+use Rattle.tags.specs.Items.{Attr, Item, start, close, line, render, framed}
 use Rattle.tags.proofs.Rendered.{render-append}
 use Rattle.checker.specs.Answer.{accepted}
 use Rattle.checker.specs.Words.{Judged, is-0}

@@ -1,28 +1,31 @@
 -- Attributes that the checker reads where wordy ones are written: they are the same, and what is written is legal.
 use mathlib.Core.Path.{_≡_, refl, sym, ap, _∙_, subst}
-use mathlib.Core.Bool.{Bool, true, false, cond, not, _&&_, _||_}
-use mathlib.Core.List.{List, [], _∷_, _++_, append-assoc}
-use Prim.Native.Nat.{ℕ, zero, suc, _<_}
+use mathlib.Core.Bool.{Bool, true, false, cond}
+use mathlib.Core.List.{List, [], _∷_, _++_}
+use Prim.Native.Nat.{ℕ, _<_}
 use native.Mathlib.Omega.{arith}
 use lib.ListN.{length}
-use lib.Dec.{eqb}
-use Rattle.parts.specs.Bytes.{Bytes, b}
+use Rattle.parts.specs.Bytes.{Bytes}
 use Rattle.parts.proofs.Laws.{and-true}
 use Rattle.chars.specs.Escape.{escape}
 use Rattle.chars.proofs.Lists.{all}
 use Rattle.tags.specs.Form.{Pair}
 use Rattle.tags.specs.Write.{writePair, writePairs, Clean, CleanPair, CleanPairs, none as no-pair, more as more-pairs}
-use Rattle.tags.specs.Items.{Attr, valueOf, pairsOf, LegalAttr, LegalAttrs, none as no-attr, more as more-attrs}
+use Rattle.tags.specs.Items.{Attr, valueOf, pairsOf, LegalAttrs, none as no-attr, more as more-attrs}
 use Rattle.tags.specs.declared.Class.the-variants.{Value, Key}
 use Rattle.tags.proofs.Rendered.{escape-clean}
 use Rattle.exact.proofs.Reading.{tailed, stuck, never}
 use Rattle.exact.proofs.Cuts.{but, not-in, Cut, even, longer, cut, cut-even, key-no-equals, key-no-end, value-no-quote, value-no-tag, stuck-word, stuck-text}
 
--- a key that is a word with no `=`; a raw value with no space
+-- a word with no `=`
+pub record WordyKey (key : Bytes) : Type 0 where
+  pub some : 0 < length key
+  pub space : all (but 32) key ≡ true
+  pub equal : all (but 61) key ≡ true
+
+-- such a key, and no space in a raw value
 pub record WordyAttr (a : Attr) : Type 0 where
-  pub some : 0 < length (a .key)
-  pub space : all (but 32) (a .key) ≡ true
-  pub equal : all (but 61) (a .key) ≡ true
+  pub key : WordyKey (a .key)
   pub value : a .raw ≡ true → all (but 32) (a .value) ≡ true
 
 -- each of a row is wordy
@@ -47,13 +50,13 @@ unfolding pairsOf writePairs writePair stuck
 stuck-tag [] false r none = refl
 stuck-tag [] true r none = refl
 stuck-tag (a ∷ qs) f r (more w ws) =
-    stuck-word false 61 (a .key) (34 ∷ (valueOf a ++ 34 ∷ writePairs (pairsOf qs) (tailed f r))) refl refl (w .space)
+    stuck-word false 61 (a .key) (34 ∷ (valueOf a ++ 34 ∷ writePairs (pairsOf qs) (tailed f r))) refl refl (w .key .space)
     (stuck-value a (writePairs (pairsOf qs) (tailed f r)) w (stuck-tag qs f r ws))
 
 -- ---- reading
 
 -- a key that begins where ` />` could stand
-pub slash : (k z r : Bytes) → 0 < length k → 47 ∷ 62 ∷ r ≡ k ++ 61 ∷ z → (d : Bytes) × (k ≡ 47 ∷ 62 ∷ d) × (r ≡ d ++ 61 ∷ z)
+slash : (k z r : Bytes) → 0 < length k → 47 ∷ 62 ∷ r ≡ k ++ 61 ∷ z → (d : Bytes) × (k ≡ 47 ∷ 62 ∷ d) × (r ≡ d ++ 61 ∷ z)
 slash [] z r h e = absurd (omega arith)
 slash (x ∷ []) z r h e = absurd (let i : _≡_ {A = ℕ} 62 61 = cc in omega arith)
 slash (x ∷ y ∷ d) z r h e = (d, cc, cc)
@@ -71,7 +74,7 @@ fitted-more : (a : Attr) (qs : List Attr) (p : Pair) (ps : List Pair) (e f : Boo
 unfolding pairsOf valueOf
 fitted-more a qs p ps e f z r w c i j h =
     record {
-      legal = more-attrs {a = a} (record { some = w .some; key = subst (Clean Key) i (c .key); value = λ t. subst (Clean Value) (j ∙ rw t) (c .value) }) (h .legal);
+      legal = more-attrs {a = a} (record { some = w .key .some; key = subst (Clean Key) i (c .key); value = λ t. subst (Clean Value) (j ∙ rw t) (c .value) }) (h .legal);
       pairs = ap (λ (u : Pair). u ∷ ps) (same-pair i j) ∙ ap (λ (us : List Pair). record { key = a .key; value = valueOf a } ∷ us) (h .pairs);
       ends = h .ends;
       rest = h .rest;
@@ -104,7 +107,7 @@ broken [] false (x ∷ d) w z h g e =
 broken [] true d w z h g e = absurd (no-space d w (47 ∷ 62 ∷ z) h e)
 broken (p ∷ ps) e d w z h g i = absurd (no-space d w _ h i)
 
--- the rest of a row, whose attribute before is the same on both sides
+-- attributes that are read where wordy ones are written, and what follows their tag is not stuck
 pub fits : (qs : List Attr) (ps : List Pair) (e f : Bool) (z r : Bytes) → WordyAttrs qs → CleanPairs ps → (stuck false z ≡ true → ⊥)
     → writePairs ps (tailed e z) ≡ writePairs (pairsOf qs) (tailed f r) → Fitted qs ps e f z r
 unfolding pairsOf writePairs writePair valueOf all but stuck
@@ -121,14 +124,12 @@ fits (a ∷ qs) [] false f z r (more w ws) no-pair s i = absurd (let k : _≡_ {
 fits (a ∷ qs) [] true f z r (more w ws) no-pair s i =
     let x : Bytes = 34 ∷ (valueOf a ++ 34 ∷ writePairs (pairsOf qs) (tailed f r)) in
     let k : 47 ∷ 62 ∷ z ≡ a .key ++ 61 ∷ x = cc in
-    let d = slash (a .key) x z (w .some) k in
-    let h : all (but 32) (47 ∷ 62 ∷ d .0) ≡ true = sym (ap (all (but 32)) (d .1)) ∙ w .space in
+    let d = slash (a .key) x z (w .key .some) k in
+    let h : all (but 32) (47 ∷ 62 ∷ d .0) ≡ true = sym (ap (all (but 32)) (d .1)) ∙ w .key .space in
     absurd (s (ap (stuck false) (d .2) ∙ stuck-word false 61 (d .0) x refl refl h (stuck-value a _ w (stuck-tag qs f r ws))))
 fits (a ∷ qs) (p ∷ ps) e f z r (more w ws) (more-pairs c cs) s i =
-    let x : Bytes = writePairs ps (tailed e z) in
-    let y : Bytes = writePairs (pairsOf qs) (tailed f r) in
     let j : p .key ++ 61 ∷ 34 ∷ (p .value ++ 34 ∷ x) ≡ a .key ++ 61 ∷ 34 ∷ (valueOf a ++ 34 ∷ y) = cc in
-    let k = cut-even 61 (p .key) (34 ∷ (p .value ++ 34 ∷ x)) (a .key) (34 ∷ (valueOf a ++ 34 ∷ y)) (key-no-equals (p .key) (c .key)) (w .equal) j in
+    let k = cut-even 61 (p .key) (34 ∷ (p .value ++ 34 ∷ x)) (a .key) (34 ∷ (valueOf a ++ 34 ∷ y)) (key-no-equals (p .key) (c .key)) (w .key .equal) j in
     let l : p .value ++ 34 ∷ x ≡ valueOf a ++ 34 ∷ y = let m = k .1 in cc in
     go (cut 34 (p .value) x (valueOf a) y (value-no-quote (p .value) (c .value)) l) (k .0) (fits qs ps e f z r ws cs s)
   where

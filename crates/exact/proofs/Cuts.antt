@@ -1,16 +1,15 @@
 -- Texts cut at a byte, and the bytes of what may stand in a tag.
-use mathlib.Core.Path.{_≡_, refl, sym, ap, _∙_, subst}
+use mathlib.Core.Path.{_≡_, refl, sym, ap, _∙_}
 use mathlib.Core.Bool.{Bool, true, false, cond, not, _&&_, _||_}
-use mathlib.Core.List.{List, [], _∷_, _++_}
-use Prim.Native.Nat.{ℕ, zero, suc, _<_}
+use mathlib.Core.List.{[], _∷_, _++_}
+use Prim.Native.Nat.{ℕ, suc, _<_}
 use native.Mathlib.Omega.{arith}
 use lib.ListN.{length}
 use lib.Dec.{eqb}
-use borrow.Author.Tests.{eq-eqb, ne-eqb, eqb-true, eqb-false}
-use Rattle.parts.specs.Bytes.{Bytes, b, begins}
+use borrow.Author.Tests.{eq-eqb, eqb-true}
+use Rattle.parts.specs.Bytes.{Bytes, begins}
 use Rattle.parts.proofs.Laws.{and-true}
-use Rattle.chars.specs.Escape.{escapedByte, escape}
-use Rattle.chars.proofs.Lists.{all, all-append}
+use Rattle.chars.proofs.Lists.{all}
 use Rattle.tags.specs.Form.{plain, keyByte, escapeAt, ok, run}
 use Rattle.tags.specs.Write.{Clean}
 use Rattle.tags.specs.declared.Class.{Class}
@@ -22,14 +21,6 @@ use Rattle.exact.proofs.Reading.{stuck, never}
 -- not this byte
 unfoldable pub but : ℕ → ℕ → Bool
 but y x = not (eqb x y)
-
--- what passes one test passes another
-pub all-weaken : (p q : ℕ → Bool) → ((x : ℕ) → p x ≡ true → q x ≡ true) → (s : Bytes) → all p s ≡ true → all q s ≡ true
-unfolding all
-all-weaken p q f [] h = refl
-all-weaken p q f (x ∷ s) h =
-    let both = and-true (p x) (all p s) h in
-    rw (f x (both .0), all-weaken p q f s (both .1))
 
 -- a byte that does not stand in a text
 pub not-in : (y : ℕ) (a z : Bytes) → all (but y) (a ++ y ∷ z) ≡ true → ⊥

@@ -1,9 +1,9 @@
 -- An end that the checker reads while its start is open: its identifier needs no escape.
-use mathlib.Core.Path.{_≡_, refl, sym, ap, _∙_, subst}
-use mathlib.Core.Bool.{Bool, true, false, cond, _&&_, _||_}
+use mathlib.Core.Path.{_≡_, refl, ap, subst}
+use mathlib.Core.Bool.{Bool, true, false, cond, _||_}
 use mathlib.Core.List.{List, [], _∷_, _++_}
 use mathlib.Core.Logic.{inl, inr}
-use Prim.Native.Nat.{ℕ, zero, suc, _+_, _≤_, _<_}
+use Prim.Native.Nat.{ℕ, suc, _+_, _<_}
 use native.Mathlib.Omega.{arith}
 use lib.ListN.{length, length-append}
 use lib.Dec.{eqb}
@@ -13,17 +13,15 @@ use Rattle.chars.proofs.Escapes.{escape-least, escaped-plain}
 use Rattle.chars.proofs.Lists.{all}
 use Rattle.tags.specs.Names.{IsName}
 use Rattle.tags.specs.Form.{Pair}
-use Rattle.tags.specs.Write.{writePair, writePairs, Clean, CleanPairs, none, more}
-use Rattle.tags.specs.declared.Class.the-variants.{Value, Key}
-use Rattle.checker.specs.View.{Mark, bare, other, start, ends, View, opened, single, idKeyOf, notedBy, noted, markOn, view}
+use Rattle.tags.specs.Write.{writePair, writePairs, CleanPairs, none, more}
+use Rattle.checker.specs.View.{Mark, other, start, ends, opened, single, idKeyOf, notedBy, noted, markOn, view}
 use Rattle.checker.specs.Words.{Kind}
-use Rattle.checker.specs.Steps.{Held, shut, held}
+use Rattle.checker.specs.Steps.{Held, held}
 use Rattle.checker.specs.Meaning.{since, Fits, of-open, of-single, chapter-end, verse-end}
 use Rattle.accepts.specs.Proviso.{hasSpecial, Free}
 use Rattle.exact.proofs.Reading.{tailed, tagOf, tagIn, Reads, never}
-use Rattle.exact.proofs.Cuts.{but, not-in, Cut, even, longer, cut, cut-even, key-no-equals, key-no-end, value-no-quote}
-use Rattle.exact.proofs.Attrs.{slash}
-use Rattle.exact.proofs.Items.{TagRead, tag-read}
+use Rattle.exact.proofs.Cuts.{but, Cut, even, longer, cut, cut-even, key-no-equals, value-no-quote}
+use Rattle.exact.proofs.Items.{tag-read}
 
 -- ---- free of the four bytes
 
@@ -51,7 +49,7 @@ longer-written (x ∷ s) h = go (special true x) refl h (longer-written s)
     go false e h on = rw (escaped-plain true x e) (omega (arith, on h))
 
 -- what is written as itself is free
-pub free-escape : (s : Bytes) → s ≡ escape true s → Free s
+free-escape : (s : Bytes) → s ≡ escape true s → Free s
 free-escape s e = go (hasSpecial s) refl
   where
     go : (t : Bool) → hasSpecial s ≡ t → hasSpecial s ≡ false

@@ -1,31 +1,30 @@
 -- An item that the checker reads: its attributes are legal, and behind it the reading goes on.
 use mathlib.Core.Path.{_≡_, refl, sym, ap, _∙_, subst}
-use mathlib.Core.Bool.{Bool, true, false, not, _&&_}
+use mathlib.Core.Bool.{Bool, true, false, not}
 use mathlib.Core.List.{List, [], _∷_, _++_, append-assoc}
 use Prim.Native.Nat.{ℕ, zero, suc, _*_}
 use native.Mathlib.Omega.{arith}
 use lib.ListN.{replicate}
-use lib.Dec.{eqb}
 use borrow.Author.Tests.{eq-eqb}
-use Rattle.parts.specs.Bytes.{Bytes, b, begins}
+use Rattle.parts.specs.Bytes.{Bytes, begins}
 use Rattle.parts.proofs.Laws.{and-true}
 use Rattle.chars.specs.Escape.{escape}
 use Rattle.chars.proofs.Lists.{all}
 use Rattle.tags.specs.Names.{nameOf, IsName, which, elementAt}
 use Rattle.tags.specs.Form.{Pair}
 use Rattle.tags.specs.Write.{writePair, writePairs, CleanPairs}
-use Rattle.tags.specs.Items.{Attr, Item, start, empty, close, text, line, valueOf, attrBytes, attrsBytes, newLine, bytesOf, pairsOf, LegalAttrs}
-use Rattle.tags.specs.declared.Named.the-variants.{Name, Unnamed}
+use Rattle.tags.specs.Items.{Attr, Item, start, empty, close, text, line, attrBytes, attrsBytes, newLine, bytesOf, pairsOf, LegalAttrs}
+use Rattle.tags.specs.declared.Named.the-variants.{Unnamed}
 use Rattle.tags.proofs.ReadBack.{element-write}
 use Rattle.tags.proofs.Rendered.{escape-clean}
-use Rattle.checker.specs.View.{View, closed, single, bare, view, markOn}
+use Rattle.checker.specs.View.{single, bare, view, markOn}
 use Rattle.checker.specs.Steps.{Held}
 use Rattle.checker.specs.Meaning.{since, Fits}
 use Rattle.checker.proofs.Decides.{since-other}
 use Rattle.accepts.specs.Sound.{SoundItem}
-use Rattle.exact.proofs.Reading.{tailed, tagOf, tagIn, Reads, done, byte, close as close-read, tag, stuck, never, never-read}
+use Rattle.exact.proofs.Reading.{tailed, tagOf, tagIn, Reads, done, byte, close as close-read, tag, never, never-read}
 use Rattle.exact.proofs.Cuts.{but, text-no-tag}
-use Rattle.exact.proofs.Attrs.{WordyAttr, WordyAttrs, Fitted, fits}
+use Rattle.exact.proofs.Attrs.{WordyAttrs, fits}
 
 -- ---- names
 
@@ -91,7 +90,7 @@ reads-tag {c} {v} f n qs r h w e z = go (tag-read n (writePairs (pairsOf qs) (ta
 
 -- ---- closes and texts
 
-pub reads-close : {c v : Held} {s : Bytes} (n : ℕ) (r : Bytes) → IsName n → s ≡ 60 ∷ 47 ∷ (nameOf n ++ 62 ∷ r) → Reads c v s → Reads c v r
+reads-close : {c v : Held} {s : Bytes} (n : ℕ) (r : Bytes) → IsName n → s ≡ 60 ∷ 47 ∷ (nameOf n ++ 62 ∷ r) → Reads c v s → Reads c v r
 reads-close n r h e (done f) = absurd (let no-way : _≡_ {A = ℕ} 0 1 = cc in omega arith)
 reads-close n r h e (byte x z f g i k) = absurd (g (cc))
 reads-close {c} {v} n r h e (close-read m z f i g k) =
@@ -115,7 +114,7 @@ reads-byte x r h e (tag w m ps z f i k g q) =
     never (sym (ap not (eq-eqb x 60 l)) ∙ h)
 
 -- a text with no `<`
-pub reads-text : {c v : Held} (s r : Bytes) → all (but 60) s ≡ true → Reads c v (s ++ r) → Reads c v r
+reads-text : {c v : Held} (s r : Bytes) → all (but 60) s ≡ true → Reads c v (s ++ r) → Reads c v r
 unfolding all
 reads-text [] r h z = z
 reads-text (x ∷ s) r h z =

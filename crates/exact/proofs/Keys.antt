@@ -1,11 +1,11 @@
 -- Keys that the walk collects: words with no `=`.
 use mathlib.Core.Path.{_≡_, refl, sym, ap, _∙_}
-use mathlib.Core.Bool.{Bool, true, false, cond, not, _&&_}
+use mathlib.Core.Bool.{Bool, true, false, cond, _&&_}
 use mathlib.Core.List.{List, [], _∷_, _++_, map, flatten}
 use Prim.Native.Nat.{ℕ, zero, suc, _+_, _<_}
 use native.Mathlib.Omega.{arith}
 use lib.ListN.{length, take, drop}
-use lib.Dec.{eqb, ltb}
+use lib.Dec.{eqb}
 use borrow.Author.Tests.{eqb-false, ne-eqb}
 use Rattle.parts.specs.Bytes.{Bytes, b, part, same, begins, firstAt}
 use Rattle.parts.proofs.Laws.{and-true}
@@ -17,9 +17,10 @@ use Rattle.words.proofs.Texts.{chars-flatten}
 use Rattle.tape.specs.File.{Tape, kindAt, textAt}
 use Rattle.tape.specs.Tree.{children}
 use Rattle.attrs.specs.Attr.{Pair, shown, valueAt, equals, hasEquals, keyIn, keyed, pairsFrom, pairsIn, isWordMarker, defaultKey, keyFor, keyedFor, attributeBody, bodyPairs, pairsAt, pairsAlong, attributesOf}
-use Rattle.figure.specs.Figure.{describedBy, fieldAt, valued, legacyPairs}
+use Rattle.figure.specs.Figure.{valued, legacyPairs}
 use Rattle.exact.proofs.Cuts.{but}
-use Rattle.exact.proofs.Wordy.{WordyKey, known}
+use Rattle.exact.proofs.Attrs.{WordyKey}
+use Rattle.exact.proofs.Wordy.{known}
 use Rattle.exact.proofs.Spaces.{solid-spaceless}
 
 -- ---- no `=` before the first

@@ -1,18 +1,17 @@
 -- A text as the checker reads it, with what is open, and texts that it never gets past.
-use mathlib.Core.Path.{_≡_, refl, sym, ap, _∙_, subst}
+use mathlib.Core.Path.{_≡_, refl, sym, ap, _∙_}
 use mathlib.Core.Bool.{Bool, true, false, cond, not, _&&_, _||_}
 use mathlib.Core.List.{List, [], _∷_, _++_}
 use Prim.Native.Nat.{ℕ, zero, suc}
 use native.Mathlib.Omega.{arith}
-use lib.ListN.{length}
 use lib.Dec.{eqb}
 use borrow.Author.Tests.{ne-eqb}
-use Rattle.parts.specs.Bytes.{Bytes, b}
+use Rattle.parts.specs.Bytes.{Bytes}
 use Rattle.parts.proofs.Laws.{and-true}
 use Rattle.tags.specs.Names.{nameOf, IsName}
-use Rattle.tags.specs.Form.{Pair, Token, opens, closes, empty}
+use Rattle.tags.specs.Form.{Pair, Token, opens, empty}
 use Rattle.tags.specs.Write.{writePair, writePairs, CleanPairs}
-use Rattle.checker.specs.View.{View, closed, view}
+use Rattle.checker.specs.View.{closed, view}
 use Rattle.checker.specs.Steps.{Held}
 use Rattle.checker.specs.Meaning.{since, Fits}
 
@@ -54,7 +53,7 @@ pub never {ℓ} : {A : Type ℓ} → false ≡ true → A
 never e = absurd (let no-way : _≡_ {A = ℕ} 0 1 = cc in omega arith)
 
 -- a name changes nothing, and nothing of it is a space or a `>`
-pub each-name : (n : ℕ) (r : Bytes) → IsName n → stuck true (nameOf n ++ r) ≡ stuck true r
+each-name : (n : ℕ) (r : Bytes) → IsName n → stuck true (nameOf n ++ r) ≡ stuck true r
 unfolding nameOf stuck
 each-name zero r h = absurd (omega arith)
 each-name (suc zero) r h = refl

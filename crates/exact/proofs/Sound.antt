@@ -1,6 +1,6 @@
 -- Events whose text is read are sound.
 use mathlib.Core.Path.{_≡_, refl, sym, ap, _∙_, subst}
-use mathlib.Core.Bool.{true, false}
+use mathlib.Core.Bool.{true}
 use mathlib.Core.List.{List, [], _∷_, _++_, append-assoc, append-nil}
 use mathlib.Core.Logic.{inl, inr}
 use mathlib.Core.Option.{Option, none, some}
@@ -9,9 +9,8 @@ use native.Mathlib.Omega.{arith}
 use Rattle.parts.specs.Bytes.{Bytes, b, same}
 use Rattle.chars.specs.Escape.{escape}
 use Rattle.tags.specs.Names.{IsName}
-use Rattle.tags.specs.Form.{Pair}
 use Rattle.tags.specs.Write.{Clean}
-use Rattle.tags.specs.Items.{Attr, Item, start, empty, close, text, line, valueOf, bytesOf, render, pairsOf, LegalAttrs, more}
+use Rattle.tags.specs.Items.{Item, start, empty, close, text, valueOf, bytesOf, render, pairsOf, LegalAttrs, more}
 use Rattle.tags.specs.declared.Class.the-variants.{Value}
 use Rattle.checker.specs.View.{start as starts, ends, View, single, idKeyOf, notedBy, noted, markOn, view}
 use Rattle.checker.specs.Steps.{Held, shut, held}
@@ -19,7 +18,7 @@ use Rattle.checker.specs.Meaning.{since}
 use Rattle.events.specs.Event.{Event, item, chapter, verse, book, rawly, escaped, perhaps}
 use Rattle.events.specs.Pairing.{State, chapterId, verseId, after, endOf, chapterAttrs, verseAttrs, bookAttrs, bookItems, itemsOf, lastEnds, paired}
 use Rattle.accepts.specs.Proviso.{Free}
-use Rattle.accepts.specs.Sound.{SoundEvent, SoundEvents}
+use Rattle.accepts.specs.Sound.{SoundEvents}
 use Rattle.exact.proofs.Reading.{tagOf, tagIn, Reads}
 use Rattle.exact.proofs.Items.{reads-tag, tag-written, reads-item}
 use Rattle.exact.proofs.Ends.{eid, end-read, verse-held, chapter-held, held-end}

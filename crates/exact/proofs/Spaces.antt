@@ -1,9 +1,8 @@
 -- Words, marker names and book codes hold no space.
 use mathlib.Core.Path.{_≡_, refl, sym, ap, _∙_, subst}
-use mathlib.Core.Bool.{Bool, true, false, not, _&&_, _||_}
+use mathlib.Core.Bool.{Bool, true, false, not, _&&_}
 use mathlib.Core.List.{List, [], _∷_, _++_, flatten, append-assoc}
 use Prim.Native.Nat.{ℕ}
-use native.Mathlib.Omega.{arith}
 use lib.Dec.{eqb}
 use borrow.Author.Tests.{eqb-true, not-true}
 use Rattle.parts.specs.Bytes.{Bytes}
@@ -11,7 +10,7 @@ use Rattle.parts.proofs.Laws.{and-true, or-both}
 use Rattle.chars.specs.Utf8.{characters, every, codeOf}
 use Rattle.chars.specs.Space.{isWhite}
 use Rattle.chars.proofs.Lists.{all}
-use Rattle.words.specs.Words.{stepOf, charsOf, solid, white, takeWhile, dropWhile, words}
+use Rattle.words.specs.Words.{stepOf, charsOf, solid, white, takeWhile, dropWhile}
 use Rattle.words.specs.declared.Set.the-variants.{Unicode}
 use Rattle.words.proofs.Joins.{IsWord, Each, chars-space, space-chars, words-are}
 use Rattle.words.proofs.Rows.{Row, row-before}
@@ -20,7 +19,7 @@ use Rattle.words.proofs.Steps.{size-steady, space-white}
 use Rattle.words.proofs.Texts.{chars-row, row-chars}
 use Rattle.tape.specs.File.{Tape, textAt}
 use Rattle.tape.specs.Name.{bare, endsName, inName, nameIn, markerName}
-use Rattle.render.specs.Note.{firstOr, stepText, firstWords, bookCode}
+use Rattle.render.specs.Note.{firstOr, firstWords, bookCode}
 use Rattle.exact.proofs.Reading.{never}
 use Rattle.exact.proofs.Cuts.{but}
 

@@ -1,7 +1,7 @@
 -- The events of every tape are wordy.
 use mathlib.Core.Path.{_≡_, refl}
 use mathlib.Core.Bool.{Bool, true, false, cond}
-use mathlib.Core.List.{List, [], _∷_, _++_}
+use mathlib.Core.List.{List, [], _∷_}
 use Prim.Native.Nat.{ℕ, _≤_}
 use native.Mathlib.Omega.{arith}
 use Rattle.parts.specs.Bytes.{Bytes, b}
@@ -11,13 +11,13 @@ use Rattle.tape.specs.Name.{markerName}
 use Rattle.attrs.specs.Attr.{Pair, attributesOf}
 use Rattle.figure.specs.Figure.{legacyPairs}
 use Rattle.tags.specs.Items.{Attr}
-use Rattle.events.specs.Event.{Event, rawly, escaped, perhaps, collected}
+use Rattle.events.specs.Event.{Event, escaped, perhaps, collected}
 use Rattle.events.specs.Walk.{style, styled, unclosed, eventsOf}
 use Rattle.grammar.specs.Grammar.{Given, unknown-para, unknown-char, old-figure, a-figure, a-ref, a-link, a-note, an-ms, a-char, a-para, a-run, a-table, a-row, a-cell, a-sidebar, a-periph, a-break, a-text, a-line, an-empty, a-chapter, a-verse, by-itself, of-book, opening, closing, AllWritten}
 use Rattle.grammar.proofs.Written.{walk-written, given-range, given-name}
 use Rattle.exact.proofs.Cuts.{but}
 use Rattle.exact.proofs.Attrs.{WordyAttr, WordyAttrs, none, more}
-use Rattle.exact.proofs.Wordy.{WordyKey, known, wordy-escaped, wordy-raw, wordy-append, wordy-perhaps, WordyEvents}
+use Rattle.exact.proofs.Wordy.{known, wordy-escaped, wordy-raw, wordy-append, wordy-perhaps, WordyEvents}
 use Rattle.exact.proofs.Spaces.{marker-spaceless, code-spaceless}
 use Rattle.exact.proofs.Keys.{Keys, attributes-wordy, legacy-wordy}
 

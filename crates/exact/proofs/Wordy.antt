@@ -4,7 +4,6 @@ use mathlib.Core.Bool.{true, _&&_}
 use mathlib.Core.List.{List, [], _∷_, _++_}
 use mathlib.Core.Option.{Option, none as nothing, some}
 use Prim.Native.Nat.{ℕ, _<_}
-use native.Mathlib.Omega.{arith}
 use lib.ListN.{length}
 use lib.Dec.{ltb}
 use borrow.Author.Tests.{ltb-true}
@@ -17,14 +16,8 @@ use Rattle.events.specs.Pairing.{chapterId, verseId, chapterAttrs, verseAttrs, 
 use Rattle.chars.specs.Decimal.{decimal}
 use Rattle.exact.proofs.Reading.{never}
 use Rattle.exact.proofs.Cuts.{but}
-use Rattle.exact.proofs.Attrs.{WordyAttr, WordyAttrs, none, more}
+use Rattle.exact.proofs.Attrs.{WordyKey, WordyAttr, WordyAttrs, none, more}
 use Rattle.exact.proofs.Items.{WordyItem}
-
--- a word with no `=`
-pub record WordyKey (key : Bytes) : Type 0 where
-  pub some : 0 < length key
-  pub space : all (but 32) key ≡ true
-  pub equal : all (but 61) key ≡ true
 
 -- a key that is known
 pub known : (key : Bytes) → ltb 0 (length key) && (all (but 32) key && all (but 61) key) ≡ true → WordyKey key
@@ -35,11 +28,11 @@ known key e =
 
 pub wordy-escaped : (key value : Bytes) → WordyKey key → WordyAttr (escaped key value)
 unfolding escaped
-wordy-escaped key value k = record { some = k .some; space = k .space; equal = k .equal; value = λ e. never e }
+wordy-escaped key value k = record { key = k; value = λ e. never e }
 
 pub wordy-raw : (key value : Bytes) → WordyKey key → all (but 32) value ≡ true → WordyAttr (rawly key value)
 unfolding rawly
-wordy-raw key value k h = record { some = k .some; space = k .space; equal = k .equal; value = λ e. h }
+wordy-raw key value k h = record { key = k; value = λ e. h }
 
 pub wordy-append : (ps qs : List Attr) → WordyAttrs ps → WordyAttrs qs → WordyAttrs (ps ++ qs)
 wordy-append [] qs none h = h
