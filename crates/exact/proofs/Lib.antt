@@ -1,0 +1,12 @@
+pub mod Reading
+pub mod Cuts
+pub mod Attrs
+pub mod Items
+pub mod Ends
+pub mod Wordy
+pub mod Sound
+pub mod Judged
+pub mod Spaces
+pub mod Keys
+pub mod Walked
+pub mod Accepted

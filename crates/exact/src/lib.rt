@@ -1,0 +1,1 @@
+// What the checker accepts is sound. It holds no code: proofs/ says that an accepted text was written of sound events.
