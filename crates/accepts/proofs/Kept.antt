@@ -13,7 +13,7 @@ use Rattle.tape.specs.Name.{markerName}
 use Rattle.render.specs.Shape.{isOpen, isVerse}
 use Rattle.render.specs.Label.{labelOf}
 use Rattle.render.specs.Note.{bookCode}
-use Rattle.figure.specs.Figure.{describedBy, fieldAt, valued, legacyPairs}
+use Rattle.figure.specs.Figure.{legacyPairs}
 use Rattle.attrs.specs.Attr.{Pair, attributesOf}
 use Rattle.tags.specs.Form.{plain, keyByte}
 use Rattle.tags.specs.Items.{Attr, LegalAttrs, none as no-attr, more}
@@ -27,7 +27,7 @@ use Rattle.accepts.specs.Proviso.{hasSpecial, Free, What, code, label, m
 use Rattle.accepts.specs.Sound.{SoundEvent, SoundEvents, Sound}
 use Rattle.accepts.proofs.Free.{free-chapter, free-verse}
 use Rattle.accepts.proofs.Legal.{LegalKey, known, free-clean, legal-escaped, legal-both, legal-perhaps, legal-styled}
-use Rattle.accepts.proofs.Keys.{Keys, keys-append, attributes-own, keys-legal}
+use Rattle.accepts.proofs.Keys.{Keys, attributes-own, legacy-keys, keys-legal}
 use Rattle.accepts.proofs.FreeKeys.{attributes-free, keys-free}
 
 -- ---- each name of a node
@@ -74,20 +74,10 @@ unfolding collected
 legal-collected [] h = no-attr
 legal-collected (p ∷ ps) h = more (legal-escaped (p .key) (p .value) (h .0)) (legal-collected ps (h .1))
 
-legal-valued : (key value : Bytes) → LegalKey key → Keys LegalKey (valued key value)
-unfolding valued
-legal-valued key [] k = tt
-legal-valued key (x ∷ value) k = (k, tt)
-
 -- a figure of old has fixed keys
 legacy-legal : (t : Tape) (k a : ℕ) → Keys LegalKey (legacyPairs t k a)
-unfolding legacyPairs all plain keyByte
-legacy-legal t k a =
-    keys-append LegalKey (valued (b "alt") (describedBy t k)) _ (legal-valued _ _ (known (b "alt") refl))
-    (keys-append LegalKey (valued (b "file") (fieldAt t a 0)) _ (legal-valued _ _ (known (b "file") refl))
-    (keys-append LegalKey (valued (b "size") (fieldAt t a 1)) _ (legal-valued _ _ (known (b "size") refl))
-    (keys-append LegalKey (valued (b "loc") (fieldAt t a 2)) _ (legal-valued _ _ (known (b "loc") refl))
-    (keys-append LegalKey (valued (b "copy") (fieldAt t a 3)) _ (legal-valued _ _ (known (b "copy") refl)) (legal-valued (b "ref") (fieldAt t a 5) (known (b "ref") refl))))))
+unfolding all plain keyByte
+legacy-legal = legacy-keys LegalKey (known (b "alt") refl) (known (b "file") refl) (known (b "size") refl) (known (b "loc") refl) (known (b "copy") refl) (known (b "ref") refl)
 
 legal-unclosed : (t : Tape) (k : ℕ) → LegalAttrs (unclosed t k)
 unfolding unclosed all plain keyByte

@@ -20,27 +20,23 @@ use Rattle.words.proofs.Texts.{chars-flatten}
 use Rattle.tape.specs.File.{Tape, kindAt, textAt}
 use Rattle.tape.specs.Tree.{children}
 use Rattle.attrs.specs.Attr.{Pair, shown, valueAt, equals, hasEquals, keyIn, keyed, pairsFrom, pairsIn, isWordMarker, defaultKey, keyFor, keyedFor, attributeBody, bodyPairs, pairsAt, pairsAlong, attributesOf}
+use Rattle.figure.specs.Figure.{valued, legacyPairs}
 use Rattle.tags.specs.Form.{plain, keyByte}
 use Rattle.accepts.specs.Proviso.{hasSpecial, Free}
 use Rattle.accepts.proofs.Legal.{LegalKey, key-clean}
-
--- ---- tests of every byte
-
--- not this byte
-abbrev but : ℕ → ℕ → Bool
-but y x = not (eqb y x)
+use Rattle.accepts.proofs.Spaces.{but, solid-spaceless}
 
 -- ---- no `=` before the first
 
 no-equals : (s : Bytes) → all (but 61) (take (equals s) s) ≡ true
-unfolding all equals firstAt begins
+unfolding all but equals firstAt begins
 no-equals [] = refl
 no-equals (x ∷ s) = go (eqb 61 x) refl (no-equals s)
   where
     go : (t : Bool) → eqb 61 x ≡ t → all (but 61) (take (equals s) s) ≡ true
         → all (but 61) (take (elim (t && true) as (λ _. ℕ) [ true ↦ 0 | false ↦ suc (firstAt (begins (b "=")) s) ]) (x ∷ s)) ≡ true
     go true e h = refl
-    go false e h = rw (e, h)
+    go false e h = rw (ne-eqb x 61 (λ i. eqb-false 61 x e (sym i)), h)
 
 -- ---- the words of a text hold its bytes
 
@@ -80,31 +76,6 @@ last-of P [] g h = absurd (omega arith)
 last-of P (w ∷ []) g h = g .0
 last-of P (w ∷ v ∷ ws) g h = last-of P (v ∷ ws) (g .1) h
 
--- ---- a word holds no space
-
-every-behind : (p : Bytes → Bool) (cs ds : List Bytes) → every p (cs ++ ds) ≡ true → every p ds ≡ true
-unfolding every
-every-behind p [] ds e = e
-every-behind p (c ∷ cs) ds e = every-behind p cs ds (and-true (p c) (every p (cs ++ ds)) e .1)
-
-no-space : (w : Bytes) → IsWord Unicode w → (a z : Bytes) → w ≡ a ++ 32 ∷ z → ⊥
-unfolding every solid
-no-space w is a z e =
-    let f : charsOf Unicode w ≡ charsOf Unicode a ++ (32 ∷ []) ∷ charsOf Unicode z = ap (charsOf Unicode) e ∙ chars-space Unicode a z ∙ ap (λ (cs : List Bytes). charsOf Unicode a ++ cs) (space-chars Unicode z) in
-    let g : every (solid Unicode) ((32 ∷ []) ∷ charsOf Unicode z) ≡ true = every-behind (solid Unicode) (charsOf Unicode a) _ (sym (ap (every (solid Unicode)) f) ∙ is .allSolid) in
-    let h : not (white Unicode (32 ∷ [])) ≡ true = and-true (not (white Unicode (32 ∷ []))) (every (solid Unicode) (charsOf Unicode z)) g .0 in
-    let no-way : _≡_ {A = Bool} false true = sym (ap not (space-white Unicode)) ∙ h in
-    (let never : _≡_ {A = ℕ} 0 1 = cc in omega arith)
-
-spaceless : (w : Bytes) → IsWord Unicode w → (a s : Bytes) → w ≡ a ++ s → all (but 32) s ≡ true
-unfolding all
-spaceless w is a [] e = refl
-spaceless w is a (x ∷ s) e = go (eqb 32 x) refl (spaceless w is (a ++ x ∷ []) s (e ∙ sym (append-assoc a (x ∷ []) s)))
-  where
-    go : (t : Bool) → eqb 32 x ≡ t → all (but 32) s ≡ true → not (eqb 32 x) && all (but 32) s ≡ true
-    go true i h = absurd (no-space w is a s (e ∙ ap (λ (y : ℕ). a ++ y ∷ s) (sym (eqb-true 32 x i))))
-    go false i h = rw (i, h)
-
 -- ---- keys of a text
 
 -- what a key is by itself
@@ -132,7 +103,7 @@ key-own s h =
     let is : IsWord Unicode (lastOf (words Unicode r)) = last-of (IsWord Unicode) (words Unicode r) (words-are Unicode r) h in
     record {
       some = h;
-      space = spaceless (lastOf (words Unicode r)) is [] (lastOf (words Unicode r)) refl;
+      space = solid-spaceless (lastOf (words Unicode r)) (is .allSolid);
       equal = last-of (Holds (but 61)) (words Unicode r) (words-hold (but 61) r (no-equals s)) h;
     }
 
@@ -156,14 +127,14 @@ from-own (suc n) s = go (hasEquals s) (from-own n)
 -- ---- keys of a node
 
 -- a key that is known
-own-known : (s : Bytes) → ltb 0 (length s) && (all (but 32) s && all (but 61) s) ≡ true → Own s
+pub own-known : (s : Bytes) → ltb 0 (length s) && (all (but 32) s && all (but 61) s) ≡ true → Own s
 own-known s e =
     let h = and-true (ltb 0 (length s)) _ e in
     let i = and-true (all (but 32) s) _ (h .1) in
     record { some = ltb-true 0 (length s) (h .0); space = i .0; equal = i .1 }
 
 default-own : (m : Bytes) → Own (defaultKey m)
-unfolding defaultKey all
+unfolding defaultKey all but
 default-own m = go (isWordMarker m) (same m (b "rb")) (same m (b "xt")) (same m (b "ref")) (same m (b "jmp")) (same m (b "periph")) (begins (b "qt") m)
   where
     go : (a c d e f g h : Bool)
@@ -178,7 +149,7 @@ default-own m = go (isWordMarker m) (same m (b "rb")) (same m (b "xt")) (same m 
     go false false false false false false false = own-known (b "default") refl
 
 for-own : (marker : Bytes) (ps : List Pair) → Keys Own ps → Keys Own (map (keyedFor marker) ps)
-unfolding keyedFor keyFor all
+unfolding keyedFor keyFor all but
 for-own marker [] h = tt
 for-own marker (p ∷ ps) h = (go (same marker (b "fig") && same (p .key) (b "src")) (h .0), for-own marker ps (h .1))
   where
@@ -213,18 +184,32 @@ pub attributes-own : (t : Tape) (k : ℕ) (marker : Bytes) → Keys Own (attribu
 unfolding attributesOf
 attributes-own t k marker = along-own t marker (children t k)
 
+-- ---- figures of old
+
+valued-key : (P : Bytes → Type 0) (name value : Bytes) → P name → Keys P (valued name value)
+unfolding valued
+valued-key P name [] h = tt
+valued-key P name (x ∷ value) h = (h, tt)
+
+-- what holds of the six fixed keys holds of the keys of a figure of old
+pub legacy-keys : (P : Bytes → Type 0) → P (b "alt") → P (b "file") → P (b "size") → P (b "loc") → P (b "copy") → P (b "ref") → (t : Tape) (k a : ℕ) → Keys P (legacyPairs t k a)
+unfolding legacyPairs
+legacy-keys P alt file size loc copy ref t k a =
+    keys-append P (valued (b "alt") _) _ (valued-key P (b "alt") _ alt)
+    (keys-append P (valued (b "file") _) _ (valued-key P (b "file") _ file)
+    (keys-append P (valued (b "size") _) _ (valued-key P (b "size") _ size)
+    (keys-append P (valued (b "loc") _) _ (valued-key P (b "loc") _ loc)
+    (keys-append P (valued (b "copy") _) _ (valued-key P (b "copy") _ copy) (valued-key P (b "ref") _ ref)))))
+
 -- ---- keys that may stand in a tag
 
 may-stand : (x : ℕ) → special true x ≡ false → but 32 x ≡ true → but 61 x ≡ true → plain x && keyByte x ≡ true
-unfolding special plain keyByte
+unfolding special plain keyByte but
 may-stand x e f g =
     let i = or-both (eqb x 60) _ e in
     let j = or-both (eqb x 62) _ (i .1) in
     let k = or-both (eqb x 38) (eqb x 34) (j .1) in
-    rw (i .0, j .0, k .0, k .1, turned 32 f, turned 61 g)
-  where
-    turned : (y : ℕ) → but y x ≡ true → eqb x y ≡ false
-    turned y h = ne-eqb x y (λ e. eqb-false y x (not-true (eqb y x) h) (sym e))
+    rw (i .0, j .0, k .0, k .1, not-true (eqb x 32) f, not-true (eqb x 61) g)
 
 stands : (s : Bytes) → Free s → all (but 32) s ≡ true → all (but 61) s ≡ true → all (λ x. plain x && keyByte x) s ≡ true
 unfolding hasSpecial all

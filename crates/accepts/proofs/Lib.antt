@@ -4,6 +4,7 @@ pub mod Free
 pub mod Legal
 pub mod Agree
 pub mod Accepted
+pub mod Spaces
 pub mod Keys
 pub mod FreeKeys
 pub mod Kept

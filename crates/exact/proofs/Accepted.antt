@@ -1,7 +1,8 @@
--- What is accepted is sound.
+-- What is accepted is sound, so that what is written decides.
 use mathlib.Core.Path.{refl, ap, _∙_, subst}
 use mathlib.Core.List.{List, [], _∷_, _++_, append-assoc}
 use mathlib.Core.Bool.{false}
+use mathlib.Core.Logic.{_↔_}
 use Prim.Native.Nat.{ℕ}
 use native.Mathlib.Omega.{arith}
 use Rattle.parts.specs.Bytes.{Bytes, b}
@@ -18,11 +19,13 @@ use Rattle.events.specs.Pairing.{paired}
 use Rattle.events.specs.Text.{firstState, itemsOfTape, textOf}
 use Rattle.events.specs.Walk.{eventsOf}
 use Rattle.accepts.specs.Sound.{Sound}
+use Rattle.accepts.proofs.Accepted.{sound-accepted}
 use Rattle.exact.proofs.Reading.{Reads}
-use Rattle.exact.proofs.Cuts.{but}
+use Rattle.accepts.proofs.Spaces.{but}
+use Rattle.accepts.proofs.Keys.{own-known as known}
 use Rattle.exact.proofs.Attrs.{none, more}
 use Rattle.exact.proofs.Items.{reads-item}
-use Rattle.exact.proofs.Wordy.{known, wordy-escaped, WordyEvents}
+use Rattle.exact.proofs.Wordy.{wordy-escaped, WordyEvents}
 use Rattle.exact.proofs.Sound.{read-sound}
 use Rattle.exact.proofs.Judged.{form-reads}
 use Rattle.exact.proofs.Walked.{walk-wordy}
@@ -46,3 +49,7 @@ read-tape t w z =
 -- a tape whose text is accepted is sound
 pub accepted-sound : (t : Tape) (c v : ℕ) → Judged (textOf t) (accepted c v) → Sound t
 accepted-sound t c v (is-0 ts form low tree demand) = read-tape t (walk-wordy t) (form-reads (textOf t) ts form demand)
+
+-- accepted, with some counts, exactly where what is written is sound
+pub accepted-exactly : (t : Tape) → ((c : ℕ) × (v : ℕ) × Judged (textOf t) (accepted c v)) ↔ Sound t
+accepted-exactly t = (λ h. accepted-sound t (h .0) (h .1) (h .2), λ s. (_, _, sound-accepted t s))

@@ -15,17 +15,13 @@ use Rattle.tags.specs.Items.{Attr, valueOf, pairsOf, LegalAttrs, none as no-att
 use Rattle.tags.specs.declared.Class.the-variants.{Value, Key}
 use Rattle.tags.proofs.Rendered.{escape-clean}
 use Rattle.exact.proofs.Reading.{tailed, stuck, never}
-use Rattle.exact.proofs.Cuts.{but, not-in, Cut, even, longer, cut, cut-even, key-no-equals, key-no-end, value-no-quote, value-no-tag, stuck-word, stuck-text}
-
--- a word with no `=`
-pub record WordyKey (key : Bytes) : Type 0 where
-  pub some : 0 < length key
-  pub space : all (but 32) key ≡ true
-  pub equal : all (but 61) key ≡ true
+use Rattle.accepts.proofs.Spaces.{but}
+use Rattle.accepts.proofs.Keys.{Own}
+use Rattle.exact.proofs.Cuts.{not-in, Cut, even, longer, cut, cut-even, key-no-equals, key-no-end, value-no-quote, value-no-tag, stuck-word, stuck-text}
 
 -- such a key, and no space in a raw value
 pub record WordyAttr (a : Attr) : Type 0 where
-  pub key : WordyKey (a .key)
+  pub key : Own (a .key)
   pub value : a .raw ≡ true → all (but 32) (a .value) ≡ true
 
 -- each of a row is wordy

@@ -14,13 +14,10 @@ use Rattle.tags.specs.Form.{plain, keyByte, escapeAt, ok, run}
 use Rattle.tags.specs.Write.{Clean}
 use Rattle.tags.specs.declared.Class.{Class}
 use Rattle.tags.specs.declared.Class.the-variants.{Text, Value, Key}
+use Rattle.accepts.proofs.Spaces.{but}
 use Rattle.exact.proofs.Reading.{stuck, never}
 
 -- ---- tests of every byte
-
--- not this byte
-unfoldable pub but : ℕ → ℕ → Bool
-but y x = not (eqb x y)
 
 -- a byte that does not stand in a text
 pub not-in : (y : ℕ) (a z : Bytes) → all (but y) (a ++ y ∷ z) ≡ true → ⊥

@@ -20,7 +20,8 @@ use Rattle.checker.specs.Steps.{Held, held}
 use Rattle.checker.specs.Meaning.{since, Fits, of-open, of-single, chapter-end, verse-end}
 use Rattle.accepts.specs.Proviso.{hasSpecial, Free}
 use Rattle.exact.proofs.Reading.{tailed, tagOf, tagIn, Reads, never}
-use Rattle.exact.proofs.Cuts.{but, Cut, even, longer, cut, cut-even, key-no-equals, value-no-quote}
+use Rattle.accepts.proofs.Spaces.{but}
+use Rattle.exact.proofs.Cuts.{Cut, even, longer, cut, cut-even, key-no-equals, value-no-quote}
 use Rattle.exact.proofs.Items.{tag-read}
 
 -- ---- free of the four bytes

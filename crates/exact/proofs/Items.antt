@@ -23,7 +23,8 @@ use Rattle.checker.specs.Meaning.{since, Fits}
 use Rattle.checker.proofs.Decides.{since-other}
 use Rattle.accepts.specs.Sound.{SoundItem}
 use Rattle.exact.proofs.Reading.{tailed, tagOf, tagIn, Reads, done, byte, close as close-read, tag, never, never-read}
-use Rattle.exact.proofs.Cuts.{but, text-no-tag}
+use Rattle.accepts.proofs.Spaces.{but}
+use Rattle.exact.proofs.Cuts.{text-no-tag}
 use Rattle.exact.proofs.Attrs.{WordyAttrs, fits}
 
 -- ---- names

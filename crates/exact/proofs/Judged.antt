@@ -15,7 +15,8 @@ use Rattle.checker.specs.Steps.{Held, shut}
 use Rattle.checker.specs.Meaning.{since, openBehind, Fits}
 use Rattle.checker.proofs.Demands.{demand-exact}
 use Rattle.exact.proofs.Reading.{Reads, done, byte, close, tag}
-use Rattle.exact.proofs.Cuts.{but, text-no-tag, text-no-end}
+use Rattle.accepts.proofs.Spaces.{but}
+use Rattle.exact.proofs.Cuts.{text-no-tag, text-no-end}
 
 -- a text of bytes that may stand in front of what is read
 text-reads : {c v : Held} (t r : Bytes) → all (but 60) t ≡ true → all (but 62) t ≡ true → Reads c v r → Reads c v (t ++ r)

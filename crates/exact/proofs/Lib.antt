@@ -6,7 +6,5 @@ pub mod Ends
 pub mod Wordy
 pub mod Sound
 pub mod Judged
-pub mod Spaces
-pub mod Keys
 pub mod Walked
 pub mod Accepted

@@ -15,11 +15,10 @@ use Rattle.events.specs.Event.{Event, escaped, perhaps, collected}
 use Rattle.events.specs.Walk.{style, styled, unclosed, eventsOf}
 use Rattle.grammar.specs.Grammar.{Given, unknown-para, unknown-char, old-figure, a-figure, a-ref, a-link, a-note, an-ms, a-char, a-para, a-run, a-table, a-row, a-cell, a-sidebar, a-periph, a-break, a-text, a-line, an-empty, a-chapter, a-verse, by-itself, of-book, opening, closing, AllWritten}
 use Rattle.grammar.proofs.Written.{walk-written, given-range, given-name}
-use Rattle.exact.proofs.Cuts.{but}
+use Rattle.accepts.proofs.Spaces.{but, marker-spaceless, code-spaceless}
+use Rattle.accepts.proofs.Keys.{Own, own-known as known, Keys, attributes-own, legacy-keys}
 use Rattle.exact.proofs.Attrs.{WordyAttr, WordyAttrs, none, more}
-use Rattle.exact.proofs.Wordy.{known, wordy-escaped, wordy-raw, wordy-append, wordy-perhaps, WordyEvents}
-use Rattle.exact.proofs.Spaces.{marker-spaceless, code-spaceless}
-use Rattle.exact.proofs.Keys.{Keys, attributes-wordy, legacy-wordy}
+use Rattle.exact.proofs.Wordy.{wordy-escaped, wordy-raw, wordy-append, wordy-perhaps, WordyEvents}
 
 -- ---- attributes
 
@@ -39,14 +38,18 @@ unclosed-wordy t k = go (isSynthetic t (nodeAt t k .link))
     go true = more (wordy-escaped (b "closed") (b "false") (known (b "closed") refl)) none
     go false = none
 
-collected-wordy : (ps : List Pair) → Keys ps → WordyAttrs (collected ps)
+collected-wordy : (ps : List Pair) → Keys Own ps → WordyAttrs (collected ps)
 unfolding collected
 collected-wordy [] h = none
 collected-wordy (p ∷ ps) h = more (wordy-escaped (p .key) (p .value) (h .0)) (collected-wordy ps (h .1))
 
 -- the attributes of a node
 own-wordy : (t : Tape) (k : ℕ) (marker : Bytes) → WordyAttrs (collected (attributesOf t k marker))
-own-wordy t k marker = collected-wordy (attributesOf t k marker) (attributes-wordy t k marker)
+own-wordy t k marker = collected-wordy (attributesOf t k marker) (attributes-own t k marker)
+
+legacy-wordy : (t : Tape) (k a : ℕ) → Keys Own (legacyPairs t k a)
+unfolding all but
+legacy-wordy = legacy-keys Own (known (b "alt") refl) (known (b "file") refl) (known (b "size") refl) (known (b "loc") refl) (known (b "copy") refl) (known (b "ref") refl)
 
 given-wordy : {t : Tape} {n : ℕ} {qs : List Attr} → Given t n qs → WordyAttrs qs
 unfolding all but

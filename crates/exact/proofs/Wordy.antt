@@ -5,32 +5,23 @@ use mathlib.Core.List.{List, [], _∷_, _++_}
 use mathlib.Core.Option.{Option, none as nothing, some}
 use Prim.Native.Nat.{ℕ, _<_}
 use lib.ListN.{length}
-use lib.Dec.{ltb}
-use borrow.Author.Tests.{ltb-true}
 use Rattle.parts.specs.Bytes.{Bytes, b}
-use Rattle.parts.proofs.Laws.{and-true}
 use Rattle.chars.proofs.Lists.{all}
 use Rattle.tags.specs.Items.{Attr}
 use Rattle.events.specs.Event.{Event, item, chapter, verse, book, rawly, escaped, perhaps}
 use Rattle.events.specs.Pairing.{chapterId, verseId, chapterAttrs, verseAttrs, bookAttrs}
 use Rattle.chars.specs.Decimal.{decimal}
 use Rattle.exact.proofs.Reading.{never}
-use Rattle.exact.proofs.Cuts.{but}
-use Rattle.exact.proofs.Attrs.{WordyKey, WordyAttr, WordyAttrs, none, more}
+use Rattle.accepts.proofs.Spaces.{but}
+use Rattle.accepts.proofs.Keys.{Own, own-known as known}
+use Rattle.exact.proofs.Attrs.{WordyAttr, WordyAttrs, none, more}
 use Rattle.exact.proofs.Items.{WordyItem}
 
--- a key that is known
-pub known : (key : Bytes) → ltb 0 (length key) && (all (but 32) key && all (but 61) key) ≡ true → WordyKey key
-known key e =
-    let h = and-true (ltb 0 (length key)) _ e in
-    let g = and-true (all (but 32) key) (all (but 61) key) (h .1) in
-    record { some = ltb-true 0 (length key) (h .0); space = g .0; equal = g .1 }
-
-pub wordy-escaped : (key value : Bytes) → WordyKey key → WordyAttr (escaped key value)
+pub wordy-escaped : (key value : Bytes) → Own key → WordyAttr (escaped key value)
 unfolding escaped
 wordy-escaped key value k = record { key = k; value = λ e. never e }
 
-pub wordy-raw : (key value : Bytes) → WordyKey key → all (but 32) value ≡ true → WordyAttr (rawly key value)
+pub wordy-raw : (key value : Bytes) → Own key → all (but 32) value ≡ true → WordyAttr (rawly key value)
 unfolding rawly
 wordy-raw key value k h = record { key = k; value = λ e. h }
 
@@ -38,7 +29,7 @@ pub wordy-append : (ps qs : List Attr) → WordyAttrs ps → WordyAttrs qs → W
 wordy-append [] qs none h = h
 wordy-append (p ∷ ps) qs (more w ws) h = more w (wordy-append ps qs ws h)
 
-pub wordy-perhaps : (key : Bytes) (o : Option Bytes) → WordyKey key → WordyAttrs (perhaps key o)
+pub wordy-perhaps : (key : Bytes) (o : Option Bytes) → Own key → WordyAttrs (perhaps key o)
 unfolding perhaps
 wordy-perhaps key nothing k = none
 wordy-perhaps key (some value) k = more (wordy-escaped key value k) none

@@ -3,6 +3,7 @@ use mathlib.Core.Path.{_≡_, refl, sym, ap, _∙_, subst}
 use mathlib.Core.Bool.{Bool, true, false, not, _&&_}
 use mathlib.Core.List.{List, [], _∷_, _++_, flatten, append-assoc}
 use Prim.Native.Nat.{ℕ}
+use native.Mathlib.Omega.{arith}
 use lib.Dec.{eqb}
 use borrow.Author.Tests.{eqb-true, not-true}
 use Rattle.parts.specs.Bytes.{Bytes}
@@ -20,8 +21,13 @@ use Rattle.words.proofs.Texts.{chars-row, row-chars}
 use Rattle.tape.specs.File.{Tape, textAt}
 use Rattle.tape.specs.Name.{bare, endsName, inName, nameIn, markerName}
 use Rattle.render.specs.Note.{firstOr, firstWords, bookCode}
-use Rattle.exact.proofs.Reading.{never}
-use Rattle.exact.proofs.Cuts.{but}
+
+-- another byte than this
+unfoldable pub but : ℕ → ℕ → Bool
+but y x = not (eqb x y)
+
+never : false ≡ true → ⊥
+never e = let no-way : _≡_ {A = ℕ} 0 1 = cc in omega arith
 
 every-behind : (p : Bytes → Bool) (cs ds : List Bytes) → every p (cs ++ ds) ≡ true → every p ds ≡ true
 unfolding every
