@@ -4,29 +4,19 @@ use mathlib.Core.Bool.{Bool, true, false, cond, _&&_}
 use mathlib.Core.List.{List, [], _∷_, _++_, map}
 use Prim.Native.Nat.{ℕ}
 use lib.Dec.{eqb}
-use Rattle.parts.specs.Bytes.{Bytes, b, same, begins}
+use Rattle.parts.specs.Bytes.{Bytes, b, same}
 use Rattle.parts.proofs.Laws.{same-true}
 use Rattle.chars.specs.Escape.{special}
 use Rattle.tape.specs.File.{Tape, kindAt, textAt}
 use Rattle.tape.specs.Tree.{children}
-use Rattle.attrs.specs.Attr.{Pair, hasEquals, pairsIn, isWordMarker, defaultKey, keyFor, keyedFor, attributeBody, bodyPairs, pairsAt, pairsAlong, attributesOf}
+use Rattle.attrs.specs.Attr.{Pair, hasEquals, pairsIn, defaultKey, keyFor, keyedFor, attributeBody, bodyPairs, pairsAt, pairsAlong, attributesOf}
 use Rattle.accepts.specs.Proviso.{hasSpecial, Free, keysOf, AllFree}
-use Rattle.accepts.proofs.Keys.{Keys, keys-append, keys-both}
+use Rattle.grammar.proofs.Attrs.{Keys}
+use Rattle.accepts.proofs.Keys.{keys-append, keys-both, default-any}
 
 default-free : (m : Bytes) → Free (defaultKey m)
-unfolding defaultKey hasSpecial special
-default-free m = go (isWordMarker m) (same m (b "rb")) (same m (b "xt")) (same m (b "ref")) (same m (b "jmp")) (same m (b "periph")) (begins (b "qt") m)
-  where
-    go : (a c d e f g h : Bool)
-        → Free (cond a (b "lemma") (cond c (b "gloss") (cond d (b "href") (cond e (b "loc") (cond f (b "link-href") (cond g (b "id") (cond h (b "who") (b "default"))))))))
-    go true c d e f g h = refl
-    go false true d e f g h = refl
-    go false false true e f g h = refl
-    go false false false true f g h = refl
-    go false false false false true g h = refl
-    go false false false false false true h = refl
-    go false false false false false false true = refl
-    go false false false false false false false = refl
+unfolding hasSpecial special
+default-free = default-any Free refl refl refl refl refl refl refl refl
 
 -- `src` and `file` are free
 key-free : (m n key : Bytes) → Free (keyFor m key) → Free (keyFor n key)

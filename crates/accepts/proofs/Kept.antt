@@ -1,33 +1,31 @@
 -- The proviso of demand 3 makes what is written sound.
-use mathlib.Core.Path.{_≡_, refl, ap, _∙_, subst}
-use mathlib.Core.Bool.{Bool, true, false, cond, _&&_}
+use mathlib.Core.Path.{_≡_, refl}
+use mathlib.Core.Bool.{Bool, true, false}
 use mathlib.Core.List.{List, [], _∷_, _++_}
-use mathlib.Core.Option.{Option}
 use Prim.Native.Nat.{ℕ}
 use native.Mathlib.Omega.{arith}
-use Rattle.parts.specs.Bytes.{Bytes, b}
-use Rattle.chars.specs.Escape.{special}
-use Rattle.chars.proofs.Lists.{all}
-use Rattle.tape.specs.File.{Tape, nodeAt, kindAt, isSynthetic, bearsMarker}
+use Rattle.parts.specs.Bytes.{Bytes}
+use Rattle.tape.specs.File.{Tape, kindAt, bearsMarker}
 use Rattle.tape.specs.Name.{markerName}
 use Rattle.render.specs.Shape.{isOpen, isVerse}
 use Rattle.render.specs.Label.{labelOf}
 use Rattle.render.specs.Note.{bookCode}
-use Rattle.figure.specs.Figure.{legacyPairs}
-use Rattle.attrs.specs.Attr.{Pair, attributesOf}
-use Rattle.tags.specs.Form.{plain, keyByte}
-use Rattle.tags.specs.Items.{Attr, LegalAttrs, none as no-attr, more}
-use Rattle.events.specs.Event.{Event, escaped, perhaps, collected}
+use Rattle.attrs.specs.Attr.{attributesOf}
+use Rattle.tags.specs.Write.{Clean}
+use Rattle.tags.specs.declared.Class.the-variants.{Value}
+use Rattle.tags.specs.Items.{Attr, LegalAttrs}
+use Rattle.events.specs.Event.{Event}
 use Rattle.events.specs.Pairing.{State, after}
 use Rattle.events.specs.Text.{firstState}
-use Rattle.events.specs.Walk.{Role, id, roleOf, style, styled, unclosed, eventsOf}
-use Rattle.grammar.specs.Grammar.{Given, unknown-para, unknown-char, old-figure, a-figure, a-ref, a-link, a-note, an-ms, a-char, a-para, a-run, a-table, a-row, a-cell, a-sidebar, a-periph, a-break, a-text, a-line, an-empty, a-chapter, a-verse, Written, by-itself, of-book, opening, closing, AllWritten}
+use Rattle.events.specs.Walk.{id, roleOf, eventsOf}
+use Rattle.grammar.specs.Grammar.{Given, a-text, a-line, an-empty, a-chapter, a-verse, Written, by-itself, of-book, opening, closing, AllWritten}
 use Rattle.grammar.proofs.Written.{walk-written}
+use Rattle.grammar.proofs.Attrs.{Keys, given-attrs}
 use Rattle.accepts.specs.Proviso.{hasSpecial, Free, What, code, label, marker, Name, nameWhere, isId, hasCode, collectsAs, keysOf, namesOf, AllFree, Proviso}
 use Rattle.accepts.specs.Sound.{SoundEvent, SoundEvents, Sound}
 use Rattle.accepts.proofs.Free.{free-chapter, free-verse}
-use Rattle.accepts.proofs.Legal.{LegalKey, known, free-clean, legal-escaped, legal-both, legal-perhaps, legal-styled}
-use Rattle.accepts.proofs.Keys.{Keys, attributes-own, legacy-keys, keys-legal}
+use Rattle.accepts.proofs.Legal.{LegalKey, free-clean, attrs-legal, styles-clean, keys-known}
+use Rattle.accepts.proofs.Keys.{attributes-own, keys-legal}
 use Rattle.accepts.proofs.FreeKeys.{attributes-free, keys-free}
 
 -- ---- each name of a node
@@ -67,56 +65,14 @@ module _ (t : Tape) (p : Proviso t) where
       keys-legal (attributesOf t k name) (attributes-own t k name)
       (attributes-free t k (collectsAs t k) name (keys-free (attributesOf t k (collectsAs t k)) (split k .3)))
 
--- ---- attributes of elements
-
-legal-collected : (ps : List Pair) → Keys LegalKey ps → LegalAttrs (collected ps)
-unfolding collected
-legal-collected [] h = no-attr
-legal-collected (p ∷ ps) h = more (legal-escaped (p .key) (p .value) (h .0)) (legal-collected ps (h .1))
-
--- a figure of old has fixed keys
-legacy-legal : (t : Tape) (k a : ℕ) → Keys LegalKey (legacyPairs t k a)
-unfolding all plain keyByte
-legacy-legal = legacy-keys LegalKey (known (b "alt") refl) (known (b "file") refl) (known (b "size") refl) (known (b "loc") refl) (known (b "copy") refl) (known (b "ref") refl)
-
-legal-unclosed : (t : Tape) (k : ℕ) → LegalAttrs (unclosed t k)
-unfolding unclosed all plain keyByte
-legal-unclosed t k = go (isSynthetic t (nodeAt t k .link))
-  where
-    go : (z : Bool) → LegalAttrs (cond z (escaped (b "closed") (b "false") ∷ []) [])
-    go true = more (legal-escaped (b "closed") (b "false") (known (b "closed") refl)) no-attr
-    go false = no-attr
+-- ---- what is written
 
 module _ (t : Tape) (p : Proviso t) where
-  collected-legal : (k : ℕ) (name : Bytes) → LegalAttrs (collected (attributesOf t k name))
-  collected-legal k name = legal-collected (attributesOf t k name) (kept-keys t p k name)
-
-  -- the style of a marker, and other attributes behind it
-  legal-style : {qs : List Attr} (k : ℕ) → bearsMarker (kindAt t k) ≡ true → LegalAttrs qs → LegalAttrs (style t k ∷ qs)
-  unfolding style
-  legal-style k m g = more (legal-styled (markerName t k) (free-clean (markerName t k) (kept-marker t p k m))) g
-
+  -- the attributes of an element
   given-legal : {n : ℕ} {qs : List Attr} → Given t n qs → LegalAttrs qs
-  unfolding styled all plain keyByte hasSpecial special
-  given-legal (unknown-para k m) = legal-style k m (more (legal-escaped (b "status") _ (known (b "status") refl)) no-attr)
-  given-legal (unknown-char k m) = legal-style k m (more (legal-escaped (b "status") _ (known (b "status") refl)) no-attr)
-  given-legal (old-figure k a) = more (legal-styled (b "fig") (free-clean (b "fig") refl)) (legal-collected (legacyPairs t k a) (legacy-legal t k a))
-  given-legal (a-figure k) = more (legal-styled (b "fig") (free-clean (b "fig") refl)) (collected-legal k (b "fig"))
-  given-legal (a-ref k) = legal-perhaps (b "loc") _ (known (b "loc") refl)
-  given-legal (a-link loc) = more (legal-escaped (b "loc") loc (known (b "loc") refl)) no-attr
-  given-legal (a-note k m) = more (legal-escaped (b "caller") _ (known (b "caller") refl)) (legal-style k m (legal-perhaps (b "category") _ (known (b "category") refl)))
-  given-legal (an-ms k m) = legal-style k m (collected-legal k (markerName t k))
-  given-legal (a-char k m) = legal-style k m (legal-both (unclosed t k) _ (legal-unclosed t k) (collected-legal k (markerName t k)))
-  given-legal (a-para k m) = legal-style k m no-attr
-  given-legal a-run = more (legal-styled (b "p") (free-clean (b "p") refl)) no-attr
-  given-legal a-table = no-attr
-  given-legal a-row = more (legal-styled (b "tr") (free-clean (b "tr") refl)) no-attr
-  given-legal (a-cell k m) = legal-style k m (more (legal-escaped (b "align") _ (known (b "align") refl)) no-attr)
-  given-legal (a-sidebar k m) = legal-style k m (legal-both (perhaps (b "category") _) _ (legal-perhaps (b "category") _ (known (b "category") refl)) (legal-unclosed t k))
-  given-legal (a-periph k) = legal-both (perhaps (b "alt") _) _ (legal-perhaps (b "alt") _ (known (b "alt") refl)) (collected-legal k (b "periph"))
-  given-legal a-break = no-attr
-
-  -- ---- events
+  given-legal a =
+      attrs-legal
+      (given-attrs (Clean Value) LegalKey styles-clean keys-known t (λ k m. free-clean (markerName t k) (kept-marker t p k m)) (kept-keys t p) a)
 
   -- an event in a state whose book code is free is sound, and leaves such a state
   kept-event : {e : Event} (s : State) → Written t e → Free (s .book) → SoundEvent s e × Free (after s e .book)

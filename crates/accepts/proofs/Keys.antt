@@ -20,8 +20,8 @@ use Rattle.words.proofs.Texts.{chars-flatten}
 use Rattle.tape.specs.File.{Tape, kindAt, textAt}
 use Rattle.tape.specs.Tree.{children}
 use Rattle.attrs.specs.Attr.{Pair, shown, valueAt, equals, hasEquals, keyIn, keyed, pairsFrom, pairsIn, isWordMarker, defaultKey, keyFor, keyedFor, attributeBody, bodyPairs, pairsAt, pairsAlong, attributesOf}
-use Rattle.figure.specs.Figure.{valued, legacyPairs}
 use Rattle.tags.specs.Form.{plain, keyByte}
+use Rattle.grammar.proofs.Attrs.{Keys}
 use Rattle.accepts.specs.Proviso.{hasSpecial, Free}
 use Rattle.accepts.proofs.Legal.{LegalKey, key-clean}
 use Rattle.accepts.proofs.Spaces.{but, solid-spaceless}
@@ -84,10 +84,6 @@ pub record Own (key : Bytes) : Type 0 where
   pub space : all (but 32) key ≡ true
   pub equal : all (but 61) key ≡ true
 
-abbrev pub Keys : (Bytes → Type 0) → List Pair → Type 0
-Keys P [] = Unit {0}
-Keys P (p ∷ ps) = P (p .key) × Keys P ps
-
 pub keys-append : (P : Bytes → Type 0) (ps qs : List Pair) → Keys P ps → Keys P qs → Keys P (ps ++ qs)
 keys-append P [] qs h g = g
 keys-append P (p ∷ ps) qs h g = (h .0, keys-append P ps qs (h .1) g)
@@ -133,20 +129,27 @@ own-known s e =
     let i = and-true (all (but 32) s) _ (h .1) in
     record { some = ltb-true 0 (length s) (h .0); space = i .0; equal = i .1 }
 
-default-own : (m : Bytes) → Own (defaultKey m)
-unfolding defaultKey all but
-default-own m = go (isWordMarker m) (same m (b "rb")) (same m (b "xt")) (same m (b "ref")) (same m (b "jmp")) (same m (b "periph")) (begins (b "qt") m)
+-- what holds of the eight default keys
+pub default-any : (P : Bytes → Type 0) → P (b "lemma") → P (b "gloss") → P (b "href") → P (b "loc") → P (b "link-href") → P (b "id") → P (b "who") → P (b "default")
+    → (m : Bytes) → P (defaultKey m)
+unfolding defaultKey
+default-any P lemma gloss href loc link-href id who other m =
+    go (isWordMarker m) (same m (b "rb")) (same m (b "xt")) (same m (b "ref")) (same m (b "jmp")) (same m (b "periph")) (begins (b "qt") m)
   where
     go : (a c d e f g h : Bool)
-        → Own (cond a (b "lemma") (cond c (b "gloss") (cond d (b "href") (cond e (b "loc") (cond f (b "link-href") (cond g (b "id") (cond h (b "who") (b "default"))))))))
-    go true c d e f g h = own-known (b "lemma") refl
-    go false true d e f g h = own-known (b "gloss") refl
-    go false false true e f g h = own-known (b "href") refl
-    go false false false true f g h = own-known (b "loc") refl
-    go false false false false true g h = own-known (b "link-href") refl
-    go false false false false false true h = own-known (b "id") refl
-    go false false false false false false true = own-known (b "who") refl
-    go false false false false false false false = own-known (b "default") refl
+        → P (cond a (b "lemma") (cond c (b "gloss") (cond d (b "href") (cond e (b "loc") (cond f (b "link-href") (cond g (b "id") (cond h (b "who") (b "default"))))))))
+    go true c d e f g h = lemma
+    go false true d e f g h = gloss
+    go false false true e f g h = href
+    go false false false true f g h = loc
+    go false false false false true g h = link-href
+    go false false false false false true h = id
+    go false false false false false false true = who
+    go false false false false false false false = other
+
+default-own : (m : Bytes) → Own (defaultKey m)
+unfolding all but
+default-own = default-any Own (own-known _ refl) (own-known _ refl) (own-known _ refl) (own-known _ refl) (own-known _ refl) (own-known _ refl) (own-known _ refl) (own-known _ refl)
 
 for-own : (marker : Bytes) (ps : List Pair) → Keys Own ps → Keys Own (map (keyedFor marker) ps)
 unfolding keyedFor keyFor all but
@@ -183,23 +186,6 @@ along-own t marker (k ∷ ks) = keys-append Own (pairsAt t marker k) _ (at-own t
 pub attributes-own : (t : Tape) (k : ℕ) (marker : Bytes) → Keys Own (attributesOf t k marker)
 unfolding attributesOf
 attributes-own t k marker = along-own t marker (children t k)
-
--- ---- figures of old
-
-valued-key : (P : Bytes → Type 0) (name value : Bytes) → P name → Keys P (valued name value)
-unfolding valued
-valued-key P name [] h = tt
-valued-key P name (x ∷ value) h = (h, tt)
-
--- what holds of the six fixed keys holds of the keys of a figure of old
-pub legacy-keys : (P : Bytes → Type 0) → P (b "alt") → P (b "file") → P (b "size") → P (b "loc") → P (b "copy") → P (b "ref") → (t : Tape) (k a : ℕ) → Keys P (legacyPairs t k a)
-unfolding legacyPairs
-legacy-keys P alt file size loc copy ref t k a =
-    keys-append P (valued (b "alt") _) _ (valued-key P (b "alt") _ alt)
-    (keys-append P (valued (b "file") _) _ (valued-key P (b "file") _ file)
-    (keys-append P (valued (b "size") _) _ (valued-key P (b "size") _ size)
-    (keys-append P (valued (b "loc") _) _ (valued-key P (b "loc") _ loc)
-    (keys-append P (valued (b "copy") _) _ (valued-key P (b "copy") _ copy) (valued-key P (b "ref") _ ref)))))
 
 -- ---- keys that may stand in a tag
 

@@ -17,14 +17,15 @@ use Rattle.tags.specs.Names.{IsName}
 use Rattle.tags.specs.Form.{plain, keyByte, ok, run}
 use Rattle.tags.specs.Write.{Clean, TagForm}
 use Rattle.tags.specs.declared.Class.the-variants.{Value, Key}
-use Rattle.tags.specs.Items.{Attr, Item, line, tokensOf, LegalAttr, LegalAttrs, none as no-attr, more, LegalItems, nil, a-start, an-empty as legal-empty, a-close, a-text as legal-text, a-line as legal-line}
+use Rattle.tags.specs.Items.{Attr, Item, line, tokensOf, LegalAttr, LegalAttrs, none, more, LegalItems, nil, a-start, an-empty as legal-empty, a-close, a-text as legal-text, a-line as legal-line}
 use Rattle.tags.proofs.Rendered.{plain-clean, framed-form}
-use Rattle.events.specs.Event.{Event, rawly, escaped, perhaps}
+use Rattle.events.specs.Event.{Event, rawly, escaped}
 use Rattle.events.specs.Pairing.{State, after, endOf, chapterAttrs, verseAttrs, bookAttrs, bookItems, itemsOf, lastEnds, paired}
 use Rattle.events.specs.Text.{firstState, itemsOfTape, textOf}
 use Rattle.events.specs.Walk.{eventsOf}
 use Rattle.grammar.specs.Grammar.{a-text, a-line, an-empty, a-chapter, a-verse, Written, by-itself, of-book, opening, closing, AllWritten}
 use Rattle.grammar.proofs.Written.{walk-written, given-name}
+use Rattle.grammar.proofs.Attrs.{fixedStyles, fixedKeys, OfEach, AttrsOf, no-attr, a-style, a-value, chapter-attrs, verse-attrs}
 use Rattle.accepts.specs.Proviso.{hasSpecial, Free}
 use Rattle.accepts.specs.Sound.{SoundEvent, SoundEvents, Sound}
 use Rattle.accepts.proofs.Free.{free-at}
@@ -51,26 +52,29 @@ free-clean s h = plain-clean s (free-at s h)
 
 -- ---- attributes
 
-pub legal-escaped : (key value : Bytes) → LegalKey key → LegalAttr (escaped key value)
-unfolding escaped
-legal-escaped key value k = record { some = k .some; key = k .clean; value = λ e. absurd (let no-way : _≡_ {A = ℕ} 0 1 = cc in omega arith) }
-
-pub legal-raw : (key value : Bytes) → LegalKey key → Clean Value value → LegalAttr (rawly key value)
+legal-raw : (key value : Bytes) → LegalKey key → Clean Value value → LegalAttr (rawly key value)
 unfolding rawly
 legal-raw key value k h = record { some = k .some; key = k .clean; value = λ _. h }
 
-pub legal-both : (ps qs : List Attr) → LegalAttrs ps → LegalAttrs qs → LegalAttrs (ps ++ qs)
-legal-both [] qs no-attr g = g
-legal-both (a ∷ ps) qs (more h hs) g = more h (legal-both ps qs hs g)
+legal-escaped : (key value : Bytes) → LegalKey key → LegalAttr (escaped key value)
+unfolding escaped
+legal-escaped key value k = record { some = k .some; key = k .clean; value = λ e. absurd (let no-way : _≡_ {A = ℕ} 0 1 = cc in omega arith) }
 
-pub legal-perhaps : (key : Bytes) (o : Option Bytes) → LegalKey key → LegalAttrs (perhaps key o)
-unfolding perhaps
-legal-perhaps key nothing k = no-attr
-legal-perhaps key (some value) k = more (legal-escaped key value k) no-attr
-
-pub legal-styled : (name : Bytes) → Clean Value name → LegalAttr (rawly (b "style") name)
+-- styles that may stand raw in a value, and legal keys
+pub attrs-legal : {qs : List Attr} → AttrsOf (Clean Value) LegalKey qs → LegalAttrs qs
 unfolding all plain keyByte
-legal-styled name h = legal-raw (b "style") name (known (b "style") refl) h
+attrs-legal no-attr = none
+attrs-legal (a-style name h g) = more (legal-raw (b "style") name (known (b "style") refl) h) (attrs-legal g)
+attrs-legal (a-value key value h g) = more (legal-escaped key value h) (attrs-legal g)
+
+pub styles-clean : OfEach (Clean Value) fixedStyles
+unfolding hasSpecial special
+styles-clean = (free-clean _ refl, (free-clean _ refl, (free-clean _ refl, (free-clean _ refl, (free-clean _ refl, tt)))))
+
+pub keys-known : OfEach LegalKey fixedKeys
+unfolding all plain keyByte
+keys-known =
+    (known _ refl, (known _ refl, (known _ refl, (known _ refl, (known _ refl, (known _ refl, (known _ refl, (known _ refl, (known _ refl, (known _ refl, (known _ refl, (known _ refl, (known _ refl, (known _ refl, (known _ refl, tt)))))))))))))))
 
 -- ---- what pairing writes
 
@@ -103,24 +107,13 @@ open-after s (closing a) g h = h
 legal-end : (k : ℕ) (o : Option Bytes) (js : List Item) → IsName k → FreeId o → LegalItems js → LegalItems (endOf k o ++ js)
 unfolding endOf all plain keyByte
 legal-end k nothing js n h g = g
-legal-end k (some i) js n h g = legal-empty n (more (legal-raw (b "eid") i (known (b "eid") refl) (free-clean i h)) no-attr) g
+legal-end k (some i) js n h g = legal-empty n (more (legal-raw (b "eid") i (known (b "eid") refl) (free-clean i h)) none) g
 
 chapter-legal : (code : Bytes) (n : ℕ) (alt published : Option Bytes) → LegalAttrs (chapterAttrs code n alt published)
-unfolding chapterAttrs all plain keyByte hasSpecial special
-chapter-legal code n alt published =
-    more (legal-escaped (b "number") _ (known (b "number") refl))
-    (more (legal-styled (b "c") (free-clean (b "c") refl))
-    (legal-both (perhaps (b "altnumber") alt) _ (legal-perhaps (b "altnumber") alt (known (b "altnumber") refl))
-    (legal-both (perhaps (b "pubnumber") published) _ (legal-perhaps (b "pubnumber") published (known (b "pubnumber") refl))
-    (more (legal-escaped (b "sid") _ (known (b "sid") refl)) no-attr))))
+chapter-legal code n alt published = attrs-legal (chapter-attrs (Clean Value) LegalKey styles-clean keys-known code n alt published)
 
 verse-legal : (code : Bytes) (n : ℕ) (label : Bytes) (alt published : Option Bytes) → LegalAttrs (verseAttrs code n label alt published)
-unfolding verseAttrs all plain keyByte hasSpecial special
-verse-legal code n label alt published =
-    more (legal-escaped (b "number") _ (known (b "number") refl))
-    (more (legal-styled (b "v") (free-clean (b "v") refl))
-    (legal-both (perhaps (b "altnumber") alt) _ (legal-perhaps (b "altnumber") alt (known (b "altnumber") refl))
-    (more (legal-escaped (b "sid") _ (known (b "sid") refl)) (legal-perhaps (b "pubnumber") published (known (b "pubnumber") refl)))))
+verse-legal code n label alt published = attrs-legal (verse-attrs (Clean Value) LegalKey styles-clean keys-known code n label alt published)
 
 book-legal : (code rest : Bytes) (js : List Item) → Clean Value code → LegalItems js → LegalItems (bookItems code rest ++ js)
 unfolding bookItems bookAttrs all plain keyByte hasSpecial special
@@ -130,7 +123,7 @@ book-legal code rest js h g = go rest
     two = record { one = omega arith; sixteen = omega arith }
 
     qs : LegalAttrs (rawly (b "code") code ∷ rawly (b "style") (b "id") ∷ [])
-    qs = more (legal-raw (b "code") code (known (b "code") refl) h) (more (legal-styled (b "id") (free-clean (b "id") refl)) no-attr)
+    qs = more (legal-raw (b "code") code (known (b "code") refl) h) (more (legal-raw (b "style") (b "id") (known (b "style") refl) (free-clean (b "id") refl)) none)
 
     go : (rest : Bytes) → LegalItems (bookItems code rest ++ js)
     go [] = legal-empty two qs g

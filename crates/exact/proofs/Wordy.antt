@@ -1,58 +1,56 @@
 -- Attributes whose keys are words and whose raw values hold no space.
 use mathlib.Core.Path.{_≡_, refl}
-use mathlib.Core.Bool.{true, _&&_}
-use mathlib.Core.List.{List, [], _∷_, _++_}
-use mathlib.Core.Option.{Option, none as nothing, some}
-use Prim.Native.Nat.{ℕ, _<_}
-use lib.ListN.{length}
+use mathlib.Core.Bool.{true}
+use mathlib.Core.List.{List, [], _∷_}
+use mathlib.Core.Option.{Option}
+use Prim.Native.Nat.{ℕ}
 use Rattle.parts.specs.Bytes.{Bytes, b}
 use Rattle.chars.proofs.Lists.{all}
 use Rattle.tags.specs.Items.{Attr}
-use Rattle.events.specs.Event.{Event, item, chapter, verse, book, rawly, escaped, perhaps}
-use Rattle.events.specs.Pairing.{chapterId, verseId, chapterAttrs, verseAttrs, bookAttrs}
-use Rattle.chars.specs.Decimal.{decimal}
+use Rattle.events.specs.Event.{Event, item, chapter, verse, book, rawly, escaped}
+use Rattle.events.specs.Pairing.{chapterAttrs, verseAttrs, bookAttrs}
+use Rattle.grammar.proofs.Attrs.{fixedStyles, fixedKeys, OfEach, AttrsOf, no-attr, a-style, a-value, chapter-attrs, verse-attrs}
 use Rattle.exact.proofs.Reading.{never}
 use Rattle.accepts.proofs.Spaces.{but}
 use Rattle.accepts.proofs.Keys.{Own, own-known as known}
 use Rattle.exact.proofs.Attrs.{WordyAttr, WordyAttrs, none, more}
 use Rattle.exact.proofs.Items.{WordyItem}
 
+wordy-raw : (key value : Bytes) → Own key → all (but 32) value ≡ true → WordyAttr (rawly key value)
+unfolding rawly
+wordy-raw key value k h = record { key = k; value = λ e. h }
+
 pub wordy-escaped : (key value : Bytes) → Own key → WordyAttr (escaped key value)
 unfolding escaped
 wordy-escaped key value k = record { key = k; value = λ e. never e }
 
-pub wordy-raw : (key value : Bytes) → Own key → all (but 32) value ≡ true → WordyAttr (rawly key value)
-unfolding rawly
-wordy-raw key value k h = record { key = k; value = λ e. h }
+-- a style that holds no space
+pub record Spaceless (name : Bytes) : Type 0 where
+  pub none-in : all (but 32) name ≡ true
 
-pub wordy-append : (ps qs : List Attr) → WordyAttrs ps → WordyAttrs qs → WordyAttrs (ps ++ qs)
-wordy-append [] qs none h = h
-wordy-append (p ∷ ps) qs (more w ws) h = more w (wordy-append ps qs ws h)
+pub attrs-wordy : {qs : List Attr} → AttrsOf Spaceless Own qs → WordyAttrs qs
+unfolding all but
+attrs-wordy no-attr = none
+attrs-wordy (a-style name h g) = more (wordy-raw (b "style") name (known (b "style") refl) (h .none-in)) (attrs-wordy g)
+attrs-wordy (a-value key value h g) = more (wordy-escaped key value h) (attrs-wordy g)
 
-pub wordy-perhaps : (key : Bytes) (o : Option Bytes) → Own key → WordyAttrs (perhaps key o)
-unfolding perhaps
-wordy-perhaps key nothing k = none
-wordy-perhaps key (some value) k = more (wordy-escaped key value k) none
+pub styles-spaceless : OfEach Spaceless fixedStyles
+unfolding all but
+styles-spaceless =
+    (record { none-in = refl }, (record { none-in = refl }, (record { none-in = refl }, (record { none-in = refl }, (record { none-in = refl }, tt)))))
+
+pub keys-own : OfEach Own fixedKeys
+unfolding all but
+keys-own =
+    (known _ refl, (known _ refl, (known _ refl, (known _ refl, (known _ refl, (known _ refl, (known _ refl, (known _ refl, (known _ refl, (known _ refl, (known _ refl, (known _ refl, (known _ refl, (known _ refl, (known _ refl, tt)))))))))))))))
 
 -- ---- what pairing writes
 
 pub wordy-chapter : (code : Bytes) (n : ℕ) (alt published : Option Bytes) → WordyAttrs (chapterAttrs code n alt published)
-unfolding chapterAttrs all but
-wordy-chapter code n alt published =
-    more (wordy-escaped (b "number") (decimal n) (known (b "number") refl))
-    (more (wordy-raw (b "style") (b "c") (known (b "style") refl) refl)
-    (wordy-append (perhaps (b "altnumber") alt) _ (wordy-perhaps (b "altnumber") alt (known (b "altnumber") refl))
-    (wordy-append (perhaps (b "pubnumber") published) _ (wordy-perhaps (b "pubnumber") published (known (b "pubnumber") refl))
-    (more (wordy-escaped (b "sid") (chapterId code n) (known (b "sid") refl)) none))))
+wordy-chapter code n alt published = attrs-wordy (chapter-attrs Spaceless Own styles-spaceless keys-own code n alt published)
 
 pub wordy-verse : (code : Bytes) (n : ℕ) (label : Bytes) (alt published : Option Bytes) → WordyAttrs (verseAttrs code n label alt published)
-unfolding verseAttrs all but
-wordy-verse code n label alt published =
-    more (wordy-escaped (b "number") label (known (b "number") refl))
-    (more (wordy-raw (b "style") (b "v") (known (b "style") refl) refl)
-    (wordy-append (perhaps (b "altnumber") alt) _ (wordy-perhaps (b "altnumber") alt (known (b "altnumber") refl))
-    (more (wordy-escaped (b "sid") (verseId code n label) (known (b "sid") refl))
-    (wordy-perhaps (b "pubnumber") published (known (b "pubnumber") refl)))))
+wordy-verse code n label alt published = attrs-wordy (verse-attrs Spaceless Own styles-spaceless keys-own code n label alt published)
 
 pub wordy-book : (code : Bytes) → all (but 32) code ≡ true → WordyAttrs (bookAttrs code)
 unfolding bookAttrs all but
