@@ -5,14 +5,13 @@ use mathlib.Core.Option.{Option, none as nothing, some}
 use Prim.Native.Nat.{ℕ}
 use native.Mathlib.Omega.{arith}
 use borrow.Author.Tests.{ne-eqb}
-use Rattle.parts.specs.Bytes.{Bytes, b, same}
-use Rattle.chars.proofs.Escapes.{escape-plain}
+use Rattle.parts.specs.Bytes.{Bytes, b}
 use Rattle.tape.specs.File.{Tape}
 use Rattle.tags.specs.Items.{Attr, Item, start, empty, close, text, line, valueOf, pairsOf, apart}
-use Rattle.checker.specs.View.{Mark, start as starts, bare, single, idKeyOf, notedBy, noted, markOn, view, views}
+use Rattle.checker.specs.View.{Mark, start as starts, bare, single, markOn, view, views}
 use Rattle.checker.specs.Steps.{Pairs, pairUp}
 use Rattle.checker.proofs.Decides.{pairFold}
-use Rattle.events.specs.Event.{Event, rawly, escaped, perhaps}
+use Rattle.events.specs.Event.{Event, rawly}
 use Rattle.events.specs.Pairing.{State, chapterId, verseId, after, endOf, chapterAttrs, verseAttrs, bookItems, itemsOf, lastEnds, paired}
 use Rattle.events.specs.Text.{firstState}
 use Rattle.events.specs.Walk.{eventsOf}
@@ -21,7 +20,10 @@ use Rattle.grammar.proofs.Written.{walk-written, given-range}
 use Rattle.milestones.specs.Seen.{pairs, tokenOf, seen}
 use Rattle.accepts.specs.Proviso.{Free}
 use Rattle.accepts.specs.Sound.{SoundEvent, SoundEvents, Sound}
-use Rattle.accepts.proofs.Free.{free-at}
+use Rattle.milestones.proofs.Paired.{chapter-seen, verse-seen}
+use Rattle.accepts.proofs.Free.{free-escape}
+use Rattle.accepts.proofs.Sids.{chapter-sid, verse-sid}
+use Rattle.accepts.proofs.Starts.{single-mark}
 
 -- the rules of milestones make the same of the items behind the escapes as before them
 abbrev Agree : List Item → Type 0
@@ -71,19 +73,15 @@ module _ (is : List Item) (g : Agree is) where
 
 chapter-mark : (code : Bytes) (n : ℕ) (alt published : Option Bytes) → Free (chapterId code n)
     → markOn bare (pairsOf (chapterAttrs code n alt published)) ≡ markOn bare (pairs (chapterAttrs code n alt published))
-unfolding pairsOf pairs valueOf chapterAttrs perhaps rawly escaped markOn noted notedBy idKeyOf same
-chapter-mark code n nothing nothing h = ap starts (escape-plain _ (chapterId code n) (free-at (chapterId code n) h))
-chapter-mark code n nothing (some p) h = ap starts (escape-plain _ (chapterId code n) (free-at (chapterId code n) h))
-chapter-mark code n (some a) nothing h = ap starts (escape-plain _ (chapterId code n) (free-at (chapterId code n) h))
-chapter-mark code n (some a) (some p) h = ap starts (escape-plain _ (chapterId code n) (free-at (chapterId code n) h))
+unfolding view tokenOf
+chapter-mark code n alt published h =
+    chapter-sid code n alt published ∙ ap starts (free-escape (chapterId code n) .0 h) ∙ sym (single-mark 3 _ _ (chapter-seen code n alt published))
 
 verse-mark : (code : Bytes) (n : ℕ) (label : Bytes) (alt published : Option Bytes) → Free (verseId code n label)
     → markOn bare (pairsOf (verseAttrs code n label alt published)) ≡ markOn bare (pairs (verseAttrs code n label alt published))
-unfolding pairsOf pairs valueOf verseAttrs perhaps rawly escaped markOn noted notedBy idKeyOf same
-verse-mark code n label nothing nothing h = ap starts (escape-plain _ (verseId code n label) (free-at (verseId code n label) h))
-verse-mark code n label nothing (some p) h = ap starts (escape-plain _ (verseId code n label) (free-at (verseId code n label) h))
-verse-mark code n label (some a) nothing h = ap starts (escape-plain _ (verseId code n label) (free-at (verseId code n label) h))
-verse-mark code n label (some a) (some p) h = ap starts (escape-plain _ (verseId code n label) (free-at (verseId code n label) h))
+unfolding view tokenOf
+verse-mark code n label alt published h =
+    verse-sid code n label alt published ∙ ap starts (free-escape (verseId code n label) .0 h) ∙ sym (single-mark 4 _ _ (verse-seen code n label alt published))
 
 -- ---- events
 

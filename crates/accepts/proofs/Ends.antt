@@ -6,14 +6,14 @@ use mathlib.Core.Logic.{_↔_, inl, inr}
 use mathlib.Core.Option.{Option, none as nothing, some}
 use Prim.Native.Nat.{ℕ}
 use native.Mathlib.Omega.{arith}
-use Rattle.parts.specs.Bytes.{Bytes, b, same}
+use Rattle.parts.specs.Bytes.{Bytes, b}
 use Rattle.chars.specs.Escape.{escape}
 use Rattle.tape.specs.File.{Tape}
 use Rattle.tags.specs.Items.{Attr, Item, start, empty, close, text, line, valueOf, pairsOf}
-use Rattle.checker.specs.View.{start as starts, ends, bare, idKeyOf, notedBy, noted, markOn}
+use Rattle.checker.specs.View.{start as starts, bare, markOn}
 use Rattle.checker.specs.Words.{Kind, IsStart, IsEnd}
 use Rattle.checker.proofs.Tags.{start-exact}
-use Rattle.events.specs.Event.{Event, item, chapter, verse, book, rawly, escaped, perhaps}
+use Rattle.events.specs.Event.{Event, item, chapter, verse, book, rawly}
 use Rattle.events.specs.Pairing.{State, chapterId, verseId, after, endOf, chapterAttrs, verseAttrs, bookItems, itemsOf, lastEnds, paired}
 use Rattle.events.specs.Text.{firstState, itemsOfTape}
 use Rattle.events.specs.Walk.{eventsOf}
@@ -22,6 +22,7 @@ use Rattle.milestones.proofs.Plain.{walk-plain}
 use Rattle.accepts.specs.Proviso.{Free}
 use Rattle.accepts.specs.Ends.{NoTag, Ended, AllAgree, FreeNames, WrittenFree}
 use Rattle.accepts.proofs.Free.{free-chapter, free-verse, free-escape}
+use Rattle.accepts.proofs.Sids.{chapter-sid, verse-sid}
 use Rattle.accepts.proofs.Starts.{Each, EachId, each-place, each-from, each-paired, each-id, chapter-items, verse-items}
 
 -- ---- the end ahead
@@ -98,21 +99,6 @@ ahead-chapter s i e (book code rest ∷ es) js p =
     rw append-assoc (ahead-past 3 i (bookItems code rest) _ (no-book 3 i (λ x. omega arith) code rest) (ahead-chapter (after s (book code rest)) i e es js p))
 
 -- ---- the bytes of both
-
-chapter-sid : (code : Bytes) (n : ℕ) (alt published : Option Bytes) → markOn bare (pairsOf (chapterAttrs code n alt published)) ≡ starts (escape true (chapterId code n))
-unfolding pairsOf valueOf chapterAttrs perhaps rawly escaped markOn noted notedBy idKeyOf same
-chapter-sid code n nothing nothing = refl
-chapter-sid code n nothing (some p) = refl
-chapter-sid code n (some a) nothing = refl
-chapter-sid code n (some a) (some p) = refl
-
-verse-sid : (code : Bytes) (n : ℕ) (label : Bytes) (alt published : Option Bytes)
-    → markOn bare (pairsOf (verseAttrs code n label alt published)) ≡ starts (escape true (verseId code n label))
-unfolding pairsOf valueOf verseAttrs perhaps rawly escaped markOn noted notedBy idKeyOf same
-verse-sid code n label nothing nothing = refl
-verse-sid code n label nothing (some p) = refl
-verse-sid code n label (some a) nothing = refl
-verse-sid code n label (some a) (some p) = refl
 
 ended : (k : ℕ) (qs : List Attr) (i : Bytes) (z : List Item) → markOn bare (pairsOf qs) ≡ starts (escape true i) → Ahead k i z → Ended k i qs z
 unfolding pairs pairsOf valueOf rawly

@@ -2,6 +2,7 @@ pub mod Heights
 pub mod Tree
 pub mod Free
 pub mod Legal
+pub mod Sids
 pub mod Agree
 pub mod Accepted
 pub mod Spaces

@@ -17,7 +17,7 @@ use Rattle.milestones.proofs.Paired.{chapter-seen, verse-seen, end-seen}
 
 -- ---- what a tag is
 
-single-mark : (k : ℕ) (m w : Mark) → _≡_ {A = View} (single k m) (single k w) → m ≡ w
+pub single-mark : (k : ℕ) (m w : Mark) → _≡_ {A = View} (single k m) (single k w) → m ≡ w
 single-mark k m w e = cc
 
 start-id : (i j : Bytes) → _≡_ {A = Mark} (starts i) (starts j) → i ≡ j

@@ -19,6 +19,7 @@ use Rattle.events.specs.Event.{Event, item, chapter, verse, book, rawly, escape
 use Rattle.events.specs.Pairing.{State, chapterId, verseId, after, endOf, chapterAttrs, verseAttrs, bookAttrs, bookItems, itemsOf, lastEnds, paired}
 use Rattle.accepts.specs.Proviso.{Free}
 use Rattle.accepts.specs.Sound.{SoundEvents}
+use Rattle.accepts.proofs.Sids.{chapter-sid, verse-sid}
 use Rattle.exact.proofs.Reading.{tagOf, tagIn, Reads}
 use Rattle.exact.proofs.Items.{reads-tag, tag-written, reads-item}
 use Rattle.exact.proofs.Ends.{eid, end-read, verse-held, chapter-held, held-end}
@@ -72,19 +73,13 @@ ended-chapter (some i) is r z = held-end (λ a f. chapter-held f) (end-read 3 (i
 
 chapter-seen : (code : Bytes) (n : ℕ) (alt published : Option Bytes)
     → view (tagOf true 3 (pairsOf (chapterAttrs code n alt published))) ≡ single 3 (starts (escape true (chapterId code n)))
-unfolding view pairsOf valueOf chapterAttrs perhaps rawly escaped markOn noted notedBy idKeyOf same
-chapter-seen code n none none = refl
-chapter-seen code n none (some p) = refl
-chapter-seen code n (some a) none = refl
-chapter-seen code n (some a) (some p) = refl
+unfolding view
+chapter-seen code n alt published = ap (single 3) (chapter-sid code n alt published)
 
 verse-seen : (code : Bytes) (n : ℕ) (label : Bytes) (alt published : Option Bytes)
     → view (tagOf true 4 (pairsOf (verseAttrs code n label alt published))) ≡ single 4 (starts (escape true (verseId code n label)))
-unfolding view pairsOf valueOf verseAttrs perhaps rawly escaped markOn noted notedBy idKeyOf same
-verse-seen code n label none none = refl
-verse-seen code n label none (some p) = refl
-verse-seen code n label (some a) none = refl
-verse-seen code n label (some a) (some p) = refl
+unfolding view
+verse-seen code n label alt published = ap (single 4) (verse-sid code n label alt published)
 
 -- a tag that the rules see so opens what they say
 module _ {c v : Held} (r : Bytes) where
