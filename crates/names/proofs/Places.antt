@@ -66,8 +66,11 @@ module _ (source : Bytes) (w : Said) (p : Part) {s : Bytes} {h : Bool} (es : s �
 parts-equal : {p q : Part} → p .start ≡ q .start → p .len ≡ q .len → p ≡ q
 parts-equal {p} {q} a l = ap (λ (x : ℕ). record { start = x; len = p .len }) a ∙ ap (λ (x : ℕ). record { start = q .start; len = x }) l
 
+part-len : (s : Bytes) (p : Part) → endOf p ≤ length s → length (bytesOf s p) ≡ p .len
+part-len s p h = omega (arith, length-take (p .len) (drop (p .start) s), length-drop (p .start) s)
+
 pub spot-len : {s w : Bytes} {p : Part} → Spot s p w → length w ≡ p .len
-spot-len {s} {w} {p} sp = omega (arith, ap length (sp .here), sp .inside, length-take (p .len) (drop (p .start) s), length-drop (p .start) s)
+spot-len {s} {w} {p} sp = sym (ap length (sp .here)) ∙ part-len s p (sp .inside)
 
 -- a part of the source that is as long as it says
 pub record Full (t : Tape) (p : Part) : Type 0 where
@@ -83,9 +86,6 @@ nth-in : (set : Set) (s : Bytes) (n at : ℕ) → at ≤ length s → endOf (nth
 unfolding nthWord
 nth-in set s zero at h = next-in set s at h
 nth-in set s (suc n) at h = nth-in set s n (endOf (nextWord set s at)) (next-in set s at h)
-
-part-len : (s : Bytes) (p : Part) → endOf p ≤ length s → length (bytesOf s p) ≡ p .len
-part-len s p h = omega (arith, length-take (p .len) (drop (p .start) s), length-drop (p .start) s)
 
 word-full : (t : Tape) (k n : ℕ) → Full t (wordPart t k n)
 unfolding wordPart inSource
