@@ -23,7 +23,8 @@ fn say_place(text: &[u8], answer: Verdict) {
     io::write_all(STDOUT_FILENO, b"\n");
 }
 
-fn say_answer(answer: Verdict) {
+// The first line of what is said.
+pub fn say_answer(answer: Verdict) {
     match answer {
         Verdict::Accepted { chapters, verses } => say_accepted(chapters, verses),
         Verdict::NotTags => {
