@@ -9,7 +9,7 @@ use Rattle.checker.specs.Steps.{isMilestone, Pairs, pairUp}
 use Rattle.checker.specs.Check.{atStart, pairedOff, foldVerdict}
 use Rattle.checker.specs.Meaning.{Milestones}
 use Rattle.checker.specs.Words.{startsIn, Judged}
-use Rattle.checker.specs.Answer.{Answer, accepted, answerOf}
+use Rattle.checker.specs.Answer.{accepted, answerOf}
 use Rattle.checker.proofs.Decides.{folds, pairFold, pairs-of, milestones-decide, milestones-counted}
 use Rattle.checker.proofs.Demands.{demand-exact}
 use Rattle.checker.proofs.Answers.{answers-exact}

@@ -11,10 +11,10 @@ use Rattle.chars.specs.Escape.{escape}
 use Rattle.tape.specs.File.{Tape}
 use Rattle.tags.specs.Items.{Attr, Item, start, empty, close, text, line, valueOf, pairsOf}
 use Rattle.checker.specs.View.{start as starts, bare, markOn}
-use Rattle.checker.specs.Words.{Kind, IsStart, IsEnd}
+use Rattle.checker.specs.Words.{Kind, IsStart}
 use Rattle.checker.proofs.Tags.{start-exact}
 use Rattle.events.specs.Event.{Event, item, chapter, verse, book, rawly}
-use Rattle.events.specs.Pairing.{State, chapterId, verseId, after, endOf, chapterAttrs, verseAttrs, bookItems, itemsOf, lastEnds, paired}
+use Rattle.events.specs.Pairing.{State, after, endOf, verseAttrs, bookItems, itemsOf, lastEnds, paired}
 use Rattle.events.specs.Text.{firstState, itemsOfTape}
 use Rattle.events.specs.Walk.{eventsOf}
 use Rattle.milestones.specs.Seen.{pairs, PlainItem, PlainEvents}

@@ -1,7 +1,7 @@
 -- Keys that hold none of the four bytes: which marker collects them is nothing to it.
 use mathlib.Core.Path.{_≡_, refl}
 use mathlib.Core.Bool.{Bool, true, false, cond, _&&_}
-use mathlib.Core.List.{List, [], _∷_, _++_, map}
+use mathlib.Core.List.{List, [], _∷_, map}
 use Prim.Native.Nat.{ℕ}
 use lib.Dec.{eqb}
 use Rattle.parts.specs.Bytes.{Bytes, b, same}

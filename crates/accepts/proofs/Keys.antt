@@ -1,21 +1,19 @@
 -- Attribute keys: never empty, no space and no `=`, on every tape; those that hold none of the four bytes may stand in a tag.
 use mathlib.Core.Path.{_≡_, refl, sym, ap, _∙_}
-use mathlib.Core.Bool.{Bool, true, false, cond, not, _&&_}
-use mathlib.Core.List.{List, [], _∷_, _++_, map, flatten, append-assoc, List·Memᴰ, List·Memᴰ·head, List·Memᴰ·tail}
+use mathlib.Core.Bool.{Bool, true, false, cond, _&&_}
+use mathlib.Core.List.{List, [], _∷_, _++_, map, flatten}
 use Prim.Native.Nat.{ℕ, zero, suc, _+_, _<_}
 use native.Mathlib.Omega.{arith}
 use lib.ListN.{length, take, drop}
 use lib.Dec.{eqb, ltb}
-use borrow.Author.Tests.{eqb-true, eqb-false, ne-eqb, not-true, ltb-true}
+use borrow.Author.Tests.{eqb-false, ne-eqb, not-true, ltb-true}
 use Rattle.parts.specs.Bytes.{Bytes, b, part, same, begins, firstAt}
 use Rattle.parts.proofs.Laws.{and-true, or-both}
-use Rattle.chars.specs.Utf8.{every}
 use Rattle.chars.specs.Escape.{special}
-use Rattle.chars.proofs.Lists.{all, all-at, all-append}
-use Rattle.words.specs.Words.{charsOf, solid, white, onto, pieces, nonempty, words, lastOf}
+use Rattle.chars.proofs.Lists.{all, all-append}
+use Rattle.words.specs.Words.{charsOf, white, onto, pieces, nonempty, words, lastOf}
 use Rattle.words.specs.declared.Set.the-variants.{Unicode}
-use Rattle.words.proofs.Joins.{IsWord, Each, chars-space, space-chars, words-are}
-use Rattle.words.proofs.Steps.{space-white}
+use Rattle.words.proofs.Joins.{IsWord, Each, words-are}
 use Rattle.words.proofs.Texts.{chars-flatten}
 use Rattle.tape.specs.File.{Tape, kindAt, textAt}
 use Rattle.tape.specs.Tree.{children}

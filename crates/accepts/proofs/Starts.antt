@@ -7,7 +7,7 @@ use Prim.Native.Nat.{ℕ}
 use native.Mathlib.Omega.{arith}
 use Rattle.parts.specs.Bytes.{Bytes, b}
 use Rattle.tags.specs.Items.{Attr, Item, start, empty, close, text, line}
-use Rattle.checker.specs.View.{Mark, start as starts, ends, bare, View, single, markOn, view}
+use Rattle.checker.specs.View.{Mark, start as starts, ends, View, single, view}
 use Rattle.checker.specs.Words.{Kind, IsStart}
 use Rattle.checker.proofs.Tags.{start-exact}
 use Rattle.events.specs.Event.{Event, item, chapter, verse, book, rawly}

@@ -5,7 +5,7 @@ use lib.ListN.{take}
 use Rattle.parts.specs.Bytes.{Bytes}
 use Rattle.tape.specs.File.{tapeOf}
 use Rattle.checker.specs.Words.{Judged}
-use Rattle.checker.specs.Answer.{accepted, answerOf}
+use Rattle.checker.specs.Answer.{answerOf}
 use Rattle.checker.specs.declared.Verdict.{Verdict}
 use Rattle.checker.specs.declared.Verdict.the-variants.{Accepted}
 use Rattle.checker.proofs.Answers.{settled}

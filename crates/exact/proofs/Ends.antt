@@ -14,7 +14,7 @@ use Rattle.chars.proofs.Lists.{all}
 use Rattle.tags.specs.Names.{IsName}
 use Rattle.tags.specs.Form.{Pair}
 use Rattle.tags.specs.Write.{writePair, writePairs, CleanPairs, none, more}
-use Rattle.checker.specs.View.{Mark, other, start, ends, opened, single, idKeyOf, notedBy, noted, markOn, view}
+use Rattle.checker.specs.View.{Mark, other, ends, opened, single, idKeyOf, notedBy, noted, markOn, view}
 use Rattle.checker.specs.Words.{Kind}
 use Rattle.checker.specs.Steps.{Held, held}
 use Rattle.checker.specs.Meaning.{since, Fits, of-open, of-single, chapter-end, verse-end}

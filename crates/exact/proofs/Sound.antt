@@ -6,16 +6,16 @@ use mathlib.Core.Logic.{inl, inr}
 use mathlib.Core.Option.{Option, none, some}
 use Prim.Native.Nat.{ℕ, _≤_}
 use native.Mathlib.Omega.{arith}
-use Rattle.parts.specs.Bytes.{Bytes, b, same}
+use Rattle.parts.specs.Bytes.{Bytes, b}
 use Rattle.chars.specs.Escape.{escape}
 use Rattle.tags.specs.Names.{IsName}
 use Rattle.tags.specs.Write.{Clean}
 use Rattle.tags.specs.Items.{Item, start, empty, close, text, valueOf, bytesOf, render, pairsOf, LegalAttrs, more}
 use Rattle.tags.specs.declared.Class.the-variants.{Value}
-use Rattle.checker.specs.View.{start as starts, ends, View, single, idKeyOf, notedBy, noted, markOn, view}
+use Rattle.checker.specs.View.{start as starts, View, single, view}
 use Rattle.checker.specs.Steps.{Held, shut, held}
 use Rattle.checker.specs.Meaning.{since}
-use Rattle.events.specs.Event.{Event, item, chapter, verse, book, rawly, escaped, perhaps}
+use Rattle.events.specs.Event.{Event, item, chapter, verse, book, rawly}
 use Rattle.events.specs.Pairing.{State, chapterId, verseId, after, endOf, chapterAttrs, verseAttrs, bookAttrs, bookItems, itemsOf, lastEnds, paired}
 use Rattle.accepts.specs.Proviso.{Free}
 use Rattle.accepts.specs.Sound.{SoundEvents}

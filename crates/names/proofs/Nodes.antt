@@ -1,29 +1,27 @@
 -- The walk over the nodes: the names of one, those before it, and what stands outside the tape.
 use mathlib.Core.Path.{_≡_, refl, sym, ap, _∙_, subst}
 use mathlib.Core.Bool.{Bool, true, false, cond}
-use mathlib.Core.List.{List, [], _++_}
+use mathlib.Core.List.{List, _++_}
 use Prim.Native.Nat.{ℕ, zero, suc, _+_, _≤_, _<_}
 use native.Mathlib.Omega.{arith}
 use lib.Dec.{eqb, ltb}
 use borrow.Author.Tests.{ltb-true, ltb-false}
 use Rattle.parts.specs.Bytes.{Bytes}
 use Rattle.words.specs.declared.Part.{Part}
-use Rattle.tape.specs.File.{Tape, tapeIn, tapeOf, sectionsOf, nodeAt, kindAt, bearsMarker, nowhere}
+use Rattle.tape.specs.File.{Tape, tapeIn, tapeOf, sectionsOf, kindAt, bearsMarker}
 use Rattle.tape.specs.Name.{markerName}
-use Rattle.tape.specs.Tree.{holds, firstChild, children}
 use Rattle.tape.specs.declared.Sections.{Sections}
-use Rattle.tape.specs.declared.Node.{Node}
 use Rattle.tape.specs.declared.Cursor.{Cursor}
 use Rattle.tape.proofs.Laws.{node-out}
-use Rattle.tape.proofs.Walk.{walk-done, children-walk}
 use Rattle.admit.specs.Refusal.{Refusal, refusalNumber, answerWith}
 use Rattle.admit.specs.declared.Admitted.{Admitted}
 use Rattle.admit.specs.declared.Admitted.the-variants.{Tape as Admitted-tape, Refused as Admitted-refused}
 use Rattle.render.specs.Shape.{isVerse}
 use Rattle.render.specs.Label.{labelOf}
 use Rattle.render.specs.Note.{bookCode}
-use Rattle.attrs.specs.Attr.{pairsAlong, attributesOf}
+use Rattle.attrs.specs.Attr.{attributesOf}
 use Rattle.accepts.specs.Proviso.{code, label, marker, Name, nameWhere, hasCode, collectsAs, keysOf, namesOf, AllFree}
+use Rattle.accepts.proofs.Outside.{names-outside}
 use Rattle.names.specs.declared.What.{What as Said}
 use Rattle.names.specs.declared.Hit.{Hit}
 use Rattle.names.specs.declared.Hit.the-variants.{At, Nowhere}
@@ -56,24 +54,6 @@ module _ (t : Tape) (k : ℕ) {x : Hit} (hx : Hits t k (nameWhere (hasCode t k) 
     pub names-sign : d ≡ false → {r : Hit} → Hits t k (nameWhere (bearsMarker (kindAt t k)) marker (markerName t k) ++ keysOf (attributesOf t k (collectsAs t k))) r → Hits t k (namesOf t k) r
     unfolding namesOf
     names-sign e hr = hit-on t k _ _ hx (sym ea ∙ na) (hit-on t k _ _ hy (sym ed ∙ e) hr)
-
--- ---- outside the tape
-
-module _ (t : Tape) (k : ℕ) (out : nowhere ≡ nodeAt t k) where
-  error-kind : kindAt t k ≡ 8
-  error-kind = ap (λ (n : Node). n .kind .code) (sym out)
-
-  no-children : children t k ≡ []
-  unfolding firstChild holds
-  no-children = sym (children-walk t k (rw error-kind)) ∙ walk-done t
-
-  no-keys : (m : Bytes) → keysOf (attributesOf t k m) ≡ []
-  unfolding attributesOf pairsAlong keysOf
-  no-keys m = rw no-children
-
-  names-outside : namesOf t k ≡ []
-  unfolding namesOf nameWhere hasCode bearsMarker
-  names-outside = rw (error-kind, no-keys)
 
 -- ---- node by node
 
