@@ -1,11 +1,14 @@
 //! The names of every node of a tape by the Rust's own functions, and the first that breaks demand 3's proviso.
 
 use std::fmt;
-use std::io::{self, Read, Write};
+use std::io::{self, BufReader, Read, Write};
 
 use crate::Document;
+use crate::answer::{Answer, answer, read_tape};
+use crate::check;
 use crate::cst::Cursor;
 use crate::dump::{self, index};
+use crate::loader;
 use crate::serialize::render::{collect_attributes, verse_label};
 use crate::serialize::usx::asked;
 use crate::tape::NodeKind;
@@ -116,6 +119,23 @@ pub fn report(document: &Document<'_>) -> String {
 /// The reports of a stream of tapes; the form of the lines stands in the README.
 pub fn stream(input: impl Read, output: impl Write) -> io::Result<()> {
     dump::each_tape(input, output, |out, document| out.write_all(report(document).as_bytes()))
+}
+
+/// The reports of a stream of tapes, each with the checker's answer to the Rust's text, `unwritten` where there is none.
+pub fn judged(input: impl Read, mut output: impl Write) -> io::Result<()> {
+    let mut input = BufReader::with_capacity(1 << 16, input);
+    let mut tape = Vec::new();
+    while read_tape(&mut input, &mut tape)? {
+        match (answer(&tape), loader::load(&tape)) {
+            (Answer::Written(text), Ok(document)) => {
+                let verdict = check::report(text.as_bytes());
+                writeln!(output, "{}{}", report(&document), verdict.lines().next().unwrap_or(""))?;
+            }
+            (refused, _) => writeln!(output, "refused {}\nunwritten", refused.number())?,
+        }
+        output.write_all(b"\n")?;
+    }
+    output.flush()
 }
 
 /// All names of a stream of tapes, a line each.

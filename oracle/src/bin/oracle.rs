@@ -10,6 +10,7 @@ const USAGE: &str = "usage: oracle print   one tape on standard input, printed a
        oracle cursor  a stream of tapes to what the cursor says of every node
        oracle render  a stream of tapes to what the helpers of rendering say of every node
        oracle names   a stream of tapes to what usx_names writes of each
+       oracle judged  a stream of tapes to the same, and the checker's answer to the text of each
        oracle name-list  a stream of tapes to all names of every node
        oracle check   a stream of finished texts to what usx_check writes of each
        oracle check-cases  the texts on both sides of each rule of the checker, as a stream
@@ -26,6 +27,7 @@ fn main() -> ExitCode {
         ["cursor"] => dump::stream(io::stdin().lock(), BufWriter::new(io::stdout().lock())),
         ["render"] => rendered::stream(io::stdin().lock(), BufWriter::new(io::stdout().lock())),
         ["names"] => names::stream(io::stdin().lock(), BufWriter::new(io::stdout().lock())),
+        ["judged"] => names::judged(io::stdin().lock(), BufWriter::new(io::stdout().lock())),
         ["name-list"] => names::list(io::stdin().lock(), BufWriter::new(io::stdout().lock())),
         ["check"] => check::stream(io::stdin().lock(), BufWriter::new(io::stdout().lock())),
         ["check-cases"] => check_cases::write(BufWriter::new(io::stdout().lock())),
