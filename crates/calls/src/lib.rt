@@ -1,4 +1,4 @@
-// The serializer, and the checker on what it wrote.
+// The serializer, and the checker on what it wrote: what one writes the other accepts, where the file keeps the proviso.
 ghost use mathlib.Core.Path.{_≡_};
 ghost use Rattle.events.specs.Text.{outcome};
 ghost use Rattle.usx.specs.Answer.{outcomeOf};

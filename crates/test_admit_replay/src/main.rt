@@ -1,6 +1,6 @@
 // Writes the number that each tape of a stream is given, 0 where it is admitted, a line a tape.
 //
-// Standard input is a stream (crate `stream`) of tapes of at most 65,536 bytes.
+// Standard input is a stream (crate `test_stream`) of tapes of at most 65,536 bytes.
 ghost use Prim.Native.Nat.{_<_};
 use admit::Admitted;
 use libc::STDOUT_FILENO;

@@ -1,6 +1,6 @@
 // Runs the checker over a stream of texts and writes of each what usx_check writes.
 //
-// Standard input is a stream (crate `stream`) of texts of at most 65,536 bytes.
+// Standard input is a stream (crate `test_stream`) of texts of at most 65,536 bytes.
 use test_stream::Item;
 
 // One text of the stream; false at its end.

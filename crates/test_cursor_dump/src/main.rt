@@ -1,6 +1,6 @@
 // Writes what the cursor says of every node of a stream of tapes, a line a node and an empty line behind each tape.
 //
-// Standard input is a stream (crate `stream`) of admitted tapes of at most 65,536 bytes.
+// Standard input is a stream (crate `test_stream`) of admitted tapes of at most 65,536 bytes.
 // A line: index, kind, synthetic and nested (a digit each), number, category, element, first child, next sibling, matching close, then entry
 // name, marker name and text with `|` between them; `-` for what there is none of.
 use libc::STDOUT_FILENO;

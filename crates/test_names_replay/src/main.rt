@@ -1,10 +1,11 @@
 // Runs the search for broken names, the serializer and the checker over a stream of tapes, and writes of each what usx_names writes, then what the
 // checker says of the text: `accepted` with both counts, `refused` and document 01's number, or `unwritten` where there is no text.
 //
-// Standard input is a stream (crate `stream`) of tapes of at most 65,536 bytes; a text has room for 1,048,576.
+// Standard input is a stream (crate `test_stream`) of tapes of at most 65,536 bytes; a text has room for 1,048,576. The stored list is made by .ci/stored, and what
+// must be written of it is what `oracle judged` writes.
+use calls::Called;
 use libc::STDOUT_FILENO;
 use test_stream::Item;
-use usx::Answer;
 
 fn say(run: &[u8]) {
     io::write_all(STDOUT_FILENO, run);
@@ -12,10 +13,10 @@ fn say(run: &[u8]) {
 
 // What the checker says of the text that is written.
 fn say_text(file: &[u8], out: &mut [u8]) {
-    match usx::serialize(file, out) {
-        Answer::Written(n) => report::say_answer(checker::check(parts::part(out, 0, n))),
-        Answer::Refused(_) => say(b"unwritten\n"),
-        Answer::NoRoom(_) => say(b"unwritten\n"),
+    match calls::serialize_and_check(file, out) {
+        Called::Written { length: _, verdict } => report::say_answer(verdict),
+        Called::Refused(_) => say(b"unwritten\n"),
+        Called::NoRoom(_) => say(b"unwritten\n"),
     }
 }
 

@@ -1,6 +1,6 @@
 // Writes what the helpers of rendering say of every node of a stream of tapes, a line an answer and an empty line behind each tape.
 //
-// Standard input is a stream (crate `stream`) of admitted tapes of at most 65,536 bytes.
+// Standard input is a stream (crate `test_stream`) of admitted tapes of at most 65,536 bytes.
 // The forms of the lines stand in oracle/README.md, under `oracle render`.
 ghost use Rattle.tape.specs.File.{tapeIn};
 ghost use Rattle.lean.specs.Lean.{Solids};

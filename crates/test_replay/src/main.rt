@@ -1,6 +1,6 @@
 // Runs the serializer over a stream of tapes, each with buffers of several lengths, and writes what each call gave and what it left in the buffer.
 //
-// Standard input is a stream (crate `stream`) of tapes of at most 65,536 bytes. The buffers have no byte, one byte less than the text, just as many, and
+// Standard input is a stream (crate `test_stream`) of tapes of at most 65,536 bytes. The buffers have no byte, one byte less than the text, just as many, and
 // 100 more; of a refused tape, no byte and 100. Before a call every byte of the buffer is a mark. The form of the lines stands in oracle/README.md, under
 // `oracle replay`.
 //
