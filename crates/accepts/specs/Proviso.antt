@@ -70,7 +70,7 @@ collectsFor ms name = name
 collectsFor char name = name
 collectsFor para name = name
 
--- the name by which a node collects its attributes: figures as `fig`, references as `ref`, periphs as `periph`, others by their own
+-- the name by which a node collects its attributes: figures as `fig`, references as `ref`, periphs as `periph`, others by their own; it changes no key that holds one of the four
 unfoldable pub collectsAs : Tape → ℕ → Bytes
 collectsAs t k = cond (isElement elements.periph (infoAt t k)) (b "periph") (collectsFor (roleOf t k) (markerName t k))
 
@@ -79,7 +79,7 @@ unfoldable pub keysOf : List Pair → List Name
 keysOf [] = []
 keysOf (p ∷ ps) = record { what = key; bytes = p .key } ∷ keysOf ps
 
--- the names of a node: its book code, its label, its marker name, and each key that it collects
+-- the names of a node: its book code, its label, its marker name, and each key that it collects, whether it is written or not
 unfoldable pub namesOf : Tape → ℕ → List Name
 namesOf t k =
     nameWhere (hasCode t k) code (bookCode t k)
