@@ -4,12 +4,11 @@ use Prim.Native.Nat.{ℕ}
 use native.Mathlib.Omega.{arith}
 use Rattle.parts.specs.Bytes.{Bytes}
 use Rattle.tape.specs.File.{tapeOf}
-use Rattle.checker.specs.declared.Verdict.{Verdict}
 use Rattle.checker.proofs.Answers.{settled}
 use Rattle.events.specs.Text.{textOf, outcome}
 use Rattle.usx.specs.Answer.{outcomeOf}
 use Rattle.usx.proofs.One.{one-answer}
-use Rattle.calls.specs.Called.{answerIn, Checked, written, refused, no-room}
+use Rattle.calls.specs.Called.{answerIn, Checked, written}
 use Rattle.calls.specs.declared.Called.{Called}
 use Rattle.calls.specs.declared.Called.the-variants.{Written, Refused, NoRoom}
 

@@ -12,11 +12,11 @@ use Rattle.chars.specs.Escape.{escape}
 use Rattle.chars.proofs.Lists.{all}
 use Rattle.tags.specs.Names.{nameOf, IsName, which, elementAt}
 use Rattle.tags.specs.Form.{Pair}
-use Rattle.tags.specs.Write.{writePair, writePairs, CleanPairs}
-use Rattle.tags.specs.Items.{Attr, Item, start, empty, close, text, line, attrBytes, attrsBytes, newLine, bytesOf, pairsOf, LegalAttrs}
+use Rattle.tags.specs.Write.{writePairs, CleanPairs}
+use Rattle.tags.specs.Items.{Attr, Item, start, empty, close, text, line, newLine, bytesOf, pairsOf, LegalAttrs}
 use Rattle.tags.specs.declared.Named.the-variants.{Unnamed}
 use Rattle.tags.proofs.ReadBack.{element-write}
-use Rattle.tags.proofs.Rendered.{escape-clean}
+use Rattle.tags.proofs.Rendered.{escape-clean, attrs-writes}
 use Rattle.checker.specs.View.{single, bare, view, markOn}
 use Rattle.checker.specs.Steps.{Held}
 use Rattle.checker.specs.Meaning.{since, Fits}
@@ -129,11 +129,6 @@ spaces (suc k) = spaces k
 
 -- ---- items
 
-attrs-written : (qs : List Attr) (r : Bytes) → attrsBytes qs ++ r ≡ writePairs (pairsOf qs) r
-unfolding writePairs writePair pairsOf attrsBytes attrBytes
-attrs-written [] r = refl
-attrs-written (a ∷ qs) r = rw (← attrs-written qs r) (simp append-assoc)
-
 -- a tag as items write it
 abbrev pub itemOf : Bool → ℕ → List Attr → Item
 itemOf false n qs = start n qs
@@ -141,8 +136,8 @@ itemOf true n qs = empty n qs
 
 pub tag-written : (f : Bool) (n : ℕ) (qs : List Attr) (r : Bytes) → bytesOf (itemOf f n qs) ++ r ≡ tagIn f n (pairsOf qs) r
 unfolding bytesOf
-tag-written false n qs r = rw (← attrs-written qs (62 ∷ r)) (simp append-assoc)
-tag-written true n qs r = rw (← attrs-written qs (32 ∷ 47 ∷ 62 ∷ r)) (simp append-assoc)
+tag-written false n qs r = rw (attrs-writes qs (62 ∷ r)) (simp append-assoc)
+tag-written true n qs r = rw (attrs-writes qs (32 ∷ 47 ∷ 62 ∷ r)) (simp append-assoc)
 
 close-written : (n : ℕ) (r : Bytes) → bytesOf (close n) ++ r ≡ 60 ∷ 47 ∷ (nameOf n ++ 62 ∷ r)
 unfolding bytesOf

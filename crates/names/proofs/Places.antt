@@ -2,7 +2,7 @@
 use mathlib.Core.Path.{_≡_, refl, sym, ap, _∙_, subst}
 use mathlib.Core.Bool.{Bool, true, false, not, cond, and-false}
 use mathlib.Core.List.{[]}
-use Prim.Native.Nat.{ℕ, zero, suc, _+_, _-_, _≤_, _<_}
+use Prim.Native.Nat.{ℕ, _+_, _-_, _≤_, _<_}
 use native.Mathlib.Omega.{arith}
 use lib.ListN.{length, take, drop, length-take, length-drop}
 use lib.Seq.{take-take, take-length}
@@ -11,11 +11,10 @@ use borrow.Author.Tests.{eq-eqb, ne-eqb, le-ltb, not-true, not-false}
 use denote.Ref.{RefT, now}
 use Rattle.parts.specs.Bytes.{Bytes, part}
 use Rattle.parts.specs.Place.{VeryPart, very}
-use Rattle.words.specs.Words.{bytesOf, nextWord, nthWord}
-use Rattle.words.specs.declared.Set.{Set}
+use Rattle.words.specs.Words.{bytesOf, nthWord}
 use Rattle.words.specs.declared.Set.the-variants.{Unicode}
 use Rattle.words.specs.declared.Part.{Part}
-use Rattle.words.proofs.Places.{endOf, next-in}
+use Rattle.words.proofs.Places.{endOf}
 use Rattle.tape.specs.File.{Tape, nodeAt, kindAt, textAt, infoAt, baseLen, bearsMarker}
 use Rattle.tape.specs.Name.{bare, nameLen, nameIn, nameStart, markerName, markerLen}
 use Rattle.tape.specs.declared.kinds.Kind.{Kind}
@@ -25,7 +24,7 @@ use Rattle.render.specs.Shape.{isVerse}
 use Rattle.render.specs.Label.{labelOf, inSource, wordPart, nameRest, labelPart, IsLabel}
 use Rattle.render.specs.Children.{firstText}
 use Rattle.render.specs.Note.{bookCode, wordAt, codePart, IsCode}
-use Rattle.render.proofs.Labels.{source-bytes, rest-bytes}
+use Rattle.render.proofs.Labels.{nth-in, source-bytes, rest-bytes}
 use Rattle.attrs.specs.Walk.{Spot}
 use Rattle.roles.specs.Roles.{roleIn}
 use Rattle.roles.specs.declared.Role.{Role}
@@ -81,11 +80,6 @@ pub spot-part : (t : Tape) {p q : Part} → Full t p → q .start ≡ p .start �
 spot-part t f e sp = parts-equal e (sym (spot-len sp) ∙ f .len)
 
 -- ---- words
-
-nth-in : (set : Set) (s : Bytes) (n at : ℕ) → at ≤ length s → endOf (nthWord set s at n) ≤ length s
-unfolding nthWord
-nth-in set s zero at h = next-in set s at h
-nth-in set s (suc n) at h = nth-in set s n (endOf (nextWord set s at)) (next-in set s at h)
 
 word-full : (t : Tape) (k n : ℕ) → Full t (wordPart t k n)
 unfolding wordPart inSource

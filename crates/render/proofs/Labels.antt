@@ -26,7 +26,8 @@ use Rattle.render.specs.Label.{secondOr, labelOf, inSource, wordPart, na
 
 -- ---- words
 
-nth-in : (set : Set) (s : Bytes) (n at : ℕ) → at ≤ length s → endOf (nthWord set s at n) ≤ length s
+-- the word that so many others precede ends within its text
+pub nth-in : (set : Set) (s : Bytes) (n at : ℕ) → at ≤ length s → endOf (nthWord set s at n) ≤ length s
 unfolding nthWord
 nth-in set s zero at h = next-in set s at h
 nth-in set s (suc n) at h = nth-in set s n (endOf (nextWord set s at)) (next-in set s at h)

@@ -154,7 +154,8 @@ unfolding pairsOf
 attrs-clean [] none = no-pair
 attrs-clean (a ∷ qs) (more h hs) = more-pairs (record { some = h .some; key = h .key; value = value-clean a h }) (attrs-clean qs hs)
 
-attrs-writes : (qs : List Attr) (r : Bytes) → writePairs (pairsOf qs) r ≡ attrsBytes qs ++ r
+-- attributes as they are written are pairs as they are written
+pub attrs-writes : (qs : List Attr) (r : Bytes) → writePairs (pairsOf qs) r ≡ attrsBytes qs ++ r
 unfolding writePairs writePair pairsOf attrsBytes attrBytes
 attrs-writes [] r = refl
 attrs-writes (a ∷ qs) r = rw (attrs-writes qs r) (simp append-assoc)
