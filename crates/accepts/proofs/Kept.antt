@@ -26,7 +26,7 @@ use Rattle.accepts.specs.Sound.{SoundEvent, SoundEvents, Sound}
 use Rattle.accepts.proofs.Free.{free-chapter, free-verse}
 use Rattle.accepts.proofs.Legal.{LegalKey, free-clean, attrs-legal, styles-clean, keys-known}
 use Rattle.accepts.proofs.Keys.{attributes-own, keys-legal}
-use Rattle.accepts.proofs.FreeKeys.{attributes-free, keys-free}
+use Rattle.accepts.proofs.FreeKeys.{attributes-free}
 
 -- ---- each name of a node
 
@@ -63,7 +63,7 @@ module _ (t : Tape) (p : Proviso t) where
   kept-keys : (k : ℕ) (name : Bytes) → Keys LegalKey (attributesOf t k name)
   kept-keys k name =
       keys-legal (attributesOf t k name) (attributes-own t k name)
-      (attributes-free t k (collectsAs t k) name (keys-free (attributesOf t k (collectsAs t k)) (split k .3)))
+      (attributes-free t k (collectsAs t k) name (split k .3))
 
 -- ---- what is written
 

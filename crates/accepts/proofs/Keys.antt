@@ -86,10 +86,6 @@ pub keys-append : (P : Bytes → Type 0) (ps qs : List Pair) → Keys P ps → K
 keys-append P [] qs h g = g
 keys-append P (p ∷ ps) qs h g = (h .0, keys-append P ps qs (h .1) g)
 
-pub keys-both : (P : Bytes → Type 0) (ps qs : List Pair) → Keys P (ps ++ qs) → Keys P ps × Keys P qs
-keys-both P [] qs h = (tt, h)
-keys-both P (p ∷ ps) qs h = let i = keys-both P ps qs (h .1) in ((h .0, i .0), i .1)
-
 key-own : (s : Bytes) → 0 < length (keyIn s) → Own (keyIn s)
 unfolding keyIn
 key-own s h =

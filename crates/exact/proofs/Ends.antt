@@ -1,15 +1,14 @@
 -- An end that the checker reads while its start is open: its identifier needs no escape.
 use mathlib.Core.Path.{_≡_, refl, ap, subst}
-use mathlib.Core.Bool.{Bool, true, false, cond, _||_}
+use mathlib.Core.Bool.{Bool, true, false}
 use mathlib.Core.List.{List, [], _∷_, _++_}
 use mathlib.Core.Logic.{inl, inr}
-use Prim.Native.Nat.{ℕ, suc, _+_, _<_}
+use Prim.Native.Nat.{ℕ, _+_, _<_}
 use native.Mathlib.Omega.{arith}
 use lib.ListN.{length, length-append}
-use lib.Dec.{eqb}
 use Rattle.parts.specs.Bytes.{Bytes, b, same}
-use Rattle.chars.specs.Escape.{escapedByte, escape, special}
-use Rattle.chars.proofs.Escapes.{escape-least, escaped-plain}
+use Rattle.chars.specs.Escape.{escape}
+use Rattle.chars.proofs.Escapes.{escape-least}
 use Rattle.chars.proofs.Lists.{all}
 use Rattle.tags.specs.Names.{IsName}
 use Rattle.tags.specs.Form.{Pair}
@@ -18,44 +17,12 @@ use Rattle.checker.specs.View.{Mark, other, ends, opened, single, idKeyOf, note
 use Rattle.checker.specs.Words.{Kind}
 use Rattle.checker.specs.Steps.{Held, held}
 use Rattle.checker.specs.Meaning.{since, Fits, of-open, of-single, chapter-end, verse-end}
-use Rattle.accepts.specs.Proviso.{hasSpecial, Free}
-use Rattle.exact.proofs.Reading.{tailed, tagOf, tagIn, Reads, never}
+use Rattle.accepts.specs.Proviso.{Free}
+use Rattle.exact.proofs.Reading.{tailed, tagOf, tagIn, Reads}
+use Rattle.accepts.proofs.Free.{free-escape}
 use Rattle.accepts.proofs.Spaces.{but}
 use Rattle.exact.proofs.Cuts.{Cut, even, longer, cut, cut-even, key-no-equals, value-no-quote}
 use Rattle.exact.proofs.Items.{tag-read}
-
--- ---- free of the four bytes
-
--- a byte that is written by name is written longer
-escaped-longer : (x : ℕ) → special true x ≡ true → 1 < length (escapedByte true x)
-unfolding special escapedByte
-escaped-longer x h = go (eqb x 60) (eqb x 62) (eqb x 38) (eqb x 34) h
-  where
-    go : (c d e f : Bool) → c || (d || (e || f)) ≡ true → 1 < length (cond c (b "&lt;") (cond d (b "&gt;") (cond e (b "&amp;") (cond f (b "&quot;") (x ∷ [])))))
-    go true d e f h = omega arith
-    go false true e f h = omega arith
-    go false false true f h = omega arith
-    go false false false true h = omega arith
-    go false false false false h = never h
-
--- what holds one of the four is written longer
-longer-written : (s : Bytes) → hasSpecial s ≡ true → length s < length (escape true s)
-unfolding hasSpecial escape
-longer-written [] h = never h
-longer-written (x ∷ s) h = go (special true x) refl h (longer-written s)
-  where
-    go : (t : Bool) → special true x ≡ t → t || hasSpecial s ≡ true → (hasSpecial s ≡ true → length s < length (escape true s))
-        → suc (length s) < length (escapedByte true x ++ escape true s)
-    go true e h on = omega (arith, length-append (escapedByte true x) (escape true s), escaped-longer x e, escape-least true s)
-    go false e h on = rw (escaped-plain true x e) (omega (arith, on h))
-
--- what is written as itself is free
-free-escape : (s : Bytes) → s ≡ escape true s → Free s
-free-escape s e = go (hasSpecial s) refl
-  where
-    go : (t : Bool) → hasSpecial s ≡ t → hasSpecial s ≡ false
-    go false h = h
-    go true h = absurd (omega (arith, longer-written s h, ap length e))
 
 -- ---- what fits where a chapter or a verse is read
 
@@ -138,7 +105,7 @@ chapter-held (chapter-end e f) = e
 -- the end of a start whose identifier was written with its escapes: it is free, and no more is open
 pub held-end : {c v : Held} {k : ℕ} {i r : Bytes} → ((a : Bytes) → Fits c v (single k (ends a)) → held (escape true i) ≡ held a) → EndRead c v k i r
     → Free i × Reads (since 3 c (single k (ends i))) (since 4 v (single k (ends i))) r
-held-end {i = i} is (whole f z) = (free-escape i (let e = is i f in cc), z)
+held-end {i = i} is (whole f z) = (free-escape i .1 (let e = is i f in cc), z)
 held-end {i = i} is (less a h f) =
     let e = is a f in
     let g : escape true i ≡ a = cc in

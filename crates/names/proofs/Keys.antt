@@ -1,17 +1,14 @@
 -- The keys that a node collects: the marker changes free ones alone, and the walk over them.
 use mathlib.Core.Path.{_≡_, refl, sym, ap, _∙_}
-use mathlib.Core.Bool.{Bool, true, false, cond, _&&_}
-use mathlib.Core.List.{List, [], _∷_, _++_, map}
+use mathlib.Core.Bool.{Bool, true, false}
+use mathlib.Core.List.{List, [], _∷_}
 use Prim.Native.Nat.{ℕ}
-use lib.Dec.{eqb}
-use Rattle.parts.specs.Bytes.{Bytes, b, same, begins}
-use Rattle.parts.proofs.Laws.{same-true, and-true}
+use Rattle.parts.specs.Bytes.{Bytes}
 use Rattle.words.specs.Words.{bytesOf}
 use Rattle.words.specs.declared.Part.{Part}
 use Rattle.chars.specs.Escape.{special}
-use Rattle.tape.specs.File.{Tape, kindAt, textAt}
-use Rattle.tape.specs.Tree.{children}
-use Rattle.attrs.specs.Attr.{Pair, hasEquals, pairsIn, isWordMarker, defaultKey, keyFor, keyedFor, attributeBody, bodyPairs, pairsAt, pairsAlong, attributesOf}
+use Rattle.tape.specs.File.{Tape}
+use Rattle.attrs.specs.Attr.{attributesOf}
 use Rattle.attrs.specs.Walk.{fixedKeys, keyOf, remaining, nextList}
 use Rattle.attrs.specs.declared.Value.{Value}
 use Rattle.attrs.specs.declared.Key.{Key as Own-or-fixed}
@@ -21,68 +18,19 @@ use Rattle.attrs.specs.declared.Next.{Next}
 use Rattle.attrs.specs.declared.Next.the-variants.{Pair as NextPair, Done as NextDone}
 use Rattle.attrs.proofs.Walks.{next-end, next-listed}
 use Rattle.accepts.specs.Proviso.{hasSpecial, Free, key, Name, keysOf}
+use Rattle.accepts.proofs.FreeKeys.{attributes-alike}
 use Rattle.names.specs.declared.What.the-variants.{Key}
 use Rattle.names.specs.declared.Hit.{Hit}
 use Rattle.names.specs.declared.Hit.the-variants.{Nowhere}
 use Rattle.names.specs.Finding.{whatOf}
 use Rattle.names.specs.Hits.{isHit, Tested, free, Hits, nowhere}
-use Rattle.names.proofs.Specials.{free-part, free-either}
-use Rattle.names.proofs.Rows.{hit-here, hit-on, alone, Alike, none, equal, plain, alike-append, alike-hits}
+use Rattle.names.proofs.Specials.{free-part}
+use Rattle.names.proofs.Rows.{hit-here, hit-on, alone, alike-hits}
 
 -- ---- the marker changes free keys alone
 
-default-free : (m : Bytes) → Free (defaultKey m)
-unfolding defaultKey hasSpecial special
-default-free m =
-    free-either (isWordMarker m) (b "lemma") _ refl
-    (free-either (same m (b "rb")) (b "gloss") _ refl
-    (free-either (same m (b "xt")) (b "href") _ refl
-    (free-either (same m (b "ref")) (b "loc") _ refl
-    (free-either (same m (b "jmp")) (b "link-href") _ refl
-    (free-either (same m (b "periph")) (b "id") _ refl (free-either (begins (b "qt") m) (b "who") (b "default") refl refl))))))
-
-keys-append : (ps qs : List Pair) → keysOf (ps ++ qs) ≡ keysOf ps ++ keysOf qs
-unfolding keysOf
-keys-append [] qs = refl
-keys-append (p ∷ ps) qs = ap (λ (l : List Name). record { what = key; bytes = p .key } ∷ l) (keys-append ps qs)
-
-keyed-alike : (m : Bytes) (ps : List Pair) → Alike (keysOf (map (keyedFor []) ps)) (keysOf (map (keyedFor m) ps))
-unfolding keysOf keyedFor keyFor same hasSpecial special
-keyed-alike m [] = none
-keyed-alike m (p ∷ ps) = go (same m (b "fig") && same (p .key) (b "src")) refl (keyed-alike m ps)
-  where
-    go : (y : Bool) → same m (b "fig") && same (p .key) (b "src") ≡ y → {ns ms : List Name} → Alike ns ms
-        → Alike (record { what = key; bytes = p .key } ∷ ns) (record { what = key; bytes = cond y (b "file") (p .key) } ∷ ms)
-    go true e a = plain (ap hasSpecial (same-true (p .key) (b "src") (and-true (same m (b "fig")) (same (p .key) (b "src")) e .1))) refl a
-    go false e a = equal a
-
-body-alike : (m s : Bytes) → Alike (keysOf (bodyPairs [] s)) (keysOf (bodyPairs m s))
-unfolding bodyPairs keysOf
-body-alike m [] = none
-body-alike m (x ∷ s) = go (hasEquals (x ∷ s))
-  where
-    go : (y : Bool) → Alike (keysOf (cond y (map (keyedFor []) (pairsIn (x ∷ s))) (record { key = defaultKey []; value = x ∷ s } ∷ [])))
-        (keysOf (cond y (map (keyedFor m) (pairsIn (x ∷ s))) (record { key = defaultKey m; value = x ∷ s } ∷ [])))
-    go true = keyed-alike m (pairsIn (x ∷ s))
-    go false = plain (default-free []) (default-free m) none
-
-at-alike : (t : Tape) (m : Bytes) (k : ℕ) → Alike (keysOf (pairsAt t [] k)) (keysOf (pairsAt t m k))
-unfolding pairsAt keysOf
-at-alike t m k = go (eqb (kindAt t k) 2)
-  where
-    go : (y : Bool) → Alike (keysOf (cond y (bodyPairs [] (attributeBody (textAt t k))) [])) (keysOf (cond y (bodyPairs m (attributeBody (textAt t k))) []))
-    go true = body-alike m (attributeBody (textAt t k))
-    go false = none
-
-along-alike : (t : Tape) (m : Bytes) (ks : List ℕ) → Alike (keysOf (pairsAlong t [] ks)) (keysOf (pairsAlong t m ks))
-unfolding pairsAlong keysOf
-along-alike t m [] = none
-along-alike t m (k ∷ ks) =
-    rw (keys-append (pairsAt t [] k) (pairsAlong t [] ks), keys-append (pairsAt t m k) (pairsAlong t m ks)) (alike-append (at-alike t m k) (along-alike t m ks))
-
 pub collected-alike : (t : Tape) (k : ℕ) {h : Hit} → Hits t k (keysOf (attributesOf t k [])) h → (m : Bytes) → Hits t k (keysOf (attributesOf t k m)) h
-unfolding attributesOf
-collected-alike t k r m = alike-hits (along-alike t m (children t k)) r
+collected-alike t k r m = alike-hits (attributes-alike t k [] m) r
 
 -- ---- one key
 

@@ -8,6 +8,7 @@ use Rattle.words.specs.declared.Part.{Part}
 use Rattle.tape.specs.File.{Tape}
 use Rattle.attrs.specs.Walk.{Spot}
 use Rattle.accepts.specs.Proviso.{hasSpecial, Free, Name, AllFree}
+use Rattle.accepts.proofs.FreeKeys.{Alike, equal, plain, alike-free}
 use Rattle.names.specs.declared.What.{What as Said}
 use Rattle.names.specs.declared.Hit.{Hit}
 use Rattle.names.specs.declared.Hit.the-variants.{At}
@@ -81,21 +82,6 @@ alone t k n ew (free f) pl = nowhere (f, tt)
 alone t k n ew (broken {p = p} b sp) pl = at n (first-in (here b)) ew (record { spot = sp; place = pl p refl sp })
 
 -- ---- rows that differ in free names alone
-
-pub data Alike : List Name → List Name → Type 0 where
-  none : Alike [] []
-  equal : {n : Name} {ns ms : List Name} → Alike ns ms → Alike (n ∷ ns) (n ∷ ms)
-  plain : {n m : Name} {ns ms : List Name} → Free (n .bytes) → Free (m .bytes) → Alike ns ms → Alike (n ∷ ns) (m ∷ ms)
-
-pub alike-append : {ns ms xs ys : List Name} → Alike ns ms → Alike xs ys → Alike (ns ++ xs) (ms ++ ys)
-alike-append none z = z
-alike-append (equal a) z = equal (alike-append a z)
-alike-append (plain f g a) z = plain f g (alike-append a z)
-
-alike-free : {ns ms : List Name} → Alike ns ms → AllFree ns → AllFree ms
-alike-free none f = tt
-alike-free (equal a) (f, fs) = (f, alike-free a fs)
-alike-free (plain x g a) (f, fs) = (g, alike-free a fs)
 
 alike-first : {ns ms : List Name} {n : Name} → Alike ns ms → First ns n → First ms n
 alike-first (equal a) (here h) = here h

@@ -1,6 +1,6 @@
 -- Laws of the four bytes.
 use mathlib.Core.Path.{_≡_, refl, sym, ap, _∙_}
-use mathlib.Core.Bool.{Bool, true, false, cond, _||_}
+use mathlib.Core.Bool.{Bool, true, false, _||_}
 use mathlib.Core.List.{[], _∷_}
 use Prim.Native.Nat.{ℕ, zero, suc, _+_, _≤_, _<_}
 use native.Mathlib.Omega.{arith}
@@ -53,7 +53,3 @@ free-drop (suc n) (x ∷ s) h = free-drop n s (or-both (special true x) (hasSpec
 
 pub free-part : (s : Bytes) (start len : ℕ) → Free s → Free (part s start len)
 free-part s start len h = free-take len (drop start s) (free-drop start s h)
-
-pub free-either : (c : Bool) (x y : Bytes) → Free x → Free y → Free (cond c x y)
-free-either true x y f g = f
-free-either false x y f g = g
