@@ -9,6 +9,7 @@ use native.Mathlib.Omega.{arith}
 use Rattle.parts.specs.Bytes.{Bytes, b}
 use Rattle.chars.specs.Escape.{escape}
 use Rattle.tape.specs.File.{Tape}
+use Rattle.tags.specs.Form.{Pair}
 use Rattle.tags.specs.Items.{Attr, Item, start, empty, close, text, line, valueOf, pairsOf}
 use Rattle.checker.specs.View.{start as starts, bare, markOn}
 use Rattle.checker.specs.Words.{Kind, IsStart}
@@ -20,10 +21,10 @@ use Rattle.events.specs.Walk.{eventsOf}
 use Rattle.milestones.specs.Seen.{pairs, PlainItem, PlainEvents}
 use Rattle.milestones.proofs.Plain.{walk-plain}
 use Rattle.accepts.specs.Proviso.{Free}
-use Rattle.accepts.specs.Ends.{NoTag, Ended, AllAgree, FreeNames, WrittenFree}
+use Rattle.accepts.specs.Ends.{NoTag, Ended, Agrees, AllAgree, FreeNames, WrittenFree}
 use Rattle.accepts.proofs.Free.{free-chapter, free-verse, free-escape}
 use Rattle.accepts.proofs.Sids.{chapter-sid, verse-sid}
-use Rattle.accepts.proofs.Starts.{Each, EachId, each-place, each-from, each-paired, each-id, chapter-items, verse-items}
+use Rattle.accepts.proofs.Starts.{start-id, Each, EachId, each-place, each-from, each-paired, each-id, chapter-items, verse-items}
 
 -- ---- the end ahead
 
@@ -100,25 +101,66 @@ ahead-chapter s i e (book code rest ∷ es) js p =
 
 -- ---- the bytes of both
 
-ended : (k : ℕ) (qs : List Attr) (i : Bytes) (z : List Item) → markOn bare (pairsOf qs) ≡ starts (escape true i) → Ahead k i z → Ended k i qs z
-unfolding pairs pairsOf valueOf rawly
-ended k qs i z e a =
-    record {
-      between = a .between;
-      ends = rawly (b "eid") i ∷ [];
-      after = a .after;
-      here = a .here;
-      next = a .next;
-      identifier = refl;
-      sid = escape true i;
-      eid = i;
-      sid-is = start-exact (pairsOf qs) (escape true i) .0 e;
-      eid-is = refl;
-      agree = (free-escape i .1, free-escape i .0);
-    }
+-- one end belongs to a start: the next tag of a kind is one
+no-tail : (k : ℕ) (x : Item) (is : List Item) → NoTag k (x ∷ is) → NoTag k is
+no-tail k (start n qs) is h = h .1
+no-tail k (empty n qs) is h = h .1
+no-tail k (close n) is h = h .1
+no-tail k (text s) is h = h
+no-tail k (line d) is h = h
 
-abbrev EndsAt : ℕ → List Attr → Bytes → List Item → Type 0
-EndsAt k qs i z = Ended k i qs z
+no-head : (k : ℕ) (x : Item) (is : List Item) (p : List Attr) → NoTag k (x ∷ is) → x ≡ empty k p → ⊥
+no-head k x is p h e = let g : NoTag k (empty k p ∷ is) = subst (λ (y : Item). NoTag k (y ∷ is)) e h in g .0 refl
+
+next-one : (k : ℕ) (xs ys : List Item) (p q : List Attr) (a c : List Item) → NoTag k xs → NoTag k ys → xs ++ empty k p ∷ a ≡ ys ++ empty k q ∷ c → p ≡ q
+next-one k [] [] p q a c h g e = cc
+next-one k [] (y ∷ ys) p q a c h g e = absurd (no-head k y ys p g (let i : y ≡ empty k p = cc in i))
+next-one k (x ∷ xs) [] p q a c h g e = absurd (no-head k x xs q h (let i : x ≡ empty k q = cc in i))
+next-one k (x ∷ xs) (y ∷ ys) p q a c h g e = next-one k xs ys p q a c (no-tail k x xs h) (no-tail k y ys g) cc
+
+-- the attribute of an end
+abbrev pub eid : Bytes → Pair
+eid i = record { key = b "eid"; value = i }
+
+eid-one : (i j : Bytes) → eid i ∷ [] ≡ eid j ∷ [] → i ≡ j
+eid-one i j e = let h : eid i ≡ eid j = cc in ap (λ (p : Pair). p .value) h
+
+-- a start has its end, and every such end agrees with it
+EndsAt : ℕ → List Attr → Bytes → List Item → Type 0
+EndsAt k qs i z = Ended k qs z × ((e : Ended k qs z) → Agrees k i qs z e)
+
+module _ (k : ℕ) (qs : List Attr) (i : Bytes) (z : List Item) (m : markOn bare (pairsOf qs) ≡ starts (escape true i)) (a : Ahead k i z) where
+  the-end : Ended k qs z
+  unfolding pairs pairsOf valueOf rawly
+  the-end =
+      record {
+        between = a .between;
+        ends = rawly (b "eid") i ∷ [];
+        after = a .after;
+        here = a .here;
+        next = a .next;
+        identifier = i;
+        identifier-is = refl;
+        sid = escape true i;
+        eid = i;
+        sid-is = start-exact (pairsOf qs) (escape true i) .0 m;
+        eid-is = refl;
+      }
+
+  each-agrees : (e : Ended k qs z) → Agrees k i qs z e
+  unfolding pairs pairsOf valueOf rawly
+  each-agrees e =
+      let only : e .ends ≡ rawly (b "eid") i ∷ [] = next-one k (e .between) (a .between) (e .ends) _ (e .after) (a .after) (e .next) (a .next) (sym (e .here) ∙ a .here) in
+      let is-eid : i ≡ e .eid = eid-one i (e .eid) (sym (ap pairsOf only) ∙ e .eid-is) in
+      let is-sid : e .sid ≡ escape true i = start-id (e .sid) (escape true i) (sym (start-exact (pairsOf qs) (e .sid) .1 (e .sid-is)) ∙ m) in
+      record {
+        before = eid-one (e .identifier) i (sym (e .identifier-is) ∙ ap pairs only);
+        text = (λ s. free-escape i .1 (sym is-sid ∙ s ∙ sym is-eid), λ f. is-sid ∙ free-escape i .0 f ∙ is-eid);
+      }
+
+  ended : EndsAt k qs i z
+  unfolding EndsAt
+  ended = (the-end, each-agrees)
 
 each-ended : (s : State) (es : List Event) (js : List Item) → PlainEvents es → EachId EndsAt s es js
 unfolding after
@@ -147,9 +189,11 @@ module _ (P : ℕ → List Attr → Bytes → List Item → Type 0) (t : Tape) w
   tape-each : Each P (itemsOfTape t) → EachId P (firstState t) (eventsOf t) last
   tape-each h = each-id P (firstState t) (eventsOf t) last (subst (Each P) (items-parts t) h)
 
--- of every tape, proviso or not: each chapter and verse start has its end, with its identifier before the escapes, and in the text `sid` and `eid` are
--- equal bytes exactly where the identifier holds none of & < > and the double quote
-pub ends-agree : (t : Tape) (k : ℕ) → Kind k → (a : List Item) (qs : List Attr) (z : List Item) (i : Bytes) → itemsOfTape t ≡ a ++ empty k qs ∷ z → IsStart (pairs qs) i → Ended k i qs z
+-- of every tape, proviso or not: each chapter and verse start has its end, which agrees with it before the escapes, and in the text exactly where the
+-- identifier holds none of & < > and the double quote
+pub ends-agree : (t : Tape) (k : ℕ) → Kind k → (a : List Item) (qs : List Attr) (z : List Item) (i : Bytes) → itemsOfTape t ≡ a ++ empty k qs ∷ z → IsStart (pairs qs) i
+    → Ended k qs z × ((e : Ended k qs z) → Agrees k i qs z e)
+unfolding EndsAt
 ends-agree t k d a qs z i e h =
     each-place EndsAt a k qs z (subst (Each EndsAt) e (each-tape EndsAt t (each-ended (firstState t) (eventsOf t) last (walk-plain t)))) d i h
 
@@ -180,11 +224,11 @@ names-agree t = (to, from)
     to h =
         names-ids (firstState t) (eventsOf t) last .1
         (tape-each FreeAt t
-        (each-from FreeAt (itemsOfTape t) (λ k d a qs z i e g. let x = ends-agree t k d a qs z i e g in x .agree .0 (h .same k d a qs z i e g x))))
+        (each-from FreeAt (itemsOfTape t) (λ k d a qs z i e g. let x = ends-agree t k d a qs z i e g in x .1 (x .0) .text .0 (h .same k d a qs z i e g (x .0)))))
 
     from : WrittenFree t → AllAgree t
     from h =
         record {
           same = λ k d a qs z i e g x.
-              x .agree .1 (each-place FreeAt a k qs z (subst (Each FreeAt) e (each-tape FreeAt t (names-ids (firstState t) (eventsOf t) last .0 h))) d i g);
+              ends-agree t k d a qs z i e g .1 x .text .1 (each-place FreeAt a k qs z (subst (Each FreeAt) e (each-tape FreeAt t (names-ids (firstState t) (eventsOf t) last .0 h))) d i g);
         }

@@ -20,7 +20,7 @@ use Rattle.milestones.proofs.Paired.{chapter-seen, verse-seen, end-seen}
 pub single-mark : (k : ℕ) (m w : Mark) → _≡_ {A = View} (single k m) (single k w) → m ≡ w
 single-mark k m w e = cc
 
-start-id : (i j : Bytes) → _≡_ {A = Mark} (starts i) (starts j) → i ≡ j
+pub start-id : (i j : Bytes) → _≡_ {A = Mark} (starts i) (starts j) → i ≡ j
 start-id i j e = cc
 
 -- the identifier of a tag that the rules see as a start of this one

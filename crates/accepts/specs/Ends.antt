@@ -23,28 +23,34 @@ NoTag k (close n ∷ is) = (n ≡ k → ⊥) × NoTag k is
 NoTag k (text s ∷ is) = NoTag k is
 NoTag k (line d ∷ is) = NoTag k is
 
--- the end that belongs to a start with these attributes and this identifier, among the items behind it
-pub record Ended (k : ℕ) (i : Bytes) (qs : List Attr) (z : List Item) : Type 0 where
+-- the end that belongs to a start with these attributes, among the items behind it
+pub record Ended (k : ℕ) (qs : List Attr) (z : List Item) : Type 0 where
   -- the next tag of its kind
   pub between : List Item
   pub ends : List Attr
   pub after : List Item
   pub here : z ≡ between ++ empty k ends ∷ after
   pub next : NoTag k between
-  -- before the escapes its `eid` is the start's identifier
-  pub identifier : IsEnd (pairs ends) i
-  -- the bytes of `sid` and of `eid` as they stand in the text
+  -- its identifier before the escapes
+  pub identifier : Bytes
+  pub identifier-is : IsEnd (pairs ends) identifier
+  -- the bytes of the start's `sid` and of its own `eid` as they stand in the text
   pub sid : Bytes
   pub eid : Bytes
   pub sid-is : IsStart (pairsOf qs) sid
   pub eid-is : IsEnd (pairsOf ends) eid
-  -- are equal exactly where the identifier holds none of the four bytes
-  pub agree : (sid ≡ eid) ↔ Free i
 
--- at each chapter and verse start of the text both are equal bytes
+-- such an end, and a start with this identifier
+pub record Agrees (k : ℕ) (i : Bytes) (qs : List Attr) (z : List Item) (e : Ended k qs z) : Type 0 where
+  -- "before escapes they are always equal"
+  pub before : e .identifier ≡ i
+  -- "equal bytes exactly where the identifier holds none of & < > and the double quote"
+  pub text : (e .sid ≡ e .eid) ↔ Free i
+
+-- at each chapter and verse start of the text `sid` and the `eid` of its end are equal bytes
 pub record AllAgree (t : Tape) : Type 0 where
   pub same : (k : ℕ) → Kind k → (a : List Item) (qs : List Attr) (z : List Item) (i : Bytes) → itemsOfTape t ≡ a ++ empty k qs ∷ z → IsStart (pairs qs) i
-      → (e : Ended k i qs z) → e .sid ≡ e .eid
+      → (e : Ended k qs z) → e .sid ≡ e .eid
 
 -- of each chapter that is written the book code, of each verse the book code and the label hold none of the four bytes
 abbrev pub FreeNames : State → List Event → Type 0
