@@ -24,7 +24,7 @@ use Rattle.accepts.specs.Proviso.{Free}
 use Rattle.accepts.specs.Ends.{NoTag, Ended, Agrees, AllAgree, FreeNames, WrittenFree}
 use Rattle.accepts.proofs.Free.{free-chapter, free-verse, free-escape}
 use Rattle.accepts.proofs.Sids.{chapter-sid, verse-sid}
-use Rattle.accepts.proofs.Starts.{start-id, Each, EachId, each-place, each-from, each-paired, each-id, chapter-items, verse-items}
+use Rattle.accepts.proofs.Starts.{start-id, Each, EachId, each-place, each-from, each-paired, each-id, chapter-paired, verse-paired}
 
 -- ---- the end ahead
 
@@ -79,8 +79,8 @@ ahead-verse : (s : State) (i : Bytes) → s .verse ≡ some i → (es : List Eve
 unfolding paired itemsOf lastEnds after
 ahead-verse s i e [] js p = rw (e, append-assoc) (ahead-now 4 i _)
 ahead-verse s i e (item x ∷ es) js p = ahead-past 4 i (x ∷ []) _ (no-plain 4 i (inr refl) x (p .0)) (ahead-verse s i e es js (p .1))
-ahead-verse s i e (chapter n alt published ∷ es) js p = subst (Ahead 4 i) (sym (chapter-items s n alt published es js)) (rw e (ahead-now 4 i _))
-ahead-verse s i e (verse label alt published ∷ es) js p = subst (Ahead 4 i) (sym (verse-items s label alt published es js)) (rw e (ahead-now 4 i _))
+ahead-verse s i e (chapter n alt published ∷ es) js p = subst (Ahead 4 i) (sym (chapter-paired s n alt published es js)) (rw e (ahead-now 4 i _))
+ahead-verse s i e (verse label alt published ∷ es) js p = subst (Ahead 4 i) (sym (verse-paired s label alt published es js)) (rw e (ahead-now 4 i _))
 ahead-verse s i e (book code rest ∷ es) js p =
     rw append-assoc (ahead-past 4 i (bookItems code rest) _ (no-book 4 i (λ x. omega arith) code rest) (ahead-verse (after s (book code rest)) i e es js p))
 
@@ -90,10 +90,10 @@ unfolding paired itemsOf lastEnds after
 ahead-chapter s i e [] js p = rw (e, append-assoc) (ahead-past 3 i (endOf 4 (s .verse)) _ (no-end 3 i 4 (s .verse) (λ x. omega arith)) (ahead-now 3 i js))
 ahead-chapter s i e (item x ∷ es) js p = ahead-past 3 i (x ∷ []) _ (no-plain 3 i (inl refl) x (p .0)) (ahead-chapter s i e es js (p .1))
 ahead-chapter s i e (chapter n alt published ∷ es) js p =
-    subst (Ahead 3 i) (sym (chapter-items s n alt published es js))
+    subst (Ahead 3 i) (sym (chapter-paired s n alt published es js))
     (rw e (ahead-past 3 i (endOf 4 (s .verse)) _ (no-end 3 i 4 (s .verse) (λ x. omega arith)) (ahead-now 3 i _)))
 ahead-chapter s i e (verse label alt published ∷ es) js p =
-    subst (Ahead 3 i) (sym (verse-items s label alt published es js))
+    subst (Ahead 3 i) (sym (verse-paired s label alt published es js))
     (ahead-past 3 i (endOf 4 (s .verse)) _ (no-end 3 i 4 (s .verse) (λ x. omega arith))
     (ahead-past 3 i (empty 4 (verseAttrs (s .book) (s .number) label alt published) ∷ []) _ (λ x. omega arith, tt) (ahead-chapter (after s (verse label alt published)) i e es js p)))
 ahead-chapter s i e (book code rest ∷ es) js p =

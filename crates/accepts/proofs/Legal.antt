@@ -104,6 +104,15 @@ open-after s (of-book k o r) g h = record { chapter = h .chapter; verse = h .ver
 open-after s (opening a) g h = h
 open-after s (closing a) g h = h
 
+pub is-book : IsName 2
+is-book = record { one = omega arith; sixteen = omega arith }
+
+pub is-chapter : IsName 3
+is-chapter = record { one = omega arith; sixteen = omega arith }
+
+pub is-verse : IsName 4
+is-verse = record { one = omega arith; sixteen = omega arith }
+
 legal-end : (k : ℕ) (o : Option Bytes) (js : List Item) → IsName k → FreeId o → LegalItems js → LegalItems (endOf k o ++ js)
 unfolding endOf all plain keyByte
 legal-end k nothing js n h g = g
@@ -119,21 +128,12 @@ book-legal : (code rest : Bytes) (js : List Item) → Clean Value code → Legal
 unfolding bookItems bookAttrs all plain keyByte hasSpecial special
 book-legal code rest js h g = go rest
   where
-    two : IsName 2
-    two = record { one = omega arith; sixteen = omega arith }
-
     qs : LegalAttrs (rawly (b "code") code ∷ rawly (b "style") (b "id") ∷ [])
     qs = more (legal-raw (b "code") code (known (b "code") refl) h) (more (legal-raw (b "style") (b "id") (known (b "style") refl) (free-clean (b "id") refl)) none)
 
     go : (rest : Bytes) → LegalItems (bookItems code rest ++ js)
-    go [] = legal-empty two qs g
-    go (x ∷ rest) = a-start two qs (legal-text (a-close two g))
-
-three : IsName 3
-three = record { one = omega arith; sixteen = omega arith }
-
-four : IsName 4
-four = record { one = omega arith; sixteen = omega arith }
+    go [] = legal-empty is-book qs g
+    go (x ∷ rest) = a-start is-book qs (legal-text (a-close is-book g))
 
 -- ---- events
 
@@ -144,9 +144,9 @@ event-legal s js (by-itself a-line) i h g = legal-line g
 event-legal s js (by-itself (an-empty a)) i h g = legal-empty (given-name a) i g
 event-legal s js (by-itself (a-chapter {n} {alt} {published})) i h g =
     rw (append-assoc, append-assoc)
-    (legal-end 4 (s .verse) _ four (h .verse) (legal-end 3 (s .chapter) _ three (h .chapter) (legal-empty three (chapter-legal (s .book) n alt published) g)))
+    (legal-end 4 (s .verse) _ is-verse (h .verse) (legal-end 3 (s .chapter) _ is-chapter (h .chapter) (legal-empty is-chapter (chapter-legal (s .book) n alt published) g)))
 event-legal s js (by-itself (a-verse k {alt} {published} v)) i h g =
-    rw append-assoc (legal-end 4 (s .verse) _ four (h .verse) (legal-empty four (verse-legal (s .book) (s .number) _ alt published) g))
+    rw append-assoc (legal-end 4 (s .verse) _ is-verse (h .verse) (legal-empty is-verse (verse-legal (s .book) (s .number) _ alt published) g))
 event-legal s js (of-book k o r) i h g = book-legal _ _ js i g
 event-legal s js (opening a) i h g = a-start (given-name a) i g
 event-legal s js (closing a) i h g = a-close (given-name a) g
@@ -154,7 +154,7 @@ event-legal s js (closing a) i h g = a-close (given-name a) g
 -- events in front of legal items
 paired-legal : (t : Tape) (s : State) (es : List Event) (js : List Item) → AllWritten t es → SoundEvents s es → FreeOpen s → LegalItems js → LegalItems (paired s es ++ js)
 unfolding paired lastEnds
-paired-legal t s [] js w i h g = rw append-assoc (legal-end 4 (s .verse) _ four (h .verse) (legal-end 3 (s .chapter) js three (h .chapter) g))
+paired-legal t s [] js w i h g = rw append-assoc (legal-end 4 (s .verse) _ is-verse (h .verse) (legal-end 3 (s .chapter) js is-chapter (h .chapter) g))
 paired-legal t s (e ∷ es) js w i h g =
     rw append-assoc
     (event-legal s (paired (after s e) es ++ js) (w .0) (i .0) h (paired-legal t (after s e) es js (w .1) (i .1) (open-after s (w .0) (i .0) h) g))

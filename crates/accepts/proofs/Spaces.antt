@@ -3,7 +3,6 @@ use mathlib.Core.Path.{_≡_, refl, sym, ap, _∙_, subst}
 use mathlib.Core.Bool.{Bool, true, false, not, _&&_}
 use mathlib.Core.List.{List, [], _∷_, _++_, flatten, append-assoc}
 use Prim.Native.Nat.{ℕ}
-use native.Mathlib.Omega.{arith}
 use lib.Dec.{eqb}
 use borrow.Author.Tests.{eqb-true, not-true}
 use Rattle.parts.specs.Bytes.{Bytes}
@@ -18,6 +17,7 @@ use Rattle.words.proofs.Rows.{Row, row-before}
 use Rattle.words.proofs.Runs.{take-drop-while, every-take-while}
 use Rattle.words.proofs.Steps.{size-steady, space-white}
 use Rattle.words.proofs.Texts.{chars-row, row-chars}
+use Rattle.checker.proofs.Decides.{never}
 use Rattle.tape.specs.File.{Tape, textAt}
 use Rattle.tape.specs.Name.{bare, endsName, inName, nameIn, markerName}
 use Rattle.render.specs.Note.{firstOr, firstWords, bookCode}
@@ -25,9 +25,6 @@ use Rattle.render.specs.Note.{firstOr, firstWords, bookCode}
 -- another byte than this
 unfoldable pub but : ℕ → ℕ → Bool
 but y x = not (eqb x y)
-
-never : false ≡ true → ⊥
-never e = let no-way : _≡_ {A = ℕ} 0 1 = cc in omega arith
 
 every-behind : (p : Bytes → Bool) (cs ds : List Bytes) → every p (cs ++ ds) ≡ true → every p ds ≡ true
 unfolding every

@@ -12,6 +12,7 @@ use Rattle.checker.specs.Words.{Kind, IsStart}
 use Rattle.checker.proofs.Tags.{start-exact}
 use Rattle.events.specs.Event.{Event, item, chapter, verse, book, rawly}
 use Rattle.events.specs.Pairing.{State, chapterId, verseId, after, endOf, chapterAttrs, verseAttrs, bookItems, itemsOf, lastEnds, paired}
+use Rattle.events.proofs.Emits.{chapter-items, verse-items}
 use Rattle.milestones.specs.Seen.{pairs, tokenOf, PlainItem, PlainEvents}
 use Rattle.milestones.proofs.Paired.{chapter-seen, verse-seen, end-seen}
 
@@ -46,18 +47,20 @@ book-plain (inr e) = omega arith
 -- ---- what pairing makes of one event, and what follows
 
 -- what a chapter writes
-pub chapter-items : (s : State) (n : ℕ) (alt published : Option Bytes) (es : List Event) (js : List Item)
+pub chapter-paired : (s : State) (n : ℕ) (alt published : Option Bytes) (es : List Event) (js : List Item)
     → paired s (chapter n alt published ∷ es) ++ js
     ≡ endOf 4 (s .verse) ++ (endOf 3 (s .chapter) ++ empty 3 (chapterAttrs (s .book) n alt published) ∷ (paired (after s (chapter n alt published)) es ++ js))
-unfolding paired itemsOf
-chapter-items s n alt published es js = simp append-assoc
+unfolding paired
+chapter-paired s n alt published es js =
+    append-assoc (itemsOf s (chapter n alt published)) (paired (after s (chapter n alt published)) es) js ∙ chapter-items s n alt published (paired (after s (chapter n alt published)) es ++ js)
 
 -- what a verse writes
-pub verse-items : (s : State) (label : Bytes) (alt published : Option Bytes) (es : List Event) (js : List Item)
+pub verse-paired : (s : State) (label : Bytes) (alt published : Option Bytes) (es : List Event) (js : List Item)
     → paired s (verse label alt published ∷ es) ++ js
     ≡ endOf 4 (s .verse) ++ empty 4 (verseAttrs (s .book) (s .number) label alt published) ∷ (paired (after s (verse label alt published)) es ++ js)
-unfolding paired itemsOf
-verse-items s label alt published es js = simp append-assoc
+unfolding paired
+verse-paired s label alt published es js =
+    append-assoc (itemsOf s (verse label alt published)) (paired (after s (verse label alt published)) es) js ∙ verse-items s label alt published (paired (after s (verse label alt published)) es ++ js)
 
 -- ---- each start
 
@@ -129,12 +132,12 @@ module _ (P : ℕ → List Attr → Bytes → List Item → Type 0) where
   each-paired s [] js p f h = rw append-assoc (each-end 4 (s .verse) _ (each-end 3 (s .chapter) js h))
   each-paired s (item i ∷ es) js p f h = each-plain i (paired s es ++ js) (p .0) (each-paired s es js (p .1) f h)
   each-paired s (chapter n alt published ∷ es) js p f h =
-      subst Each (sym (chapter-items s n alt published es js))
+      subst Each (sym (chapter-paired s n alt published es js))
       (each-end 4 (s .verse) _
       (each-end 3 (s .chapter) _
       (each-tag 3 _ _ _ (chapter-seen (s .book) n alt published) (f .0) (each-paired (after s (chapter n alt published)) es js p (f .1) h))))
   each-paired s (verse label alt published ∷ es) js p f h =
-      subst Each (sym (verse-items s label alt published es js))
+      subst Each (sym (verse-paired s label alt published es js))
       (each-end 4 (s .verse) _
       (each-tag 4 _ _ _ (verse-seen (s .book) (s .number) label alt published) (f .0) (each-paired (after s (verse label alt published)) es js p (f .1) h)))
   each-paired s (book code rest ∷ es) js p f h =
@@ -164,10 +167,10 @@ module _ (P : ℕ → List Attr → Bytes → List Item → Type 0) where
   each-id s [] js h = tt
   each-id s (item i ∷ es) js h = each-id s es js (past-plain i (paired s es ++ js) h)
   each-id s (chapter n alt published ∷ es) js h =
-      let g = past-end 3 (s .chapter) _ (past-end 4 (s .verse) _ (subst Each (chapter-items s n alt published es js) h)) in
+      let g = past-end 3 (s .chapter) _ (past-end 4 (s .verse) _ (subst Each (chapter-paired s n alt published es js) h)) in
       (g .0 (inl refl) _ (seen-start 3 _ _ (chapter-seen (s .book) n alt published)), each-id (after s (chapter n alt published)) es js (g .1))
   each-id s (verse label alt published ∷ es) js h =
-      let g = past-end 4 (s .verse) _ (subst Each (verse-items s label alt published es js) h) in
+      let g = past-end 4 (s .verse) _ (subst Each (verse-paired s label alt published es js) h) in
       (g .0 (inr refl) _ (seen-start 4 _ _ (verse-seen (s .book) (s .number) label alt published)), each-id (after s (verse label alt published)) es js (g .1))
   each-id s (book code rest ∷ es) js h =
       each-id (after s (book code rest)) es js

@@ -1,12 +1,15 @@
 -- Emission and pairing along a list of events.
 use mathlib.Core.Path.{_≡_, refl, sym, ap, _∙_}
 use mathlib.Core.List.{List, [], _∷_, _++_, append-assoc}
+use mathlib.Core.Option.{Option}
+use Prim.Native.Nat.{ℕ}
+use Rattle.parts.specs.Bytes.{Bytes}
 use Rattle.window.specs.Page.{Page, paint}
 use Rattle.window.proofs.Paint.{paint-append}
-use Rattle.tags.specs.Items.{Item, render}
+use Rattle.tags.specs.Items.{Item, empty, render}
 use Rattle.tags.proofs.Rendered.{render-append}
-use Rattle.events.specs.Event.{Event}
-use Rattle.events.specs.Pairing.{State, itemsOf, after, paired, lastEnds}
+use Rattle.events.specs.Event.{Event, chapter, verse}
+use Rattle.events.specs.Pairing.{State, endOf, chapterAttrs, verseAttrs, itemsOf, after, paired, lastEnds}
 use Rattle.events.specs.Emit.{Desk, emit, emitAll, emitted, afterAll}
 
 -- what a list and another behind it emit
@@ -25,6 +28,18 @@ between d xs ys zs ee ef eg =
     eg ∙ ap (λ (u : Desk). emitAll u zs) (ef ∙ ap (λ (u : Desk). emitAll u ys) ee)
     ∙ ap (λ (u : Desk). emitAll u zs) (sym (emit-append d xs ys)) ∙ sym (emit-append d (xs ++ ys) zs)
     ∙ ap (emitAll d) (append-assoc xs ys zs)
+
+-- the items of a chapter, and others behind them
+pub chapter-items : (s : State) (n : ℕ) (alt published : Option Bytes) (is : List Item)
+    → itemsOf s (chapter n alt published) ++ is ≡ endOf 4 (s .verse) ++ (endOf 3 (s .chapter) ++ empty 3 (chapterAttrs (s .book) n alt published) ∷ is)
+unfolding itemsOf
+chapter-items s n alt published is = simp append-assoc
+
+-- those of a verse
+pub verse-items : (s : State) (label : Bytes) (alt published : Option Bytes) (is : List Item)
+    → itemsOf s (verse label alt published) ++ is ≡ endOf 4 (s .verse) ++ empty 4 (verseAttrs (s .book) (s .number) label alt published) ∷ is
+unfolding itemsOf
+verse-items s label alt published is = simp append-assoc
 
 -- the items of a list and of another behind it
 pub emitted-append : (s : State) (a z : List Event) → emitted s (a ++ z) ≡ emitted s a ++ emitted (afterAll s a) z

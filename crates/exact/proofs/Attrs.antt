@@ -14,7 +14,8 @@ use Rattle.tags.specs.Write.{writePair, writePairs, Clean, CleanPair, CleanPair
 use Rattle.tags.specs.Items.{Attr, valueOf, pairsOf, LegalAttrs, none as no-attr, more as more-attrs}
 use Rattle.tags.specs.declared.Class.the-variants.{Value, Key}
 use Rattle.tags.proofs.Rendered.{escape-clean}
-use Rattle.exact.proofs.Reading.{tailed, stuck, never}
+use Rattle.checker.proofs.Decides.{never}
+use Rattle.exact.proofs.Reading.{tailed, stuck}
 use Rattle.accepts.proofs.Spaces.{but}
 use Rattle.accepts.proofs.Keys.{Own}
 use Rattle.exact.proofs.Cuts.{not-in, Cut, even, longer, cut, cut-even, key-no-equals, key-no-end, value-no-quote, value-no-tag, stuck-word, stuck-text}

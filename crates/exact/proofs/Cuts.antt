@@ -15,7 +15,8 @@ use Rattle.tags.specs.Write.{Clean}
 use Rattle.tags.specs.declared.Class.{Class}
 use Rattle.tags.specs.declared.Class.the-variants.{Text, Value, Key}
 use Rattle.accepts.proofs.Spaces.{but}
-use Rattle.exact.proofs.Reading.{stuck, never}
+use Rattle.checker.proofs.Decides.{never}
+use Rattle.exact.proofs.Reading.{stuck}
 
 -- ---- tests of every byte
 

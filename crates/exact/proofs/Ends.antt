@@ -19,6 +19,7 @@ use Rattle.checker.specs.Steps.{Held, held}
 use Rattle.checker.specs.Meaning.{since, Fits, of-open, of-single, chapter-end, verse-end}
 use Rattle.accepts.specs.Proviso.{Free}
 use Rattle.exact.proofs.Reading.{tailed, tagOf, tagIn, Reads}
+use Rattle.accepts.proofs.Ends.{eid}
 use Rattle.accepts.proofs.Free.{free-escape}
 use Rattle.accepts.proofs.Spaces.{but}
 use Rattle.exact.proofs.Cuts.{Cut, even, longer, cut, cut-even, key-no-equals, value-no-quote}
@@ -39,10 +40,6 @@ other-on : (ps : List Pair) → markOn other ps ≡ other
 unfolding markOn noted notedBy
 other-on [] = refl
 other-on (p ∷ ps) = other-on ps
-
--- the attribute of an end
-abbrev pub eid : Bytes → Pair
-eid i = record { key = b "eid"; value = i }
 
 -- ---- reading an end
 

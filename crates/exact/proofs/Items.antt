@@ -20,9 +20,9 @@ use Rattle.tags.proofs.Rendered.{escape-clean, attrs-writes}
 use Rattle.checker.specs.View.{single, bare, view, markOn}
 use Rattle.checker.specs.Steps.{Held}
 use Rattle.checker.specs.Meaning.{since, Fits}
-use Rattle.checker.proofs.Decides.{since-other}
+use Rattle.checker.proofs.Decides.{since-other, never}
 use Rattle.accepts.specs.Sound.{SoundItem}
-use Rattle.exact.proofs.Reading.{tailed, tagOf, tagIn, Reads, done, byte, close as close-read, tag, never, never-read}
+use Rattle.exact.proofs.Reading.{tailed, tagOf, tagIn, Reads, done, byte, close as close-read, tag, never-read}
 use Rattle.accepts.proofs.Spaces.{but}
 use Rattle.exact.proofs.Cuts.{text-no-tag}
 use Rattle.exact.proofs.Attrs.{WordyAttrs, fits}

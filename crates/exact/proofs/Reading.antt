@@ -14,6 +14,7 @@ use Rattle.tags.specs.Write.{writePair, writePairs, CleanPairs}
 use Rattle.checker.specs.View.{closed, view}
 use Rattle.checker.specs.Steps.{Held}
 use Rattle.checker.specs.Meaning.{since, Fits}
+use Rattle.checker.proofs.Decides.{never}
 
 -- ---- reading
 
@@ -48,9 +49,6 @@ stuck late (x ∷ s) =
     cond (eqb x 60) (stuck true s)
     (cond (eqb x 34 || eqb x 61) (stuck false s)
     (cond (eqb x 32) (not late && stuck late s) (cond (eqb x 62) (not late || stuck late s) (stuck late s))))
-
-pub never {ℓ} : {A : Type ℓ} → false ≡ true → A
-never e = absurd (let no-way : _≡_ {A = ℕ} 0 1 = cc in omega arith)
 
 -- a name changes nothing, and nothing of it is a space or a `>`
 each-name : (n : ℕ) (r : Bytes) → IsName n → stuck true (nameOf n ++ r) ≡ stuck true r

@@ -8,7 +8,6 @@ use Prim.Native.Nat.{ℕ, _≤_}
 use native.Mathlib.Omega.{arith}
 use Rattle.parts.specs.Bytes.{Bytes, b}
 use Rattle.chars.specs.Escape.{escape}
-use Rattle.tags.specs.Names.{IsName}
 use Rattle.tags.specs.Write.{Clean}
 use Rattle.tags.specs.Items.{Item, start, empty, close, text, valueOf, bytesOf, render, pairsOf, LegalAttrs, more}
 use Rattle.tags.specs.declared.Class.the-variants.{Value}
@@ -17,12 +16,14 @@ use Rattle.checker.specs.Steps.{Held, shut, held}
 use Rattle.checker.specs.Meaning.{since}
 use Rattle.events.specs.Event.{Event, item, chapter, verse, book, rawly}
 use Rattle.events.specs.Pairing.{State, chapterId, verseId, after, endOf, chapterAttrs, verseAttrs, bookAttrs, bookItems, itemsOf, lastEnds, paired}
-use Rattle.accepts.specs.Proviso.{Free}
+use Rattle.events.proofs.Emits.{chapter-items, verse-items}
 use Rattle.accepts.specs.Sound.{SoundEvents}
+use Rattle.accepts.proofs.Ends.{eid}
+use Rattle.accepts.proofs.Legal.{FreeId, is-book, is-chapter, is-verse}
 use Rattle.accepts.proofs.Sids.{chapter-sid, verse-sid}
 use Rattle.exact.proofs.Reading.{tagOf, tagIn, Reads}
 use Rattle.exact.proofs.Items.{reads-tag, tag-written, reads-item}
-use Rattle.exact.proofs.Ends.{eid, end-read, verse-held, chapter-held, held-end}
+use Rattle.exact.proofs.Ends.{end-read, verse-held, chapter-held, held-end}
 use Rattle.exact.proofs.Wordy.{wordy-chapter, wordy-verse, wordy-book, WordyEvent, WordyEvents}
 
 -- ---- what is open
@@ -31,11 +32,6 @@ use Rattle.exact.proofs.Wordy.{wordy-chapter, wordy-verse, wordy-book, 
 abbrev pub heldOf : Option Bytes → Held
 heldOf none = shut
 heldOf (some i) = held (escape true i)
-
--- what is open has an identifier free of the four bytes
-abbrev pub FreeOf : Option Bytes → Type 0
-FreeOf none = Unit {0}
-FreeOf (some i) = Free i
 
 -- ---- ends
 
@@ -48,23 +44,14 @@ end-written : (k : ℕ) (i : Bytes) (is : List Item) (r : Bytes) → render (emp
 unfolding pairsOf valueOf rawly
 end-written k i is r = front (empty k (rawly (b "eid") i ∷ [])) is r ∙ tag-written true k (rawly (b "eid") i ∷ []) (render is ++ r)
 
-is-chapter : IsName 3
-is-chapter = record { one = omega arith; sixteen = omega arith }
-
-is-verse : IsName 4
-is-verse = record { one = omega arith; sixteen = omega arith }
-
-is-book : IsName 2
-is-book = record { one = omega arith; sixteen = omega arith }
-
 -- an open verse is ended
-ended-verse : {c : Held} (o : Option Bytes) (is : List Item) (r : Bytes) → Reads c (heldOf o) (render (endOf 4 o ++ is) ++ r) → FreeOf o × Reads c shut (render is ++ r)
+ended-verse : {c : Held} (o : Option Bytes) (is : List Item) (r : Bytes) → Reads c (heldOf o) (render (endOf 4 o ++ is) ++ r) → FreeId o × Reads c shut (render is ++ r)
 unfolding endOf since
 ended-verse none is r z = (tt, z)
 ended-verse (some i) is r z = held-end (λ a f. verse-held f) (end-read 4 (inr refl) i (render is ++ r) is-verse (end-written 4 i is r) z)
 
 -- an open chapter is ended
-ended-chapter : {v : Held} (o : Option Bytes) (is : List Item) (r : Bytes) → Reads (heldOf o) v (render (endOf 3 o ++ is) ++ r) → FreeOf o × Reads shut v (render is ++ r)
+ended-chapter : {v : Held} (o : Option Bytes) (is : List Item) (r : Bytes) → Reads (heldOf o) v (render (endOf 3 o ++ is) ++ r) → FreeId o × Reads shut v (render is ++ r)
 unfolding endOf since
 ended-chapter none is r z = (tt, z)
 ended-chapter (some i) is r z = held-end (λ a f. chapter-held f) (end-read 3 (inl refl) i (render is ++ r) is-chapter (end-written 3 i is r) z)
@@ -127,8 +114,8 @@ reads-book {c} {v} code (x ∷ rest) is r h z =
 -- what is read of events in a state: they are sound, and what is open is free
 pub record ReadOf (s : State) (es : List Event) : Type 0 where
   pub sound : SoundEvents s es
-  pub chapter : FreeOf (s .chapter)
-  pub verse : FreeOf (s .verse)
+  pub chapter : FreeId (s .chapter)
+  pub verse : FreeId (s .verse)
 
 pub read-sound : (s : State) (es : List Event) (r : Bytes) → WordyEvents es → Reads (heldOf (s .chapter)) (heldOf (s .verse)) (render (paired s es) ++ r) → ReadOf s es
 unfolding paired itemsOf after lastEnds
@@ -143,16 +130,14 @@ read-sound s (item i ∷ es) r h z =
 read-sound s (chapter n alt published ∷ es) r h z =
     let x : Item = empty 3 (chapterAttrs (s .book) n alt published) in
     let rest = paired (after s (chapter n alt published)) es in
-    let e = append-assoc (endOf 4 (s .verse)) (endOf 3 (s .chapter) ++ x ∷ []) rest ∙ ap (λ (is : List Item). endOf 4 (s .verse) ++ is) (append-assoc (endOf 3 (s .chapter)) (x ∷ []) rest) in
-    let v = ended-verse (s .verse) (endOf 3 (s .chapter) ++ x ∷ rest) r (subst (λ (is : List Item). Reads (heldOf (s .chapter)) (heldOf (s .verse)) (render is ++ r)) e z) in
+    let v = ended-verse (s .verse) (endOf 3 (s .chapter) ++ x ∷ rest) r (subst (λ (is : List Item). Reads (heldOf (s .chapter)) (heldOf (s .verse)) (render is ++ r)) (chapter-items s n alt published rest) z) in
     let c = ended-chapter (s .chapter) (x ∷ rest) r (v .1) in
     let on = read-sound (after s (chapter n alt published)) es r (h .1) (reads-chapter (render rest ++ r) (s .book) n alt published (subst (Reads shut shut) (front x rest r) (c .1))) in
     record { sound = (on .chapter, on .sound); chapter = c .0; verse = v .0 }
 read-sound s (verse label alt published ∷ es) r h z =
     let x : Item = empty 4 (verseAttrs (s .book) (s .number) label alt published) in
     let rest = paired (after s (verse label alt published)) es in
-    let e = append-assoc (endOf 4 (s .verse)) (x ∷ []) rest in
-    let v = ended-verse (s .verse) (x ∷ rest) r (subst (λ (is : List Item). Reads (heldOf (s .chapter)) (heldOf (s .verse)) (render is ++ r)) e z) in
+    let v = ended-verse (s .verse) (x ∷ rest) r (subst (λ (is : List Item). Reads (heldOf (s .chapter)) (heldOf (s .verse)) (render is ++ r)) (verse-items s label alt published rest) z) in
     let on = read-sound (after s (verse label alt published)) es r (h .1)
     (reads-verse (render rest ++ r) (s .book) (s .number) label alt published (subst (Reads (heldOf (s .chapter)) shut) (front x rest r) (v .1))) in
     record { sound = (on .verse, on .sound); chapter = on .chapter; verse = v .0 }

@@ -10,7 +10,7 @@ use Rattle.tags.specs.Items.{Attr}
 use Rattle.events.specs.Event.{Event, item, chapter, verse, book, rawly, escaped}
 use Rattle.events.specs.Pairing.{chapterAttrs, verseAttrs, bookAttrs}
 use Rattle.grammar.proofs.Attrs.{fixedStyles, fixedKeys, OfEach, AttrsOf, no-attr, a-style, a-value, chapter-attrs, verse-attrs}
-use Rattle.exact.proofs.Reading.{never}
+use Rattle.checker.proofs.Decides.{never}
 use Rattle.accepts.proofs.Spaces.{but}
 use Rattle.accepts.proofs.Keys.{Own, own-known as known}
 use Rattle.exact.proofs.Attrs.{WordyAttr, WordyAttrs, none, more}

@@ -1,4 +1,4 @@
--- The grammar of the walk's events: what stands alone, what stands around others, and how many stand around one another.
+-- The grammar of the walk's events: what stands alone, what stands around others, and how many stand around one another. A means of proof: no promise speaks of it.
 use Prim.Native.Nat.{ℕ, zero, suc}
 use mathlib.Core.Path.{_≡_}
 use mathlib.Core.Bool.{true}

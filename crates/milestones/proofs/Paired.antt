@@ -1,7 +1,7 @@
 -- The pairing theorem: what pairing makes of any events has its milestones right, and as many starts as there are chapters and verses.
 use mathlib.Core.Path.{_≡_, refl, sym, ap, _∙_, subst}
 use mathlib.Core.Bool.{cond}
-use mathlib.Core.List.{List, [], _∷_, _++_, append-assoc, append-nil}
+use mathlib.Core.List.{List, [], _∷_, _++_, append-nil}
 use mathlib.Core.Logic.{inl, inr}
 use mathlib.Core.Option.{Option, none, some}
 use Prim.Native.Nat.{ℕ, suc}
@@ -16,6 +16,7 @@ use Rattle.checker.specs.Meaning.{since, Fits, of-words, of-open, of-close, of-
 use Rattle.checker.proofs.Decides.{since-other, starts-other, starts-more}
 use Rattle.events.specs.Event.{Event, item, chapter, verse, book, rawly, escaped, perhaps}
 use Rattle.events.specs.Pairing.{State, chapterId, verseId, after, endOf, chapterAttrs, verseAttrs, bookAttrs, bookItems, itemsOf, lastEnds, paired}
+use Rattle.events.proofs.Emits.{chapter-items, verse-items}
 use Rattle.milestones.specs.Seen.{pairs, tokenOf, seen, startOf, openStarts, PlainItem, PlainEvents, chaptersIn, versesIn}
 use Rattle.milestones.proofs.Rows.{Row, row-demand}
 
@@ -105,16 +106,14 @@ paired-row s (item i ∷ es) h = row-plain (heldOf (s .chapter)) (heldOf (s .ver
 paired-row s (chapter n alt published ∷ es) h =
     let x : Item = empty 3 (chapterAttrs (s .book) n alt published) in
     let rest = paired (after s (chapter n alt published)) es in
-    let e = append-assoc (endOf 4 (s .verse)) (endOf 3 (s .chapter) ++ x ∷ []) rest ∙ ap (λ (is : List Item). endOf 4 (s .verse) ++ is) (append-assoc (endOf 3 (s .chapter)) (x ∷ []) rest) in
-    subst (λ (is : List Item). Row (heldOf (s .chapter)) (heldOf (s .verse)) (seen is)) (sym e)
+    subst (λ (is : List Item). Row (heldOf (s .chapter)) (heldOf (s .verse)) (seen is)) (sym (chapter-items s n alt published rest))
     (row-verse (heldOf (s .chapter)) (s .verse) (endOf 3 (s .chapter) ++ x ∷ rest)
     (row-chapter (s .chapter) (x ∷ rest)
     (row-on shut shut x _ (seen rest) (chapter-seen (s .book) n alt published) (chapter-start refl refl) (paired-row (after s (chapter n alt published)) es h))))
 paired-row s (verse label alt published ∷ es) h =
     let x : Item = empty 4 (verseAttrs (s .book) (s .number) label alt published) in
     let rest = paired (after s (verse label alt published)) es in
-    let e = append-assoc (endOf 4 (s .verse)) (x ∷ []) rest in
-    subst (λ (is : List Item). Row (heldOf (s .chapter)) (heldOf (s .verse)) (seen is)) (sym e)
+    subst (λ (is : List Item). Row (heldOf (s .chapter)) (heldOf (s .verse)) (seen is)) (sym (verse-items s label alt published rest))
     (row-verse (heldOf (s .chapter)) (s .verse) (x ∷ rest)
     (row-on (heldOf (s .chapter)) shut x _ (seen rest) (verse-seen (s .book) (s .number) label alt published) (verse-start refl) (paired-row (after s (verse label alt published)) es h)))
 paired-row s (book code rest ∷ es) h =
@@ -163,11 +162,9 @@ starts-chapter : (k : ℕ) (s : State) (n : ℕ) (alt published : Option Bytes) 
     → startsIn k (seen (itemsOf s (chapter n alt published) ++ is)) ≡ cond (eqb 3 k) (suc (startsIn k (seen is))) (startsIn k (seen is))
 unfolding itemsOf seen startsIn
 starts-chapter k s n alt published is =
-    let x : Item = empty 3 (chapterAttrs (s .book) n alt published) in
-    ap (λ (js : List Item). startsIn k (seen js))
-    (append-assoc (endOf 4 (s .verse)) (endOf 3 (s .chapter) ++ x ∷ []) is ∙ ap (λ (js : List Item). endOf 4 (s .verse) ++ js) (append-assoc (endOf 3 (s .chapter)) (x ∷ []) is))
-    ∙ starts-end k 4 (s .verse) (endOf 3 (s .chapter) ++ x ∷ is)
-    ∙ starts-end k 3 (s .chapter) (x ∷ is)
+    ap (λ (js : List Item). startsIn k (seen js)) (chapter-items s n alt published is)
+    ∙ starts-end k 4 (s .verse) (endOf 3 (s .chapter) ++ empty 3 (chapterAttrs (s .book) n alt published) ∷ is)
+    ∙ starts-end k 3 (s .chapter) (empty 3 (chapterAttrs (s .book) n alt published) ∷ is)
     ∙ ap (λ (v : View). startsIn k (v ∷ seen is)) (chapter-seen (s .book) n alt published)
 
 -- of a verse: none but its own start
@@ -175,9 +172,8 @@ starts-verse : (k : ℕ) (s : State) (label : Bytes) (alt published : Option Byt
     → startsIn k (seen (itemsOf s (verse label alt published) ++ is)) ≡ cond (eqb 4 k) (suc (startsIn k (seen is))) (startsIn k (seen is))
 unfolding itemsOf seen startsIn
 starts-verse k s label alt published is =
-    let x : Item = empty 4 (verseAttrs (s .book) (s .number) label alt published) in
-    ap (λ (js : List Item). startsIn k (seen js)) (append-assoc (endOf 4 (s .verse)) (x ∷ []) is)
-    ∙ starts-end k 4 (s .verse) (x ∷ is)
+    ap (λ (js : List Item). startsIn k (seen js)) (verse-items s label alt published is)
+    ∙ starts-end k 4 (s .verse) (empty 4 (verseAttrs (s .book) (s .number) label alt published) ∷ is)
     ∙ ap (λ (v : View). startsIn k (v ∷ seen is)) (verse-seen (s .book) (s .number) label alt published)
 
 starts-last : (k : ℕ) (s : State) → startsIn k (seen (lastEnds s)) ≡ 0
