@@ -1,4 +1,4 @@
-//! The oracle: the Rust of docs/src run on tape files, and a generator of tape files.
+//! The oracle: the Rust of docs/src run on tape files, a second tape writer, and generators.
 
 // The unchanged sources; what the serializer does not use of them is dead here.
 #[allow(dead_code)]
@@ -32,9 +32,12 @@ pub mod generate;
 pub mod loader;
 pub mod names;
 pub mod notation;
+pub mod rebuild;
 pub mod rendered;
 pub mod replay;
+pub mod steps;
 pub mod tapes;
+pub mod writer;
 
 pub use document::Document;
 use document::Version;

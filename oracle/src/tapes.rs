@@ -27,6 +27,32 @@ pub struct Node {
     pub length: u32,
 }
 
+impl Node {
+    pub fn bytes(&self) -> [u8; 16] {
+        let mut out = [0; 16];
+        out[0] = self.kind;
+        out[1] = self.flags;
+        out[2..4].copy_from_slice(&self.marker.to_le_bytes());
+        out[4..8].copy_from_slice(&self.link.to_le_bytes());
+        out[8..12].copy_from_slice(&self.start.to_le_bytes());
+        out[12..].copy_from_slice(&self.length.to_le_bytes());
+        out
+    }
+
+    /// Nodes that stand one behind the other.
+    pub fn read_all(bytes: &[u8]) -> Vec<Node> {
+        let read = |b: &[u8]| Node {
+            kind: b[0],
+            flags: b[1],
+            marker: u16_at(b, 2),
+            link: u32_at(b, 4),
+            start: u32_at(b, 8),
+            length: u32_at(b, 12),
+        };
+        bytes.chunks_exact(16).map(read).collect()
+    }
+}
+
 /// An entry as it stands in a tape file.
 #[derive(Clone, Copy, PartialEq, Eq, Debug)]
 pub struct Entry {
@@ -34,6 +60,31 @@ pub struct Entry {
     pub length: u16,
     pub category: u8,
     pub element: u8,
+}
+
+impl Entry {
+    pub fn bytes(&self) -> [u8; 8] {
+        let mut out = [0; 8];
+        out[..4].copy_from_slice(&self.start.to_le_bytes());
+        out[4..6].copy_from_slice(&self.length.to_le_bytes());
+        out[6] = self.category;
+        out[7] = self.element;
+        out
+    }
+
+    /// Entries that stand one behind the other.
+    pub fn read_all(bytes: &[u8]) -> Vec<Entry> {
+        let read = |b: &[u8]| Entry { start: u32_at(b, 0), length: u16_at(b, 4), category: b[6], element: b[7] };
+        bytes.chunks_exact(8).map(read).collect()
+    }
+}
+
+fn u16_at(bytes: &[u8], at: usize) -> u16 {
+    u16::from_le_bytes([bytes[at], bytes[at + 1]])
+}
+
+fn u32_at(bytes: &[u8], at: usize) -> u32 {
+    u32::from_le_bytes([bytes[at], bytes[at + 1], bytes[at + 2], bytes[at + 3]])
 }
 
 /// The four sections of a tape file.
@@ -62,19 +113,23 @@ impl Parts {
     pub fn file(&self) -> Vec<u8> {
         let mut out = Vec::new();
         out.extend(self.header().iter().flat_map(|w| w.to_le_bytes()));
-        for n in &self.nodes {
-            out.extend([n.kind, n.flags]);
-            out.extend(n.marker.to_le_bytes());
-            out.extend([n.link, n.start, n.length].iter().flat_map(|w| w.to_le_bytes()));
-        }
-        for e in &self.entries {
-            out.extend(e.start.to_le_bytes());
-            out.extend(e.length.to_le_bytes());
-            out.extend([e.category, e.element]);
-        }
+        out.extend(self.nodes.iter().flat_map(Node::bytes));
+        out.extend(self.entries.iter().flat_map(Entry::bytes));
         out.extend(&self.names);
         out.extend(&self.source);
         out
+    }
+
+    /// The sections of a file that is laid out right.
+    pub fn read(file: &[u8]) -> Parts {
+        let offset = |section: usize| u32_at(file, 8 + 8 * section) as usize;
+        let [nodes, entries, names, source] = [0, 1, 2, 3].map(offset);
+        Parts {
+            nodes: Node::read_all(&file[nodes..entries]),
+            entries: Entry::read_all(&file[entries..names]),
+            names: file[names..source].to_vec(),
+            source: file[source..].to_vec(),
+        }
     }
 
     /// Adds an entry with a name of its own.

@@ -1,10 +1,15 @@
 //! Every generator makes what it is meant to make.
 
-use oracle::answer::{Answer, answer, answer_or_panic};
+use std::collections::BTreeMap;
+
+use oracle::answer::{Answer, answer, answer_or_panic, write_tape};
 use oracle::check::{Verdict, check};
-use oracle::generate::{damaged, glued, hostile, limits, links, random, shared, small, structured};
+use oracle::generate::{
+    damaged, glued, hostile, limits, links, random, rebuild, shared, small, steps, steps_edges, structured,
+};
 use oracle::loader::load;
 use oracle::names::{What, names};
+use oracle::steps::{Item, lines};
 
 const SEED: u64 = 1;
 
@@ -145,4 +150,77 @@ fn limits_are_met() {
     let numbers: Vec<_> = limits().map(|(tape, meant)| (answer(&tape).number(), meant)).collect();
     assert_eq!(numbers.len(), 9);
     assert!(numbers.iter().all(|(got, meant)| got == meant), "{numbers:?}");
+}
+
+// --- lists of steps ---
+
+/// The numbers that each step can get with buffers of at most 65,536 bytes.
+const NUMBERS: [(&str, &[u8]); 12] = [
+    ("start", &[0, 8, 16]),
+    ("entry", &[0, 2, 4, 8, 16]),
+    ("source", &[0, 3, 8, 16]),
+    ("open", &[0, 5, 6, 8, 16]),
+    ("close", &[0, 5, 7, 8, 16]),
+    ("leaf", &[0, 5, 8, 16]),
+    ("text", &[0, 5, 8, 16]),
+    ("attribute", &[0, 5, 8, 16]),
+    ("error", &[0, 5, 8, 16]),
+    ("chapter", &[0, 5, 8, 16]),
+    ("verse", &[0, 5, 8, 16]),
+    ("finish", &[0, 7, 16]),
+];
+
+/// How often each step gets each number; files that are finished are counted as `admitted` or `refused`.
+fn answers(items: &[Item]) -> BTreeMap<String, usize> {
+    let mut seen = BTreeMap::new();
+    for line in items.iter().flat_map(|item| lines(item).lines().map(String::from).collect::<Vec<_>>()) {
+        let words: Vec<&str> = line.split(' ').collect();
+        let what = if words.get(1) == Some(&"number") { format!("{} {}", words[0], words[2]) } else { words[0].into() };
+        *seen.entry(what).or_insert(0) += 1;
+    }
+    seen
+}
+
+/// Each step gets each number that it can get, and no other.
+fn check_numbers(seen: &BTreeMap<String, usize>, least: usize) {
+    let meant = NUMBERS.iter().flat_map(|(step, numbers)| numbers.iter().map(move |n| format!("{step} {n}")));
+    let mut meant: Vec<String> = meant.chain(["admitted", "refused", "state"].map(String::from)).collect();
+    meant.sort();
+    assert_eq!(seen.keys().cloned().collect::<Vec<_>>(), meant);
+    assert!(seen.values().all(|&count| count >= least), "{seen:?}");
+}
+
+#[test]
+fn steps_get_every_number() {
+    let items: Vec<_> = (0..4_000).map(|number| steps(SEED, number)).collect();
+    let seen = answers(&items);
+    check_numbers(&seen, 20);
+    assert!(seen["finish 0"] > 4_000 / 3, "{seen:?}");
+    assert!(items.iter().all(|item| item.bytes().len() <= 65_536 && item.room <= 20_000));
+    assert!(items.iter().filter(|item| item.room < 2_000).count() > 3_800);
+    assert_eq!(items[7], steps(SEED, 7));
+}
+
+#[test]
+fn edges_are_few_and_get_every_number() {
+    let items: Vec<_> = steps_edges().collect();
+    assert!(items.len() < 300, "{}", items.len());
+    assert!(items.iter().map(|item| item.bytes().len()).sum::<usize>() < 400_000);
+    check_numbers(&answers(&items), 1);
+}
+
+/// A tape that the writer can write is written anew, each step done, to the same nodes, entries, source and text.
+#[test]
+fn tapes_are_written_anew() {
+    let seeded: [fn(u64, u64) -> Vec<u8>; 5] = [structured, random, shared, hostile, glued];
+    let seeded = seeded.into_iter().flat_map(|tape| (0..300).map(move |number| tape(SEED, number)));
+    let tapes: Vec<_> = seeded.chain(small(1)).chain(links(3)).collect();
+    let root_at_the_end = |tape: &&Vec<u8>| answer(tape).number() == 0 && tape[40..44] == tape[4..8];
+    let meant = tapes.iter().filter(root_at_the_end).count();
+    assert!(meant > 800, "{meant}");
+    assert_eq!((0..).zip(&tapes).filter(|(number, tape)| rebuild(*number, tape).is_some()).count(), meant);
+    let (mut input, mut output) = (Vec::new(), Vec::new());
+    tapes.iter().for_each(|tape| write_tape(&mut input, tape).unwrap());
+    oracle::rebuild::check(&input[..], &mut output).unwrap();
+    assert_eq!(String::from_utf8(output).unwrap(), format!("{meant} tapes, no difference\n"));
 }

@@ -9,6 +9,7 @@ pub use kinds::Flags;
 pub use kinds::Kind;
 pub use name::bare;
 pub use name::ends_name;
+pub use name::name_in;
 pub use number::long;
 pub use number::short;
 ghost use mathlib.Core.Path.{_≡_};

@@ -1,4 +1,4 @@
-//! Writes a stream of tapes; see the README.
+//! Writes a stream of tapes or of lists of steps; see the README.
 
 use std::io::{self, BufWriter};
 use std::process::ExitCode;
@@ -14,18 +14,21 @@ const USAGE: &str = "usage: gen structured SEED COUNT [FIRST]
        gen hostile SEED COUNT [FIRST]
        gen small SIZE
        gen links SIZE
-       gen limits";
+       gen limits
+       gen steps SEED COUNT [FIRST]
+       gen steps-edges
+       gen rebuild MODE ...  one of the modes that give tapes";
 
-type Tapes = Box<dyn Iterator<Item = Vec<u8>>>;
+type Stream = Box<dyn Iterator<Item = Vec<u8>>>;
 
 fn main() -> ExitCode {
     let args: Vec<String> = std::env::args().skip(1).collect();
-    let Some(mut tapes) = tapes(&args) else {
+    let Some(mut stream) = steps(&args).or_else(|| tapes(&args)) else {
         eprintln!("{USAGE}");
         return ExitCode::from(2);
     };
     let mut out = BufWriter::with_capacity(1 << 16, io::stdout().lock());
-    match tapes.try_for_each(|tape| write_tape(&mut out, &tape)) {
+    match stream.try_for_each(|item| write_tape(&mut out, &item)) {
         Ok(()) => ExitCode::SUCCESS,
         Err(error) => {
             eprintln!("gen: {error}");
@@ -34,12 +37,31 @@ fn main() -> ExitCode {
     }
 }
 
-fn tapes(args: &[String]) -> Option<Tapes> {
-    let number = |i: usize| args.get(i)?.parse::<u64>().ok();
-    let seeded = |tape: fn(u64, u64) -> Vec<u8>| -> Option<Tapes> {
-        let (seed, count, first) = (number(1)?, number(2)?, number(3).unwrap_or(0));
-        Some(Box::new((first..first + count).map(move |i| tape(seed, i))))
-    };
+fn number(args: &[String], i: usize) -> Option<u64> {
+    args.get(i)?.parse().ok()
+}
+
+/// COUNT items of SEED from FIRST on.
+fn seeded(args: &[String], item: fn(u64, u64) -> Vec<u8>) -> Option<Stream> {
+    let (seed, count, first) = (number(args, 1)?, number(args, 2)?, number(args, 3).unwrap_or(0));
+    Some(Box::new((first..first + count).map(move |i| item(seed, i))))
+}
+
+fn steps(args: &[String]) -> Option<Stream> {
+    match args.first()?.as_str() {
+        "steps" => seeded(args, |seed, i| generate::steps(seed, i).bytes()),
+        "steps-edges" => Some(Box::new(generate::steps_edges().map(|item| item.bytes()))),
+        "rebuild" => {
+            let numbered = (0..).zip(tapes(&args[1..])?);
+            Some(Box::new(numbered.filter_map(|(i, tape)| Some(generate::rebuild(i, &tape)?.bytes()))))
+        }
+        _ => None,
+    }
+}
+
+fn tapes(args: &[String]) -> Option<Stream> {
+    let seeded = |tape| seeded(args, tape);
+    let number = |i| number(args, i);
     match args.first()?.as_str() {
         "structured" => seeded(generate::structured),
         "random" => seeded(generate::random),

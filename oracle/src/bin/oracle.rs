@@ -3,7 +3,7 @@
 use std::io::{self, BufWriter, Read, Write};
 use std::process::ExitCode;
 
-use oracle::{answer, both_sides, check, check_cases, dump, names, notation, rendered, replay};
+use oracle::{answer, both_sides, check, check_cases, dump, names, notation, rebuild, rendered, replay, steps};
 
 const USAGE: &str = "usage: oracle print   one tape on standard input, printed as the printing program prints it
        oracle stream  a stream of tapes to a stream of answers
@@ -16,6 +16,8 @@ const USAGE: &str = "usage: oracle print   one tape on standard input, printed a
        oracle check-cases  the texts on both sides of each rule of the checker, as a stream
        oracle replay  a stream of tapes to what calls with buffers of several lengths give
        oracle both-sides  the tapes of document 01's examples 1 to 13 and its listing, as a stream
+       oracle steps   a stream of lists of steps to what the second tape writer answers
+       oracle rebuild-check  a stream of tapes, each written anew by the second tape writer and compared
        oracle tape NOTATION  the tape of docs/DIFFERENCES.md's notation, on standard output";
 
 fn main() -> ExitCode {
@@ -33,6 +35,8 @@ fn main() -> ExitCode {
         ["check-cases"] => check_cases::write(BufWriter::new(io::stdout().lock())),
         ["replay"] => replay::stream(io::stdin().lock(), BufWriter::new(io::stdout().lock())),
         ["both-sides"] => both_sides::write(BufWriter::new(io::stdout().lock())),
+        ["steps"] => steps::stream(io::stdin().lock(), BufWriter::new(io::stdout().lock())),
+        ["rebuild-check"] => rebuild::check(io::stdin().lock(), io::stdout().lock()),
         ["stream"] => answer::stream(io::stdin().lock(), BufWriter::new(io::stdout().lock())),
         _ => {
             eprintln!("{USAGE}");

@@ -1,4 +1,4 @@
-//! Generators of tape files. Each tape is determined by its mode, the seed and the tape's number.
+//! Generators of tape files and of lists of steps. Each is determined by its mode, the seed and its number.
 
 mod damaged;
 mod glued;
@@ -7,9 +7,12 @@ mod limits;
 mod links;
 mod pool;
 mod random;
+mod rebuild;
 mod rng;
 mod shared;
 mod small;
+mod steps;
+mod steps_edges;
 mod structured;
 
 pub use damaged::{Damaged, damaged};
@@ -18,6 +21,9 @@ pub use hostile::hostile;
 pub use limits::limits;
 pub use links::links;
 pub use random::random;
+pub use rebuild::rebuild;
 pub use shared::shared;
 pub use small::small;
+pub use steps::steps;
+pub use steps_edges::steps_edges;
 pub use structured::structured;

@@ -1,0 +1,11 @@
+pub mod Good
+pub mod Kept
+pub mod GoodAgain
+pub mod Links
+pub mod Awaits
+pub mod Adds
+pub mod Nesting
+pub mod Again
+pub mod Row
+pub mod Runs
+pub mod Rewrite

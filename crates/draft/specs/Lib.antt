@@ -1,0 +1,4 @@
+pub mod Draft
+pub mod Fault
+pub mod Grown
+pub mod Rebuild

@@ -1,0 +1,3 @@
+pub mod NodeRule
+pub mod NumberRule
+pub mod Bridge

@@ -1,0 +1,3 @@
+pub mod Phase
+pub mod Tests
+pub mod Numbers

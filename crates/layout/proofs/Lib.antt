@@ -1,0 +1,9 @@
+pub mod Laid
+pub mod Turn
+pub mod Chain
+pub mod Moved
+pub mod Back
+pub mod Relink
+pub mod States
+pub mod Drafts
+pub mod File
