@@ -54,6 +54,15 @@ closes-some d n room h = go (ltb 0 (d .inner)) (ltb 0 (d .depth)) refl (node-nes
     go true false e h = absurd (omega arith)
     go false b e h = absurd (omega arith)
 
+-- and the innermost is told
+pub closes-inner : (d : Draft) (n : Node) (room : ℕ) → fault d (closes n) room ≡ 0 → 0 < d .inner
+unfolding fault
+closes-inner d n room h = go (ltb 0 (d .inner)) (ltb 0 (d .depth)) refl (node-nests d _ (closeNest d) room h)
+  where
+    go : (a b : Bool) → ltb 0 (d .inner) ≡ a → first (a && b) 7 0 ≡ 0 → 0 < d .inner
+    go true b e h = ltb-true _ _ e
+    go false b e h = absurd (omega arith)
+
 -- ---- the nodes of a draft await the closes of its open containers
 
 -- a close for each open container, past it

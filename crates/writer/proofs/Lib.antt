@@ -1,1 +1,2 @@
 pub mod StepRule
+pub mod One
