@@ -2,8 +2,8 @@ use Prim.Native.Nat.{_-_}
 use mathlib.Core.Path.{_≡_}
 use lib.ListN.{length}
 use borrow.Author.Needs.{needs}
-use Rattle.test_write_replay.proofs.dump.Statement.{statement}
-use Rattle.test_write_replay.proofs.dump.Tie as tie
+use Rattle.report_steps.proofs.dump.Statement.{statement}
+use Rattle.report_steps.proofs.dump.Tie as tie
 
 abbrev Inv-loop : tie.InvT-loop
 Inv-loop out₀ s line₀ i₀ out line i = length out ≡ length out₀

@@ -1,20 +1,26 @@
-use Prim.Native.Nat.{_-_, _≤_}
+use Prim.Native.Nat.{_≤_}
 use lib.ListN.{length}
 use borrow.Author.Needs.{needs}
-use Rattle.test_write_replay.proofs.first_change.Statement.{statement}
-use Rattle.test_write_replay.proofs.first_change.Tie as tie
+use Rattle.report_steps.proofs.last_change.Statement.{statement}
+use Rattle.report_steps.proofs.last_change.Tie as tie
 
 abbrev Inv-loop : tie.InvT-loop
 Inv-loop a z i₀ i = i ≤ length a
 
 abbrev μ-loop : tie.MeasureT-loop
-μ-loop a z i₀ i = length a - i
+μ-loop a z i₀ i = i
 
 loop-holds : tie.Need-loop-holds Inv-loop μ-loop
 loop-holds c = search needs
 
+sub-if1 : tie.Need-sub-if1 Inv-loop μ-loop
+sub-if1 c = search needs
+
 shared-slice-read-if1 : tie.Need-shared-slice-read-if1 Inv-loop μ-loop
 shared-slice-read-if1 c = search needs
+
+sub-byte-at : tie.Need-sub-byte-at Inv-loop μ-loop
+sub-byte-at c = search needs
 
 byte-at-requires : tie.Need-byte-at-requires Inv-loop μ-loop
 byte-at-requires c κs = search needs
@@ -22,8 +28,8 @@ byte-at-requires c κs = search needs
 returns : tie.Need-returns Inv-loop μ-loop
 returns c = search needs
 
-add-i : tie.Need-add-i Inv-loop μ-loop
-add-i c = search needs
+sub-i : tie.Need-sub-i Inv-loop μ-loop
+sub-i c = search needs
 
 loop-less : tie.Need-loop-less Inv-loop μ-loop
 loop-less c = search needs
@@ -34,17 +40,19 @@ loop-again c = search needs
 returns-2 : tie.Need-returns-2 Inv-loop μ-loop
 returns-2 c = search needs
 
-pub first-change-spec : {M : Type 1} → statement M
-first-change-spec =
+pub last-change-spec : {M : Type 1} → statement M
+last-change-spec =
     tie.close
     (tie.spec
     Inv-loop
     μ-loop
     loop-holds
+    sub-if1
     shared-slice-read-if1
+    sub-byte-at
     byte-at-requires
     returns
-    add-i
+    sub-i
     loop-less
     loop-again
     returns-2)
