@@ -1,4 +1,4 @@
-//! The functions of libbench_api.a. A slice passes as pointer and length.
+//! The functions of libbench_api.a, and of libapi.a those that write a tape. A slice passes as pointer and length.
 
 mod raw {
     extern "C" {
@@ -10,6 +10,14 @@ mod raw {
         pub fn bench_is_utf8(s: *const u8, len: usize) -> usize;
         pub fn bench_serialize(file: *const u8, len: usize, out: *mut u8, room: usize) -> usize;
         pub fn bench_put_number(out: *mut u8, room: usize, at: usize, from: usize, n: u32) -> usize;
+        pub fn andelura_tape_start(state: *mut u64, states: usize, buf: *mut u8, room: usize) -> u32;
+        pub fn andelura_tape_entry(state: *mut u64, states: usize, buf: *mut u8, room: usize, names: *const u8, size: usize, start: u32, len: u16, category: u8, element: u8) -> u32;
+        pub fn andelura_tape_source(state: *mut u64, states: usize, buf: *mut u8, room: usize, piece: *const u8, size: usize) -> u32;
+        pub fn andelura_tape_open(state: *mut u64, states: usize, buf: *mut u8, room: usize, flags: u8, marker: u16, start: u32, len: u32) -> u32;
+        pub fn andelura_tape_close(state: *mut u64, states: usize, buf: *mut u8, room: usize, block: u8, flags: u8, marker: u16, start: u32, len: u32) -> u32;
+        pub fn andelura_tape_text(state: *mut u64, states: usize, buf: *mut u8, room: usize, flags: u8, start: u32, len: u32) -> u32;
+        pub fn andelura_tape_verse(state: *mut u64, states: usize, buf: *mut u8, room: usize, flags: u8, marker: u16, number: u32, start: u32, len: u32) -> u32;
+        pub fn andelura_tape_finish(state: *mut u64, states: usize, buf: *mut u8, room: usize) -> u32;
     }
 }
 
@@ -52,4 +60,55 @@ pub fn check(text: &[u8]) -> u32 {
 pub fn serialize(file: &[u8], out: &mut [u8]) -> (u8, usize) {
     let answer = unsafe { raw::bench_serialize(file.as_ptr(), file.len(), out.as_mut_ptr(), out.len()) };
     ((answer % 16) as u8, answer / 16)
+}
+
+/// A tape that is written into a buffer; each step gives its number.
+pub struct Tape<'a> {
+    state: [u64; 8],
+    buf: &'a mut [u8],
+}
+
+impl<'a> Tape<'a> {
+    pub fn new(buf: &'a mut [u8]) -> Self {
+        Tape { state: [0; 8], buf }
+    }
+
+    /// The length that the last step gave.
+    pub fn length(&self) -> usize {
+        self.state[7] as usize
+    }
+
+    pub fn start(&mut self) -> u32 {
+        unsafe { raw::andelura_tape_start(self.state.as_mut_ptr(), 8, self.buf.as_mut_ptr(), self.buf.len()) }
+    }
+
+    pub fn entry(&mut self, names: &[u8], start: u32, len: u16, category: u8, element: u8) -> u32 {
+        let (state, buf, room) = (self.state.as_mut_ptr(), self.buf.as_mut_ptr(), self.buf.len());
+        unsafe { raw::andelura_tape_entry(state, 8, buf, room, names.as_ptr(), names.len(), start, len, category, element) }
+    }
+
+    pub fn source(&mut self, piece: &[u8]) -> u32 {
+        unsafe { raw::andelura_tape_source(self.state.as_mut_ptr(), 8, self.buf.as_mut_ptr(), self.buf.len(), piece.as_ptr(), piece.len()) }
+    }
+
+    pub fn open(&mut self, marker: u16, start: u32, len: u32) -> u32 {
+        unsafe { raw::andelura_tape_open(self.state.as_mut_ptr(), 8, self.buf.as_mut_ptr(), self.buf.len(), 0, marker, start, len) }
+    }
+
+    /// A BlockEnd.
+    pub fn close(&mut self, marker: u16, start: u32) -> u32 {
+        unsafe { raw::andelura_tape_close(self.state.as_mut_ptr(), 8, self.buf.as_mut_ptr(), self.buf.len(), 1, 0, marker, start, 0) }
+    }
+
+    pub fn text(&mut self, start: u32, len: u32) -> u32 {
+        unsafe { raw::andelura_tape_text(self.state.as_mut_ptr(), 8, self.buf.as_mut_ptr(), self.buf.len(), 0, start, len) }
+    }
+
+    pub fn verse(&mut self, marker: u16, number: u32, start: u32, len: u32) -> u32 {
+        unsafe { raw::andelura_tape_verse(self.state.as_mut_ptr(), 8, self.buf.as_mut_ptr(), self.buf.len(), 0, marker, number, start, len) }
+    }
+
+    pub fn finish(&mut self) -> u32 {
+        unsafe { raw::andelura_tape_finish(self.state.as_mut_ptr(), 8, self.buf.as_mut_ptr(), self.buf.len()) }
+    }
 }

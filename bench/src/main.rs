@@ -12,6 +12,7 @@ mod measure;
 mod number;
 mod serialize;
 mod utf8;
+mod write;
 
 fn main() {
     let (tapes, texts): (Vec<String>, Vec<String>) = std::env::args().skip(1).partition(|name| name.ends_with(".tape"));
@@ -22,4 +23,5 @@ fn main() {
     measure::print("Rust", &body::rows());
     measure::print("Rust", &number::rows());
     admit::print();
+    write::print();
 }

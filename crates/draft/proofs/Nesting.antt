@@ -66,13 +66,13 @@ closes-inner d n room h = go (ltb 0 (d .inner)) (ltb 0 (d .depth)) refl (node-ne
 -- ---- the nodes of a draft await the closes of its open containers
 
 -- a close for each open container, past it
-abbrev pub Fits : List ℕ → List ℕ → Type 0
-Fits [] [] = Unit {0}
-Fits [] (c ∷ cs) = ⊥
-Fits (k ∷ s) [] = ⊥
-Fits (k ∷ s) (c ∷ cs) = (k < c) × Fits s cs
+abbrev pub PastOpen : List ℕ → List ℕ → Type 0
+PastOpen [] [] = Unit {0}
+PastOpen [] (c ∷ cs) = ⊥
+PastOpen (k ∷ s) [] = ⊥
+PastOpen (k ∷ s) (c ∷ cs) = (k < c) × PastOpen s cs
 
-fits-length : (s cs : List ℕ) → Fits s cs → length cs ≡ length s
+fits-length : (s cs : List ℕ) → PastOpen s cs → length cs ≡ length s
 fits-length [] [] f = refl
 fits-length [] (c ∷ cs) f = absurd f
 fits-length (k ∷ s) [] f = absurd f
@@ -82,7 +82,7 @@ fits-length (k ∷ s) (c ∷ cs) f = ap suc (fits-length s cs (f .1))
 pub record Nests (count : ℕ) (d : Draft) : Type 0 where
   pub held : List ℕ
   pub opened : OpenIn count d held
-  pub matched : (cs : List ℕ) → Fits held cs → awaits (fill (rooted count d) held cs) ≡ some cs
+  pub matched : (cs : List ℕ) → PastOpen held cs → awaits (fill (rooted count d) held cs) ≡ some cs
 
 module _ {count : ℕ} {d : Draft} where
   -- a node that opens and closes nothing
@@ -95,7 +95,7 @@ module _ {count : ℕ} {d : Draft} where
   unfolding awaited
   nests-opens g n k l = record { held = nextIndex d ∷ g .held; opened = adds-opens n (g .opened) 0 [] .opened; matched = go }
     where
-      go : (cs : List ℕ) → Fits (nextIndex d ∷ g .held) cs → awaits (fill (rooted count (after d (opens n))) (nextIndex d ∷ g .held) cs) ≡ some cs
+      go : (cs : List ℕ) → PastOpen (nextIndex d ∷ g .held) cs → awaits (fill (rooted count (after d (opens n))) (nextIndex d ∷ g .held) cs) ≡ some cs
       go [] f = absurd f
       go (c ∷ cs) f =
           adds-awaits (adds-opens n (g .opened) c cs)
@@ -109,7 +109,7 @@ module _ {count : ℕ} {d : Draft} where
   unfolding awaited
   nests-closes g n p l = go (g .held) (g .opened) (g .matched)
     where
-      go : (s : List ℕ) → OpenIn count d s → ((cs : List ℕ) → Fits s cs → awaits (fill (rooted count d) s cs) ≡ some cs) → Nests count (after d (closes n))
+      go : (s : List ℕ) → OpenIn count d s → ((cs : List ℕ) → PastOpen s cs → awaits (fill (rooted count d) s cs) ≡ some cs) → Nests count (after d (closes n))
       go [] o m = absurd (omega (arith, o .height))
       go (k ∷ s) o m =
           record {
@@ -127,7 +127,7 @@ module _ {count : ℕ} {d : Draft} where
   nests-step (opens n) p room h g = nests-opens g n p (opens-low d n room h)
   nests-step (closes n) p room h g = nests-closes g n (part-closes (nextIndex d) n p) (closes-some d n room h)
 
-fits-none : (cs : List ℕ) → Fits [] cs → [] ≡ cs
+fits-none : (cs : List ℕ) → PastOpen [] cs → [] ≡ cs
 fits-none [] f = refl
 fits-none (c ∷ cs) f = absurd f
 
@@ -147,6 +147,6 @@ grown-sound d g z =
     decides-7 _ .0 (sound-is (rooted (nextIndex d) d) (add-one (length (d .nodes))) ∙ ap allMatched (go (n .held) (n .opened .height) (n .matched)))
   where
     go : (s : List ℕ) → d .depth ≡ length s
-        → ((cs : List ℕ) → Fits s cs → awaits (fill (rooted (nextIndex d) d) s cs) ≡ some cs) → awaits (rooted (nextIndex d) d) ≡ some []
+        → ((cs : List ℕ) → PastOpen s cs → awaits (fill (rooted (nextIndex d) d) s cs) ≡ some cs) → awaits (rooted (nextIndex d) d) ≡ some []
     go [] h m = m [] tt
     go (k ∷ s) h m = absurd (omega arith)
