@@ -1,9 +1,9 @@
 -- What a call leaves, from what its parts ensure.
-use mathlib.Core.Path.{_≡_, refl, ap, subst, _∙_}
+use mathlib.Core.Path.{_≡_, refl, subst, _∙_}
 use mathlib.Core.List.{List, [], _∷_}
 use Prim.Native.Nat.{ℕ, _≤_, _<_}
 use native.Mathlib.Omega.{arith}
-use lib.ListN.{length, set, length-drop}
+use lib.ListN.{length, set}
 use borrow.Author.Tests.{le-leb, lt-leb}
 use Rattle.parts.specs.Bytes.{Bytes}
 use Rattle.layout.specs.declared.Writer.{Writer}
@@ -35,10 +35,6 @@ kept-made (_ ∷ _ ∷ _ ∷ _ ∷ []) w l = absurd (omega arith)
 kept-made (_ ∷ _ ∷ _ ∷ _ ∷ _ ∷ []) w l = absurd (omega arith)
 kept-made (_ ∷ _ ∷ _ ∷ _ ∷ _ ∷ _ ∷ []) w l = absurd (omega arith)
 kept-made (_ ∷ _ ∷ _ ∷ _ ∷ _ ∷ _ ∷ _ ∷ rest) w l = refl
-
-pub kept-length : (st : List ℕ) (w : Writer) {last : List ℕ} → 8 ≤ length st → last ≡ keptIn st w → 7 < length last
-unfolding keptIn
-kept-length st w l e = omega (arith, ap length e, length-drop 7 st)
 
 -- a refused step, and one that is done
 pub stored-kept : (st : List ℕ) (r : Answer) {n : ℕ} → n ≡ r .length → (r .number ≡ 0 → ⊥) → set st 7 n ≡ storedIn st r

@@ -1,6 +1,6 @@
 -- The number of a step on a draft: those of document 01 that it would cause, the lowest first, and before them 16 for an entry after the first node.
-use mathlib.Core.Bool.{Bool, true, false, cond, _&&_}
-use Prim.Native.Nat.{ℕ, _+_}
+use mathlib.Core.Bool.{Bool, cond, _&&_}
+use Prim.Native.Nat.{ℕ}
 use lib.ListN.{length, getD}
 use lib.Dec.{eqb, ltb, leb}
 use Rattle.parts.specs.Bytes.{Bytes}

@@ -2,9 +2,6 @@
 use mathlib.Core.Path.{_≡_}
 use mathlib.Core.Logic.{_⊎_}
 use Prim.Native.Nat.{ℕ}
-use Rattle.parts.specs.Bytes.{Bytes}
-use Rattle.tape.specs.declared.Node.{Node}
-use Rattle.tape.specs.declared.Entry.{Entry}
 use Rattle.tape.specs.Kind as kinds
 use Rattle.draft.specs.Draft.{Draft, Act, piece, entry, plain, leaf, opens, closes, empty, after}
 use Rattle.draft.specs.Fault.{fault}

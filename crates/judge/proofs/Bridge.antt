@@ -2,32 +2,27 @@
 use mathlib.Core.Path.{_≡_, refl, sym, ap, subst, _∙_}
 use mathlib.Core.Bool.{Bool, true, false, cond, not, _&&_, _||_}
 use mathlib.Core.List.{List, [], _∷_, _++_}
-use mathlib.Core.Logic.{⊎-elim}
-use Prim.Native.Nat.{ℕ, zero, suc, _+_, _-_, _≤_, _<_}
+use Prim.Native.Nat.{ℕ, suc, _+_, _-_, _≤_, _<_}
 use native.Mathlib.Omega.{arith}
-use lib.ListN.{length, getD, length-append, length-set}
+use lib.ListN.{length, length-append, length-set}
 use lib.Dec.{eqb, ltb, leb}
-use borrow.Author.Tests.{leb-true, leb-false, le-leb, lt-leb, eqb-true, eqb-false, ne-eqb, eq-eqb}
+use borrow.Author.Tests.{leb-true, leb-false, le-leb, lt-leb, eqb-true, ne-eqb}
 use Rattle.parts.specs.Bytes.{Bytes, part}
 use Rattle.chars.specs.Utf8.{isUtf8, isBoundary}
-use Rattle.words.specs.Words.{words}
-use Rattle.words.specs.declared.Set.the-variants.{Unicode}
-use Rattle.tape.specs.File.{Tape, nameless, nodeAt, kindAt, entryAt, textAt, infoAt, bearsMarker, elementOf, baseLen}
-use Rattle.tape.specs.Name.{nameIn, markerName}
+use Rattle.tape.specs.File.{Tape, nodeAt, kindAt, entryAt, textAt, infoAt, bearsMarker, elementOf, baseLen}
+use Rattle.tape.specs.Name.{markerName}
 use Rattle.tape.specs.declared.Node.{Node}
 use Rattle.tape.specs.declared.Entry.{Entry}
 use Rattle.tape.specs.declared.Info.{Info}
-use Rattle.tape.specs.declared.Info.the-variants.{Known, Unknown}
-use Rattle.tape.specs.Kind as kinds
+use Rattle.tape.specs.declared.Info.the-variants.{Known}
 use Rattle.admit.specs.Decide.{labelCut, goodNode, goodEntry}
-use Rattle.draft.specs.Draft.{Draft, Act, piece, entry, plain, leaf, opens, closes, relinked, nextIndex, innermost, add, linked, after, tapeFrom, sizeOf}
+use Rattle.draft.specs.Draft.{Draft, piece, entry, plain, leaf, opens, closes, relinked, nextIndex, innermost, add, linked, after, tapeFrom, sizeOf}
 use Rattle.draft.specs.Fault.{first, goodName, goodLast, nodeFault, fault}
-use Rattle.draft.specs.Grown.{PlainKind}
 use Rattle.draft.proofs.GoodAgain.{last-at}
 use Rattle.layout.specs.declared.Writer.{Writer}
 use Rattle.layout.specs.Layout.{Fits, fileLen, readAs, draftOf}
 use Rattle.layout.proofs.States.{nodes-count, entries-count, names-count, source-count, size-plain, size-leaf, size-opens, size-closes, size-piece, size-entry}
-use Rattle.judge.specs.Phase.{limited, fits, phaseOf, numberOf}
+use Rattle.judge.specs.Phase.{fits, phaseOf, numberOf}
 use Rattle.judge.specs.Tests.{infoOf, goodSpan, goodLabel, goodMarker, goodHere}
 use Rattle.judge.specs.Numbers.{nodeNumber, pieceNumber, goodEntryFor, entryNumber}
 use Rattle.judge.proofs.NumberRule.{at-work}
@@ -49,9 +44,6 @@ same-leb a b c d f g = go (leb a b) refl
 -- a kind that a node behind Root can have
 abbrev pub Known8 : ℕ → Type 0
 Known8 k = (0 < k) × (k ≤ 8)
-
-pub plain-known : (k : ℕ) → PlainKind k → Known8 k
-plain-known k = ⊎-elim (λ e. omega arith) (⊎-elim (λ e. omega arith) (⊎-elim (λ e. omega arith) (⊎-elim (λ e. omega arith) (λ e. omega arith))))
 
 -- ---- a node
 

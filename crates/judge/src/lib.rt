@@ -7,7 +7,7 @@ ghost use Prim.Native.Nat.{_+_, _-_, _^_, _≤_, _<_};
 ghost use lib.ListN.{length, getD};
 ghost use Rattle.admit.specs.Decide.{allBelow, goodByte as isGood};
 ghost use Rattle.draft.specs.Fault.{first as firstOf};
-ghost use Rattle.layout.specs.Layout.{Fits, fileLen};
+ghost use Rattle.layout.specs.Layout.{fileLen};
 ghost use Rattle.judge.specs.Phase.{limited, phaseOf, startNumber, finishNumber};
 ghost use Rattle.judge.specs.Numbers.{nodeNumber, pieceNumber, goodEntryFor, entryNumber};
 use layout::Writer;

@@ -1,6 +1,6 @@
 // Refusal 5: what is asked of a node that a step adds.
 ghost use mathlib.Core.Path.{_≡_};
-ghost use Prim.Native.Nat.{_^_, _<_};
+ghost use Prim.Native.Nat.{_<_};
 ghost use lib.ListN.{length};
 ghost use Rattle.tape.specs.File.{recordsOf, entryOf, elementOf, baseLen};
 ghost use Rattle.layout.specs.Layout.{Fits, draftOf};

@@ -1,10 +1,10 @@
 -- The link of the innermost open container: read and set among nodes that are turned around.
 use mathlib.Core.Path.{_≡_, refl, sym, ap, _∙_}
-use mathlib.Core.List.{List, [], _∷_, _++_, append-assoc, append-nil, reverse-cons}
+use mathlib.Core.List.{List, [], _∷_, _++_, append-assoc, reverse-cons}
 use Prim.Native.Nat.{ℕ, zero, suc, _+_, _-_, _*_, _≤_, _<_}
 use native.Mathlib.Omega.{arith}
-use lib.ListN.{length, getD, take, drop, length-append, length-drop, length-reverse, take-append-drop, List·getD-append}
-use lib.Seq.{take-at, drop-at, drop-drop, length-take-le, take-append-le, drop-append-le, take-append-add, drop-append-add, getD-at, getD-take, getD-drop}
+use lib.ListN.{length, getD, take, drop, length-append, length-drop, take-append-drop, List·getD-append}
+use lib.Seq.{drop-drop, take-append-le, drop-append-le, take-append-add, drop-append-add, getD-at, getD-take, getD-drop}
 use Rattle.parts.specs.Bytes.{Bytes, part}
 use Rattle.bytes.specs.Bytes.{rev}
 use Rattle.bytes.proofs.Laws.{rev-rev, rev-append}

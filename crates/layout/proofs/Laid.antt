@@ -1,10 +1,10 @@
 -- Where what is held stands in a buffer: cutting a buffer into its parts, and reading the parts back.
 use mathlib.Core.Path.{_≡_, refl, sym, ap, _∙_}
-use mathlib.Core.List.{List, [], _∷_, _++_, append-assoc, append-nil}
-use Prim.Native.Nat.{ℕ, zero, suc, _+_, _-_, _*_, _≤_, _<_}
+use mathlib.Core.List.{[], _++_, append-assoc, append-nil}
+use Prim.Native.Nat.{ℕ, _+_, _-_, _*_, _≤_}
 use native.Mathlib.Omega.{arith}
 use lib.ListN.{length, take, drop, length-append, length-take, length-drop, take-append-drop, length-reverse, drop-of-length-le}
-use lib.Seq.{take-at, drop-at, drop-drop, take-append-le, drop-append-le, take-append-add, drop-append-add, length-take-le, take-all, take-length}
+use lib.Seq.{take-at, drop-at, drop-drop, drop-append-add, length-take-le, take-all, take-length}
 use Rattle.parts.specs.Bytes.{Bytes, part}
 use Rattle.bytes.specs.Bytes.{rev}
 use Rattle.bytes.proofs.Laws.{rev-rev, rev-append}

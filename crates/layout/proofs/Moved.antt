@@ -1,13 +1,13 @@
 -- Bytes moved down and zeros stored, one at a time; a close in its two stores; the file's parts gathered.
 use mathlib.Core.Path.{_≡_, refl, sym, ap, _∙_}
-use mathlib.Core.List.{List, [], _∷_, _++_, append-assoc, append-nil}
-use Prim.Native.Nat.{ℕ, zero, suc, _+_, _-_, _*_, _≤_, _<_, min}
+use mathlib.Core.List.{[], _∷_, _++_, append-assoc, append-nil}
+use Prim.Native.Nat.{ℕ, zero, suc, _+_, _-_, _≤_, _<_, min}
 use mathlib.Core.Bool.{Bool, true, false}
 use native.Mathlib.Nat.{min-eq-left, min-eq-right, min-le-left}
 use native.Mathlib.Numerals.{add-one}
 use native.Mathlib.Omega.{arith}
 use lib.ListN.{length, getD, take, drop, set, replicate, length-append, length-take, length-drop, length-replicate, length-set, take-append-drop, drop-of-length-le}
-use lib.Seq.{take-at, drop-at, drop-cons, drop-append-le, take-append-le, getD-drop, getD-append-add, set-at, take-suc, length-take-le, drop-append-add, take-append-add, drop-drop}
+use lib.Seq.{take-at, drop-cons, drop-append-le, getD-drop, getD-append-add, set-at, take-suc, length-take-le}
 use lib.Dec.{leb}
 use borrow.Author.Tests.{leb-true, leb-false}
 use Rattle.parts.specs.Bytes.{Bytes, part}
@@ -156,9 +156,6 @@ module _ (w : Writer) (buf : Bytes) (f : Fits w (length buf)) (pos : 0 < w .inne
       let ed : heldIn w b ≡ d = ap (heldIn w) eb ∙ held-read w (headOf buf) d (freeOf w buf) h linked-counts in
       let ef : freeOf w b ≡ freeOf w buf = ap (freeOf w) eb ∙ free-read w (headOf buf) d (freeOf w buf) h linked-counts in
       el ∙ (λ i. laid (eh i) (push (ed i) n) (take (length (ef i) - 16) (ef i)))
-
-pub fits-kept : (w : Writer) (a b : Bytes) → Fits w (length a) → length b ≡ length a → Fits w (length b)
-fits-kept w a b f e = rw e f
 
 -- an entry whose bytes were made
 pub enrolled : (w : Writer) (buf name : Bytes) (e : Entry) {b last : Bytes} → b ≡ entryBytes e

@@ -7,7 +7,7 @@ ghost use Rattle.bytes.specs.Bytes.{rev};
 ghost use Rattle.parts.specs.Bytes.{part};
 ghost use Rattle.admit.specs.Encode.{four};
 ghost use Rattle.layout.specs.Bytes.{over, reversed, exchange, nodeBytes, entryBytes};
-ghost use Rattle.layout.specs.Layout.{Fits, fileLen, tailLen, nodesAt, entriesAt, linkAt, heldIn, headOf, freeOf, laid, topOf, fileOf, behindOf};
+ghost use Rattle.layout.specs.Layout.{Fits, fileLen, nodesAt, entriesAt, linkAt, heldIn, headOf, freeOf, laid, topOf, fileOf, behindOf};
 ghost use Rattle.layout.specs.Steps.{push, pour, enter, link, outer};
 use tape::Entry;
 use tape::Node;

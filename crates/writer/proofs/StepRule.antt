@@ -1,14 +1,14 @@
 -- What the steps answer and leave, from what their parts ensure.
 use mathlib.Core.Path.{_≡_, refl, sym, ap, _∙_}
 use mathlib.Core.Bool.{Bool, true, false, cond, not, _&&_, _||_}
-use mathlib.Core.List.{List, [], _∷_, _++_}
+use mathlib.Core.List.{_++_}
 use mathlib.Core.Logic.{_⊎_, inl, inr, ⊎-elim}
 use Prim.Native.Nat.{ℕ, zero, suc, _+_, _-_, _≤_, _<_, min}
-use native.Mathlib.Nat.{min-eq-left, min-le-right}
+use native.Mathlib.Nat.{min-eq-left}
 use native.Mathlib.Omega.{arith}
 use lib.ListN.{length, take, drop}
-use lib.Dec.{eqb, ltb, leb}
-use borrow.Author.Tests.{eqb-true, eqb-false, eq-eqb, ne-eqb, ltb-true, not-true, not-false}
+use lib.Dec.{eqb, ltb}
+use borrow.Author.Tests.{eqb-true, ne-eqb, ltb-true, not-true, not-false}
 use Rattle.parts.specs.Bytes.{Bytes}
 use Rattle.parts.proofs.Laws.{and-true}
 use Rattle.tape.specs.declared.Node.{Node}
@@ -24,7 +24,7 @@ use Rattle.layout.proofs.States.{state-of, size-of, state-plain, state-leaf, st
 use Rattle.layout.proofs.Drafts.{draft-plain, draft-leaf, draft-opens, draft-closes, draft-piece, draft-entry}
 use Rattle.judge.specs.Phase.{limited, fits, phaseOf, numberOf, startNumber, finishNumber}
 use Rattle.judge.specs.Numbers.{nodeNumber, pieceNumber, entryNumber}
-use Rattle.judge.proofs.NumberRule.{limits-of, AtWork, working, NodePassed, node-passed, node-short, PiecePassed, piece-passed, piece-short, EntryPassed, entry-passed, entry-short, finish-passed, finish-not-eight}
+use Rattle.judge.proofs.NumberRule.{limits-of, working, NodePassed, node-passed, node-short, PiecePassed, piece-passed, piece-short, EntryPassed, entry-passed, entry-short, finish-passed, finish-not-eight}
 use Rattle.judge.proofs.Bridge.{Known8, number-plain, number-leaf, number-opens, number-closes, number-piece, number-entry}
 use Rattle.writer.specs.declared.Answer.{Answer}
 use Rattle.writer.specs.Steps.{pick, lengthGiven, answerOf, Took, Started, Finished, nodeWith, closeKind}

@@ -2,7 +2,7 @@
 pub use layout::Writer;
 ghost use mathlib.Core.Path.{_≡_};
 ghost use mathlib.Core.Bool.{_&&_};
-ghost use Prim.Native.Nat.{_+_, _-_, _^_, _≤_, _<_, min as least};
+ghost use Prim.Native.Nat.{_+_, _-_, _^_, _<_, min as least};
 ghost use lib.ListN.{length, take};
 ghost use lib.Dec.{ltb};
 ghost use Rattle.draft.specs.Draft.{empty, piece as pieceAct, entry as entryAct, plain, leaf as leafAct, opens, closes};

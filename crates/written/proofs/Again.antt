@@ -1,18 +1,17 @@
 -- Any admitted tape whose Root links to the node count can be written.
-use mathlib.Core.Path.{_≡_, refl, sym, ap, subst, _∙_}
-use mathlib.Core.Bool.{Bool, true, false, _&&_}
-use mathlib.Core.List.{List, [], _∷_}
-use Prim.Native.Nat.{ℕ, _+_, _*_, _≤_, _<_}
+use mathlib.Core.Path.{_≡_, ap, subst, _∙_}
+use mathlib.Core.List.{List}
+use Prim.Native.Nat.{ℕ, _≤_}
 use native.Mathlib.Omega.{arith}
 use lib.ListN.{length}
-use lib.Dec.{eqb, leb}
-use borrow.Author.Tests.{le-leb, eq-eqb}
+use lib.Dec.{leb}
+use borrow.Author.Tests.{le-leb}
 use Rattle.parts.specs.Bytes.{Bytes}
-use Rattle.tape.specs.File.{Tape, tapeOf, sectionsOf}
+use Rattle.tape.specs.File.{tapeOf, sectionsOf}
 use Rattle.nest.specs.Tape.{linkAt}
 use Rattle.admit.specs.Refusal.{Refusal, Kept₇}
 use Rattle.admit.proofs.Decide.{kept-all}
-use Rattle.draft.specs.Draft.{Draft, Act, empty, after, tapeFrom}
+use Rattle.draft.specs.Draft.{Draft, Act, after, tapeFrom}
 use Rattle.draft.specs.Fault.{first, fault}
 use Rattle.draft.specs.Rebuild.{actsOf, Runs, rewritten}
 use Rattle.draft.specs.Rebuild.Runs.{none as ended, more as going}
@@ -22,7 +21,7 @@ use Rattle.layout.specs.declared.Writer.{Writer}
 use Rattle.layout.specs.Layout.{readAs, draftOf}
 use Rattle.judge.specs.Phase.{phaseOf, startNumber, finishNumber}
 use Rattle.writer.specs.declared.Answer.{Answer}
-use Rattle.writer.specs.Steps.{Took, Started, Finished}
+use Rattle.writer.specs.Steps.{Started, Finished}
 use Rattle.written.specs.Built.{Ran, none, more, AllDone, fileIn, Promised}
 use Rattle.written.proofs.Works.{Works, step-works, start-works}
 use Rattle.written.proofs.Finish.{works-promised}

@@ -1,8 +1,7 @@
 -- A finished file is admitted and reads back as the draft.
-use mathlib.Core.Path.{_≡_, refl, sym, ap, subst, _∙_}
+use mathlib.Core.Path.{_≡_, sym, ap, subst, _∙_}
 use mathlib.Core.List.{_++_}
-use Prim.Native.Nat.{ℕ, _≤_}
-use native.Mathlib.Omega.{arith}
+use Prim.Native.Nat.{ℕ}
 use lib.ListN.{length, take}
 use lib.Seq.{take-at}
 use Rattle.parts.specs.Bytes.{Bytes}
@@ -10,19 +9,18 @@ use Rattle.tape.specs.File.{Tape, tapeOf}
 use Rattle.admit.specs.Refusal.{Refusal}
 use Rattle.admit.specs.Decide.{refusal}
 use Rattle.admit.proofs.Decide.{refusal-right, refusal-unique}
-use Rattle.events.specs.Text.{textOf, fitting, Outcome, outcomeBy, outcome}
+use Rattle.events.specs.Text.{textOf, fitting, outcomeBy, outcome}
 use Rattle.draft.specs.Draft.{Draft, tapeFrom, sizeOf}
-use Rattle.draft.specs.Grown.{Grown}
 use Rattle.draft.proofs.Kept.{Kept, grown-kept}
 use Rattle.draft.proofs.Nesting.{grown-sound}
 use Rattle.layout.specs.declared.Writer.{Writer}
-use Rattle.layout.specs.Layout.{Fits, heldIn, freeOf, readAs, draftOf, stateOf, fileOf, behindOf}
+use Rattle.layout.specs.Layout.{Fits, heldIn, freeOf, readAs, draftOf, fileOf, behindOf}
 use Rattle.layout.proofs.States.{size-of}
 use Rattle.layout.proofs.File.{file-length, file-tape, file-admitted}
 use Rattle.judge.specs.Phase.{finishNumber}
 use Rattle.judge.proofs.NumberRule.{FinishPassed, finish-passed}
 use Rattle.writer.specs.declared.Answer.{Answer}
-use Rattle.writer.specs.Steps.{pick, lengthGiven, answerOf, Finished}
+use Rattle.writer.specs.Steps.{pick, lengthGiven, Finished}
 use Rattle.written.specs.Built.{Built, fileIn, Promised}
 use Rattle.written.proofs.Works.{Works, built-works}
 

@@ -1,18 +1,18 @@
 -- Every state that steps give is at work on its buffer, and its draft is one that steps build.
 use mathlib.Core.Path.{_≡_, refl, sym, ap, subst, _∙_}
-use mathlib.Core.Bool.{Bool, true, false, cond, _&&_}
+use mathlib.Core.Bool.{Bool, true, false}
 use mathlib.Core.Logic.{_⊎_, inl, inr, ⊎-elim}
-use mathlib.Core.List.{List, [], _∷_, _++_}
-use Prim.Native.Nat.{ℕ, zero, suc, _+_, _-_, _*_, _≤_, _<_}
+use mathlib.Core.List.{List, [], _∷_}
+use Prim.Native.Nat.{ℕ, zero, suc, _+_, _-_, _≤_, _<_}
 use native.Mathlib.Omega.{arith}
-use lib.ListN.{length, take, drop, drop-of-length-le}
+use lib.ListN.{length, drop, drop-of-length-le}
 use lib.Dec.{eqb, ltb, leb}
 use borrow.Author.Tests.{lt-ltb, le-leb, leb-true, eq-eqb, eqb-false}
 use Rattle.parts.specs.Bytes.{Bytes}
 use Rattle.chars.specs.Utf8.{isUtf8}
-use Rattle.tape.specs.File.{nodeOf, entryOf, recordsOf}
+use Rattle.tape.specs.File.{recordsOf}
 use Rattle.tape.specs.declared.Node.{Node}
-use Rattle.draft.specs.Draft.{Draft, Act, piece, entry, plain, leaf, opens, closes, empty, nextIndex, add, linked, after, sizeOf}
+use Rattle.draft.specs.Draft.{Draft, Act, piece, entry, plain, leaf, opens, closes, empty, nextIndex, add, after, sizeOf}
 use Rattle.draft.specs.Fault.{first, fewNodes, fewNames, fewSource, goodName, goodLast, roomy, nodeFault, openNest, closeNest, fault}
 use Rattle.draft.specs.Grown.{Proper, Grown, start, step}
 use Rattle.draft.proofs.Kept.{Kept, passed, grown-kept}
@@ -25,9 +25,9 @@ use Rattle.layout.specs.Steps.{bufferAfter}
 use Rattle.layout.proofs.States.{size-plain, size-leaf, size-opens, size-closes, size-piece, size-entry}
 use Rattle.layout.proofs.Drafts.{length-plain, length-leaf, length-opens, length-closes, length-piece, length-entry}
 use Rattle.judge.specs.Phase.{limited, fits, phaseOf, numberOf, startNumber}
-use Rattle.judge.proofs.NumberRule.{AtWork, at-work, working}
+use Rattle.judge.proofs.NumberRule.{at-work, working}
 use Rattle.writer.specs.declared.Answer.{Answer}
-use Rattle.writer.specs.Steps.{pick, answerOf, Took, Started}
+use Rattle.writer.specs.Steps.{pick, Took, Started}
 use Rattle.written.specs.Built.{Built, begun, next}
 
 -- ---- what steps build is small

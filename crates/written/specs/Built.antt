@@ -1,18 +1,16 @@
 -- Runs of steps, by the contracts of the steps alone, and what is promised of the file that they end as.
 use mathlib.Core.Path.{_≡_}
 use mathlib.Core.List.{List, [], _∷_}
-use Prim.Native.Nat.{ℕ}
 use lib.ListN.{length, take}
 use Rattle.parts.specs.Bytes.{Bytes}
 use Rattle.tape.specs.File.{Tape, tapeOf}
 use Rattle.admit.specs.Refusal.{Refusal}
 use Rattle.events.specs.Text.{textOf, fitting, outcome}
-use Rattle.draft.specs.Draft.{Draft, Act, tapeFrom}
+use Rattle.draft.specs.Draft.{Act}
 use Rattle.draft.specs.Grown.{Proper}
 use Rattle.layout.specs.declared.Writer.{Writer}
-use Rattle.layout.specs.Layout.{draftOf}
 use Rattle.writer.specs.declared.Answer.{Answer}
-use Rattle.writer.specs.Steps.{Took, Started, Finished}
+use Rattle.writer.specs.Steps.{Took, Started}
 
 -- the states and buffers that steps lead to from a start that is done on; a refused step leads to where it stood
 pub data Built : Writer → Bytes → Type 0 where

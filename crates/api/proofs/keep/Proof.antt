@@ -4,10 +4,6 @@ use lib.ListN.{length-set}
 use Rattle.api.proofs.Calls.{kept-made}
 use Rattle.api.proofs.keep.Statement.{statement}
 use Rattle.api.proofs.keep.Tie as tie
-use Rattle.api.proofs.keep.Reads as reads
-use Rattle.api.proofs.keep.Lts as lts
-use Rattle.api.proofs.from_count.Reads as from-count-reads
-use Rattle.api.proofs.from_phase.Reads as from-phase-reads
 
 -- src/lib.rt:76:16
 from-phase-requires : tie.Need-from-phase-requires

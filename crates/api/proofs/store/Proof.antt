@@ -1,12 +1,7 @@
 use borrow.Author.Needs.{needs}
-use Rattle.api.proofs.Calls.{stored-kept, stored-done, kept-length}
+use Rattle.api.proofs.Calls.{stored-kept, stored-done}
 use Rattle.api.proofs.store.Statement.{statement}
 use Rattle.api.proofs.store.Tie as tie
-use Rattle.api.proofs.store.Reads as reads
-use Rattle.api.proofs.store.Lts as lts
-use Rattle.api.proofs.from_count.Reads as from-count-reads
-use Rattle.api.proofs.keep.Reads as keep-reads
-use Rattle.api.proofs.wide.Reads as wide-reads
 
 -- src/lib.rt:91:9
 wide-requires : tie.Need-wide-requires

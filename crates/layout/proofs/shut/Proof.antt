@@ -1,5 +1,5 @@
 use borrow.Author.Needs.{needs}
-use Rattle.layout.proofs.Moved.{shut-laid, fits-kept}
+use Rattle.layout.proofs.Moved.{shut-laid}
 use Rattle.layout.proofs.shut.Statement.{statement}
 use Rattle.layout.proofs.shut.Tie as tie
 

@@ -1,5 +1,4 @@
 use Prim.Native.Nat.{_-_}
-use native.Mathlib.Omega.{arith}
 use borrow.Author.Needs.{needs}
 use Rattle.layout.proofs.Moved.{Slid, slid-start, slid-turn, slid-end}
 use Rattle.layout.proofs.slide.Statement.{statement}
