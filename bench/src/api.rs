@@ -9,6 +9,7 @@ mod raw {
         pub fn bench_body(out: *mut u8, room: usize, at: usize, from: usize, s: *const u8, len: usize) -> usize;
         pub fn bench_is_utf8(s: *const u8, len: usize) -> usize;
         pub fn bench_serialize(file: *const u8, len: usize, out: *mut u8, room: usize) -> usize;
+        pub fn bench_window(file: *const u8, len: usize, from: usize, out: *mut u8, room: usize) -> usize;
         pub fn bench_put_number(out: *mut u8, room: usize, at: usize, from: usize, n: u32) -> usize;
         pub fn andelura_tape_start(state: *mut u64, states: usize, buf: *mut u8, room: usize) -> u32;
         pub fn andelura_tape_entry(state: *mut u64, states: usize, buf: *mut u8, room: usize, names: *const u8, size: usize, start: u32, len: u16, category: u8, element: u8) -> u32;
@@ -59,6 +60,12 @@ pub fn check(text: &[u8]) -> u32 {
 /// What `serialize` answers for a file and a buffer: document 01's number, and the length given.
 pub fn serialize(file: &[u8], out: &mut [u8]) -> (u8, usize) {
     let answer = unsafe { raw::bench_serialize(file.as_ptr(), file.len(), out.as_mut_ptr(), out.len()) };
+    ((answer % 16) as u8, answer / 16)
+}
+
+/// What `window` answers for a file, a starting byte and a buffer: document 01's number, and the length of the whole text.
+pub fn window(file: &[u8], from: usize, out: &mut [u8]) -> (u8, usize) {
+    let answer = unsafe { raw::bench_window(file.as_ptr(), file.len(), from, out.as_mut_ptr(), out.len()) };
     ((answer % 16) as u8, answer / 16)
 }
 

@@ -108,19 +108,23 @@ fn sink<T>(result: T) {
     std::hint::black_box(result);
 }
 
-/// Times of our whole call, of its admission and measuring, of admission alone, of the Rust's text and of its loading.
-fn times(name: &str, file: &[u8], runs: usize) -> (usize, [f64; 5]) {
+/// Times of our whole call, of its admission and measuring, of admission alone, of the whole text as one window, of the Rust's text and of its loading.
+fn times(name: &str, file: &[u8], runs: usize) -> (usize, [f64; 6]) {
     let document = loader::load(file).unwrap_or_else(|r| panic!("{name}: refused by {}", r.0));
     let written = document.to_usx();
     let mut out = vec![0; written.len()];
     assert_eq!(api::serialize(file, &mut out), (0, written.len()), "{name}");
     assert!(out == written.as_bytes(), "{name}");
+    let mut shown = vec![0; written.len()];
+    assert_eq!(api::window(file, 0, &mut shown), (0, written.len()), "{name}");
+    assert!(shown == out, "{name}");
     let taken = best(
         runs,
         [
             &mut || sink(api::serialize(file, &mut out)),
             &mut || sink(api::serialize(file, &mut [])),
             &mut || sink(api::admit(file)),
+            &mut || sink(api::window(file, 0, &mut shown)),
             &mut || sink(document.to_usx()),
             &mut || sink(loader::load(file).is_ok()),
         ],
@@ -130,12 +134,12 @@ fn times(name: &str, file: &[u8], runs: usize) -> (usize, [f64; 5]) {
 
 /// One row: what a byte of the text takes, and what ours takes of the Rust's.
 fn row(name: &str, file: &[u8], runs: usize) {
-    let (bytes, [whole, measured, admitted, rust, loaded]) = times(name, file, runs);
+    let (bytes, [whole, measured, admitted, shown, rust, loaded]) = times(name, file, runs);
     let nodes = u32::from_le_bytes(file[4..8].try_into().expect("four bytes"));
     let per = |t: f64| t * 1e9 / bytes as f64;
     let ours = [admitted, measured - admitted, whole - measured].map(per);
     println!(
-        "{name:<34} {nodes:>7} {bytes:>9} {:>9.2} = {:>5.2} + {:>5.2} + {:>5.2} {:>10.2} {:>6.2} {:>9.2} {:>9.2}",
+        "{name:<34} {nodes:>7} {bytes:>9} {:>9.2} = {:>5.2} + {:>5.2} + {:>5.2} {:>10.2} {:>6.2} {:>9.2} {:>9.2} {:>9.2}",
         per(whole),
         ours[0],
         ours[1],
@@ -143,7 +147,8 @@ fn row(name: &str, file: &[u8], runs: usize) {
         per(rust),
         per(loaded),
         whole / rust,
-        whole / (rust + loaded)
+        whole / (rust + loaded),
+        shown / rust
     );
 }
 
@@ -163,8 +168,8 @@ fn slow(name: &str, file: &[u8]) {
 }
 
 pub fn print(tapes: &[String]) {
-    println!("serialize, ns for a byte of the text: admission + measuring + writing; the Rust's to_usx and its loading");
-    println!("{:<34} {:>7} {:>9} {:>33} {:>10} {:>6} {:>9} {:>9}", "", "nodes", "bytes", "ours", "to_usx", "load", "/to_usx", "/both");
+    println!("serialize, ns for a byte of the text: admission + measuring + writing; the Rust's to_usx and its loading; one window of the whole text");
+    println!("{:<34} {:>7} {:>9} {:>33} {:>10} {:>6} {:>9} {:>9} {:>9}", "", "nodes", "bytes", "ours", "to_usx", "load", "/to_usx", "/both", "window");
     for nodes in [10_000, 20_000, 40_000, 80_000, 160_000, 180_000] {
         row("book", &book(nodes), 15);
     }

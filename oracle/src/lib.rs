@@ -37,6 +37,7 @@ pub mod rendered;
 pub mod replay;
 pub mod steps;
 pub mod tapes;
+pub mod windows;
 pub mod writer;
 
 pub use document::Document;

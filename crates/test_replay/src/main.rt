@@ -11,9 +11,6 @@ use libc::STDOUT_FILENO;
 use test_stream::Item;
 use usx::Answer;
 
-// A byte that no UTF-8 text has.
-const MARK: u8 = 255;
-
 fn wide(n: usize) -> u64 {
     n as u64
 }
@@ -28,39 +25,18 @@ fn say_number(word: &[u8], n: u64) {
     io::print_decimal(STDOUT_FILENO, n);
 }
 
-fn fill(buffer: &mut [u8]) {
-    let mut i = 0;
-    while i < buffer.len() {
-        buffer[i] = MARK;
-        i += 1;
-    }
-}
-
-// How many bytes are still the mark.
-fn unchanged(buffer: &[u8]) -> u64 {
-    let mut n = 0;
-    let mut i = 0;
-    while i < buffer.len() {
-        if buffer[i] == MARK {
-            n = std::num::wrapping_add_u64(n, 1);
-        }
-        i += 1;
-    }
-    n
-}
-
 // What a call gave, and how much of its buffer it left alone.
 fn line(number: u64, length: usize, buffer: &[u8]) {
     say_number(b"room ", wide(buffer.len()));
     say_number(b": number ", number);
     say_number(b", length ", wide(length));
-    say_number(b", ", unchanged(buffer));
+    say_number(b", ", wide(test_marks::unchanged(buffer)));
     say(b" unchanged\n");
 }
 
 // One call, its line and the text that it wrote; the length given.
 fn call(file: &[u8], buffer: &mut [u8]) -> usize {
-    fill(buffer);
+    test_marks::fill(buffer);
     match usx::serialize(file, buffer) {
         Answer::Written(n) => {
             line(0, n, buffer);

@@ -1,4 +1,4 @@
--- The contract of `serialize` leaves one answer and one buffer.
+-- The contracts of `serialize` and `window` leave one answer and one buffer.
 use mathlib.Core.Path.{_≡_, sym, ap, _∙_}
 use Prim.Native.Nat.{ℕ, zero, suc, _<_}
 use native.Mathlib.Omega.{arith}
@@ -9,12 +9,16 @@ use Rattle.admit.specs.Refusal.{Refusal, none, first, second, third, fourth, fi
 use Rattle.admit.proofs.Decide.{refusal-right}
 use Rattle.events.specs.Text.{textOf, Outcome, outcomeBy, outcome}
 use Rattle.bounds.proofs.Whole.{fitting-given}
-use Rattle.usx.proofs.Whole.{text-some}
+use Rattle.walk.proofs.Whole.{text-some}
 use Rattle.usx.specs.Answer.{answerNumber, answerLength, outcomeOf}
 use Rattle.usx.specs.declared.Answer.{Answer}
 use Rattle.usx.specs.declared.Answer.the-variants.{Written, Refused, NoRoom}
+use Rattle.usx.specs.Shown.{View, viewBy, view, shownNumber, shownBytes, shownWhole, viewOf}
+use Rattle.usx.specs.declared.Shown.{Shown}
+use Rattle.usx.specs.declared.Shown.the-variants.{Given, Refused as Shown-refused}
 
-below-eight : {file : Bytes} {n : ℕ} → Refusal file n → n < 8
+-- admission gives no number above 7
+pub below-eight : {file : Bytes} {n : ℕ} → Refusal file n → n < 8
 below-eight (none k) = omega arith
 below-eight (first f) = omega arith
 below-eight (second k f) = omega arith
@@ -54,3 +58,35 @@ one-answer file out a₁ a₂ last₁ last₂ e₁ e₂ =
     let number : Outcome → ℕ = λ (o : Outcome). o .number in
     let given : Outcome → ℕ = λ (o : Outcome). o .given in
     (known (outcome file out .number) (outcome file out .given) (refused-given file out) a₁ a₂ (ap number e₁) (ap given e₁) (ap number e₂) (ap given e₂), ap (λ (o : Outcome). o .buffer) (e₁ ∙ sym e₂))
+
+-- ---- windows
+
+-- a text of no byte goes with a refusal alone
+refused-whole : (file : Bytes) (from : ℕ) (out : Bytes) → view file from out .whole ≡ 0 → 0 < view file from out .number
+unfolding view viewBy
+refused-whole file from out = go (refusal file)
+  where
+    go : (n : ℕ) → viewBy n (textOf (tapeOf file)) from out .whole ≡ 0 → 0 < viewBy n (textOf (tapeOf file)) from out .number
+    go zero e = absurd (omega (arith, e, text-some (tapeOf file)))
+    go (suc n) e = omega arith
+
+-- an answer is known by its number and its lengths, if a text of no byte goes with a refusal alone
+known-shown : (n g w : ℕ) → (w ≡ 0 → 0 < n) → (a₁ a₂ : Shown) → shownNumber a₁ ≡ n → shownBytes a₁ ≡ g → shownWhole a₁ ≡ w
+    → shownNumber a₂ ≡ n → shownBytes a₂ ≡ g → shownWhole a₂ ≡ w → a₁ ≡ a₂
+unfolding shownNumber shownBytes shownWhole
+known-shown n g w f (Given g₁ w₁) (Given g₂ w₂) en₁ eg₁ ew₁ en₂ eg₂ ew₂ = ap (λ (k : ℕ). Given k w₁) (eg₁ ∙ sym eg₂) ∙ ap (Given g₂) (ew₁ ∙ sym ew₂)
+known-shown n g w f (Shown-refused k) (Shown-refused l) en₁ eg₁ ew₁ en₂ eg₂ ew₂ = ap Shown-refused (en₁ ∙ sym en₂)
+known-shown n g w f (Given g₁ w₁) (Shown-refused l) en₁ eg₁ ew₁ en₂ eg₂ ew₂ = absurd (omega (arith, en₁, f (sym ew₂)))
+known-shown n g w f (Shown-refused k) (Given g₂ w₂) en₁ eg₁ ew₁ en₂ eg₂ ew₂ = absurd (omega (arith, en₂, f (sym ew₁)))
+
+-- two results that satisfy the contract of `window` for one file, one start and one buffer are equal, the answers and the buffers behind them
+pub one-shown : (file : Bytes) (from : ℕ) (out : Bytes) (a₁ a₂ : Shown) (last₁ last₂ : Bytes) → viewOf a₁ last₁ ≡ view file from out → viewOf a₂ last₂ ≡ view file from out → (a₁ ≡ a₂) × (last₁ ≡ last₂)
+unfolding viewOf
+one-shown file from out a₁ a₂ last₁ last₂ e₁ e₂ =
+    let number : View → ℕ = λ (v : View). v .number in
+    let given : View → ℕ = λ (v : View). v .given in
+    let whole : View → ℕ = λ (v : View). v .whole in
+    let v : View = view file from out in (
+      known-shown (v .number) (v .given) (v .whole) (refused-whole file from out) a₁ a₂ (ap number e₁) (ap given e₁) (ap whole e₁) (ap number e₂) (ap given e₂) (ap whole e₂),
+      ap (λ (v : View). v .buffer) (e₁ ∙ sym e₂),
+    )

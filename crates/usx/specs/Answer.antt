@@ -1,9 +1,7 @@
--- What an answer says in document 01's numbers, and what a walk over the whole text leaves.
+-- What an answer says in document 01's numbers.
 use Prim.Native.Nat.{ℕ}
 use Rattle.parts.specs.Bytes.{Bytes}
-use Rattle.window.specs.Page.{Page, paint}
-use Rattle.tape.specs.File.{Tape}
-use Rattle.events.specs.Text.{Outcome, textOf}
+use Rattle.events.specs.Text.{Outcome}
 use Rattle.usx.specs.declared.Answer.{Answer}
 use Rattle.usx.specs.declared.Answer.the-variants.{Written, Refused, NoRoom}
 
@@ -22,7 +20,3 @@ answerLength (NoRoom n) = n
 -- an answer and the buffer behind it
 unfoldable pub outcomeOf : Answer → Bytes → Outcome
 outcomeOf a buffer = record { number = answerNumber a; given = answerLength a; buffer = buffer }
-
--- the page that the whole text leaves in a buffer, from the text's first byte on
-unfoldable pub wholeIn : Tape → Bytes → Page
-wholeIn t out = paint (record { at = 0; from = 0; buf = out }) (textOf t)

@@ -3,7 +3,10 @@
 use std::io::{self, BufWriter, Read, Write};
 use std::process::ExitCode;
 
-use oracle::{answer, both_sides, check, check_cases, dump, names, notation, rebuild, rendered, replay, steps};
+use oracle::generate::Cuts;
+use oracle::{
+    answer, both_sides, check, check_cases, dump, names, notation, rebuild, rendered, replay, steps, windows,
+};
 
 const USAGE: &str = "usage: oracle print   one tape on standard input, printed as the printing program prints it
        oracle stream  a stream of tapes to a stream of answers
@@ -15,6 +18,10 @@ const USAGE: &str = "usage: oracle print   one tape on standard input, printed a
        oracle check   a stream of finished texts to what usx_check writes of each
        oracle check-cases  the texts on both sides of each rule of the checker, as a stream
        oracle replay  a stream of tapes to what calls with buffers of several lengths give
+       oracle cuts    a stream of tapes to tapes with cuts, the gate's runs
+       oracle cuts random SEED  the same, three random runs of each tape
+       oracle cuts by N  the same, one run of each tape in windows of N bytes
+       oracle windows  a stream of tapes with cuts to what the windows of each run give
        oracle both-sides  the tapes of document 01's examples 1 to 13 and its listing, as a stream
        oracle steps   a stream of lists of steps to what the second tape writer answers
        oracle rebuild-check  a stream of tapes, each written anew by the second tape writer and compared
@@ -34,6 +41,8 @@ fn main() -> ExitCode {
         ["check"] => check::stream(io::stdin().lock(), BufWriter::new(io::stdout().lock())),
         ["check-cases"] => check_cases::write(BufWriter::new(io::stdout().lock())),
         ["replay"] => replay::stream(io::stdin().lock(), BufWriter::new(io::stdout().lock())),
+        ["cuts", ref kind @ ..] => cuts(kind),
+        ["windows"] => windows::stream(io::stdin().lock(), BufWriter::new(io::stdout().lock())),
         ["both-sides"] => both_sides::write(BufWriter::new(io::stdout().lock())),
         ["steps"] => steps::stream(io::stdin().lock(), BufWriter::new(io::stdout().lock())),
         ["rebuild-check"] => rebuild::check(io::stdin().lock(), io::stdout().lock()),
@@ -57,4 +66,18 @@ fn print() -> io::Result<()> {
     let mut tape = Vec::new();
     io::stdin().lock().take(answer::PRINT_BYTES as u64 + 1).read_to_end(&mut tape)?;
     io::stdout().lock().write_all(&answer::print(&tape))
+}
+
+fn cuts(kind: &[&str]) -> io::Result<()> {
+    let cuts = cuts_of(kind).ok_or_else(|| io::Error::other("which cuts? random SEED, by N up to 65,536, or none"))?;
+    windows::cut(io::stdin().lock(), BufWriter::new(io::stdout().lock()), &cuts)
+}
+
+fn cuts_of(kind: &[&str]) -> Option<Cuts> {
+    match *kind {
+        [] => Some(Cuts::Gate),
+        ["random", seed] => seed.parse().ok().map(Cuts::Random),
+        ["by", room] => room.parse().ok().filter(|&room| room as usize <= windows::MOST_BYTES).map(Cuts::By),
+        _ => None,
+    }
 }

@@ -1,5 +1,6 @@
-//! Generators of tape files and of lists of steps. Each is determined by its mode, the seed and its number.
+//! Generators of tape files, of lists of steps and of runs of windows. Each is determined by its mode, the seed and its number.
 
+mod cuts;
 mod damaged;
 mod glued;
 mod hostile;
@@ -15,6 +16,7 @@ mod steps;
 mod steps_edges;
 mod structured;
 
+pub use cuts::Cuts;
 pub use damaged::{Damaged, damaged};
 pub use glued::glued;
 pub use hostile::hostile;

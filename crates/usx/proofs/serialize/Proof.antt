@@ -1,4 +1,4 @@
-use Rattle.usx.proofs.Whole.{refused, written}
+use Rattle.usx.proofs.Answers.{refused, written, no-room}
 use borrow.Author.Needs.{needs}
 use Rattle.usx.proofs.serialize.Statement.{statement}
 use Rattle.usx.proofs.serialize.Tie as tie
@@ -24,6 +24,12 @@ same-length c = search needs
 returns-2 : tie.Need-returns-2
 returns-2 c = search written
 
+same-length-2 : tie.Need-same-length-2
+same-length-2 c = search needs
+
+returns-3 : tie.Need-returns-3
+returns-3 c = search no-room
+
 pub serialize-spec : {M : Type 1} → statement M
 serialize-spec =
     tie.close
@@ -34,4 +40,6 @@ serialize-spec =
     write-tape-requires
     returns
     same-length
-    returns-2)
+    returns-2
+    same-length-2
+    returns-3)

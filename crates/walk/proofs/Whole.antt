@@ -1,0 +1,215 @@
+-- The whole text: from its parts, measured, written, and shown through a window.
+use mathlib.Core.Path.{_≡_, refl, sym, ap, _∙_}
+use mathlib.Core.Bool.{Bool, false, cond, _||_}
+use mathlib.Core.List.{List, [], _∷_, _++_, append-assoc}
+use mathlib.Core.Option.{none as nothing}
+use Prim.Native.Nat.{ℕ, zero, suc, _+_, _^_, _≤_, _<_}
+use native.Mathlib.Omega.{arith}
+use lib.ListN.{length, getD, drop, drop-of-length-le}
+use lib.Dec.{eqb}
+use borrow.Author.Tests.{eq-eqb, ne-eqb, le-leb, lt-leb}
+use Rattle.parts.specs.Bytes.{Bytes, b}
+use Rattle.chars.specs.Escape.{escape, escapedByte}
+use Rattle.window.specs.Page.{Page, paint}
+use Rattle.window.proofs.Paint.{paint-append, paint-at, paint-front, paint-window}
+use Rattle.tape.specs.File.{Tape, tapeIn, nodeAt, kindAt, nowhere}
+use Rattle.tape.specs.Tree.{firstChild}
+use Rattle.tape.specs.declared.Node.{Node}
+use Rattle.tape.specs.declared.Sections.{Sections}
+use Rattle.tape.specs.declared.kinds.Kind.{Kind}
+use Rattle.tape.specs.declared.Cursor.{Cursor}
+use Rattle.tape.specs.declared.Step.{Step}
+use Rattle.tape.proofs.Walk.{children-walk}
+use Rattle.tape.proofs.Laws.{node-count}
+use Rattle.tags.specs.Items.{Item, close, line, bytesOf, attrsBytes, attrBytes, valueOf, newLine, render, framed}
+use Rattle.tags.specs.Names.{nameOf}
+use Rattle.tags.proofs.Rendered.{render-append}
+use Rattle.lists.specs.Span.{filtered, cutBy, nodesIn}
+use Rattle.lists.specs.declared.Span.{Span}
+use Rattle.events.specs.Event.{Event}
+use Rattle.events.specs.Pairing.{State, lastEnds, paired}
+use Rattle.events.specs.Walk.{blocksE, eventsWithin, eventsOf}
+use Rattle.events.specs.Text.{anyChapter, firstState, itemsOfTape, textOf, fitting}
+use Rattle.events.specs.Emit.{Desk, lay, emitAll, emitted, afterAll}
+use Rattle.events.proofs.Emits.{paired-emitted, emit-page, emit-state}
+use Rattle.marks.specs.Mark.{newMarks}
+use Rattle.marks.specs.declared.Marks.{Marks}
+use Rattle.sink.specs.Desk.{chapterIn, verseIn, stateIn, deskIn, putOn}
+use Rattle.sink.specs.declared.Sink.{Sink}
+use Rattle.walk.specs.Asked.{wholeIn, left, Walked}
+use Rattle.walk.specs.Shows.{windowOf, showing}
+use Rattle.walk.specs.declared.Asked.{Asked}
+use Rattle.walk.specs.declared.Asked.the-variants.{Whole, From}
+
+-- ---- the first number
+
+any-at : (ns : List Node) (i : ℕ) → i < length ns → anyChapter (drop i ns) ≡ eqb (getD ns i nowhere .kind .code) 6 || anyChapter (drop (i + 1) ns)
+unfolding anyChapter
+any-at [] i h = absurd (omega arith)
+any-at (n ∷ ns) zero h = refl
+any-at (n ∷ ns) (suc i) h = let e : suc i + 1 ≡ suc (i + 1) = omega arith in rw e (any-at ns i (omega arith))
+
+any-past : (ns : List Node) (i : ℕ) → length ns ≤ i → anyChapter (drop i ns) ≡ false
+unfolding anyChapter
+any-past ns i h = rw (drop-of-length-le ns h)
+
+-- the chapters that are still to be looked for are those of the tape
+pub record Ahead (t : Tape) (i : ℕ) : Type 0 where
+  pub same : anyChapter (drop i (t .nodes)) ≡ anyChapter (t .nodes)
+
+pub ahead-start : (t : Tape) → Ahead t 0
+ahead-start t = record { same = refl }
+
+module _ (c : Sections) (file : Bytes) (i : ℕ) where
+  pub ahead-turn : i < c .nodes → {k : Cursor} → k .at ≡ i → {z : Kind} → z .code ≡ kindAt (tapeIn c file) (k .at) → (z .code ≡ 6 → ⊥) → Ahead (tapeIn c file) i → Ahead (tapeIn c file) (i + 1)
+  unfolding nodeAt
+  ahead-turn h ek ez n a =
+      record {
+        same = sym (any-at (tapeIn c file .nodes) i (omega (arith, node-count c file)) ∙ ap (λ (x : Bool). x || anyChapter (drop (i + 1) (tapeIn c file .nodes))) (ne-eqb (kindAt (tapeIn c file) i) 6 (λ e. n (ez ∙ ap (kindAt (tapeIn c file)) ek ∙ e)))) ∙ a .same;
+      }
+
+  pub number-zero : i < c .nodes → {k : Cursor} → k .at ≡ i → {z : Kind} → z .code ≡ kindAt (tapeIn c file) (k .at) → z .code ≡ 6 → Ahead (tapeIn c file) i → 0 ≡ firstState (tapeIn c file) .number
+  unfolding nodeAt firstState
+  number-zero h ek ez e a =
+      ap (λ (x : Bool). cond x 0 1)
+      (sym (any-at (tapeIn c file .nodes) i (omega (arith, node-count c file)) ∙ ap (λ (x : Bool). x || anyChapter (drop (i + 1) (tapeIn c file .nodes))) (eq-eqb (kindAt (tapeIn c file) i) 6 (sym (ez ∙ ap (kindAt (tapeIn c file)) ek) ∙ e))) ∙ a .same)
+
+  pub number-one : c .nodes ≤ i → Ahead (tapeIn c file) i → 1 ≡ firstState (tapeIn c file) .number
+  unfolding firstState
+  number-one h a = ap (λ (x : Bool). cond x 0 1) (sym (any-past (tapeIn c file .nodes) i (omega (arith, node-count c file))) ∙ a .same)
+
+-- ---- the text by its parts
+
+abbrev opens : Bytes
+opens = b "<usx version=\"3.0\">"
+
+abbrev ends : Bytes
+ends = b "\n</usx>"
+
+framed-bytes : (is : List Item) → render (framed (is ++ (line 0 ∷ []))) ≡ opens ++ (render is ++ ends)
+unfolding render bytesOf nameOf attrsBytes attrBytes valueOf escape escapedByte newLine
+framed-bytes is =
+    ap (λ (z : Bytes). opens ++ z)
+    (render-append (is ++ (line 0 ∷ [])) (close 1 ∷ [])
+    ∙ ap (λ (z : Bytes). z ++ b "</usx>") (render-append is (line 0 ∷ []))
+    ∙ append-assoc (render is) (b "\n") (b "</usx>"))
+
+text-parts : (t : Tape) → textOf t ≡ opens ++ (render (emitted (firstState t) (eventsOf t)) ++ (render (lastEnds (afterAll (firstState t) (eventsOf t))) ++ ends))
+unfolding textOf itemsOfTape
+text-parts t =
+    framed-bytes (paired (firstState t) (eventsOf t))
+    ∙ ap (λ (z : Bytes). opens ++ (z ++ ends)) (ap render (paired-emitted (firstState t) (eventsOf t)) ∙ render-append (emitted (firstState t) (eventsOf t)) (lastEnds (afterAll (firstState t) (eventsOf t))))
+    ∙ ap (λ (z : Bytes). opens ++ z) (append-assoc (render (emitted (firstState t) (eventsOf t))) (render (lastEnds (afterAll (firstState t) (eventsOf t)))) ends)
+
+pub text-some : (t : Tape) → 0 < length (textOf t)
+text-some t = rw (text-parts t) (omega arith)
+
+-- the desk that a walk starts with
+abbrev atFirst : Tape → ℕ → Bytes → Desk
+atFirst t from out = record { page = record { at = 0; from = from; buf = out }; state = firstState t }
+
+-- what the parts leave, one behind the other
+parts-page : (t : Tape) (from : ℕ) (out : Bytes) (a d e z : Desk) → a ≡ putOn (atFirst t from out) opens → d ≡ emitAll a (eventsOf t) → e ≡ lay d (lastEnds (d .state)) → z ≡ putOn e ends → z .page ≡ wholeIn t from out
+unfolding wholeIn putOn lay
+parts-page t from out a d e z ea ed ee ez =
+    let p : Page = record { at = 0; from = from; buf = out } in
+    let s : State = firstState t in
+    let es : List Event = eventsOf t in
+    let page-a : a .page ≡ paint p opens = ap (λ (x : Desk). x .page) ea in
+    let state-a : a .state ≡ s = ap (λ (x : Desk). x .state) ea in
+    let page-d : d .page ≡ paint (paint p opens) (render (emitted s es)) =
+    ap (λ (x : Desk). x .page) ed ∙ emit-page a es ∙ ap (λ (q : Page). paint q (render (emitted (a .state) es))) page-a ∙ ap (λ (u : State). paint (paint p opens) (render (emitted u es))) state-a in
+    let state-d : d .state ≡ afterAll s es = ap (λ (x : Desk). x .state) ed ∙ emit-state a es ∙ ap (λ (u : State). afterAll u es) state-a in
+    let page-e : e .page ≡ paint (paint (paint p opens) (render (emitted s es))) (render (lastEnds (afterAll s es))) =
+    ap (λ (x : Desk). x .page) ee ∙ ap (λ (q : Page). paint q (render (lastEnds (d .state)))) page-d ∙ ap (λ (u : State). paint (paint (paint p opens) (render (emitted s es))) (render (lastEnds u))) state-d in
+    ap (λ (x : Desk). x .page) ez
+    ∙ ap (λ (q : Page). paint q ends) page-e
+    ∙ paint-append (paint (paint p opens) (render (emitted s es))) (render (lastEnds (afterAll s es))) ends
+    ∙ paint-append (paint p opens) (render (emitted s es)) (render (lastEnds (afterAll s es)) ++ ends)
+    ∙ paint-append p opens (render (emitted s es) ++ (render (lastEnds (afterAll s es)) ++ ends))
+    ∙ ap (paint p) (sym (text-parts t))
+
+-- ---- as the code writes it
+
+abbrev all : Span
+all = record { cut = false; sifted = false }
+
+events-all : (t : Tape) {s : Step} → s ≡ firstChild t 0 → blocksE t 64 1 (nodesIn t all s) ≡ eventsOf t
+unfolding nodesIn cutBy filtered eventsOf eventsWithin
+events-all t es = ap (blocksE t 64 1) (children-walk t 0 es)
+
+first-state : (t : Tape) {n : ℕ} {m : Marks} → m ≡ newMarks n → n ≡ firstState t .number → stateIn (t .source) m ≡ firstState t
+unfolding stateIn chapterIn verseIn firstState
+first-state t em en = rw em (ap (λ (k : ℕ). record { book = []; number = k; chapter = nothing; verse = nothing }) en)
+
+module _ (t : Tape) (n : ℕ) (m : Marks) (em : m ≡ newMarks n) (from : ℕ) (out : Bytes) {k : Cursor} (ek : k .at ≡ 0) {s : Step} (es : s ≡ firstChild t (k .at))
+    (a d e z : Sink) (o₁ o₂ o₃ o₄ : Bytes)
+    (ea : (source : Bytes) → deskIn source a o₁ ≡ putOn (deskIn source (record { at = 0; from = from; marks = m }) out) opens)
+    (ed : deskIn (t .source) d o₂ ≡ emitAll (deskIn (t .source) a o₁) (blocksE t 64 1 (nodesIn t all s)))
+    (ee : deskIn (t .source) e o₃ ≡ lay (deskIn (t .source) d o₂) (lastEnds (stateIn (t .source) (d .marks))))
+    (ez : (source : Bytes) → deskIn source z o₄ ≡ putOn (deskIn source e o₃) ends) where
+  whole-page : n ≡ firstState t .number → deskIn (t .source) z o₄ .page ≡ wholeIn t from out
+  whole-page en =
+      parts-page t from out (deskIn (t .source) a o₁) (deskIn (t .source) d o₂) (deskIn (t .source) e o₃) (deskIn (t .source) z o₄)
+      (ea (t .source) ∙ ap (λ (u : State). putOn (record { page = record { at = 0; from = from; buf = out }; state = u }) opens) (first-state t em en))
+      (ed ∙ ap (emitAll (deskIn (t .source) a o₁)) (events-all t (es ∙ ap (firstChild t) ek)))
+      ee
+      (ez (t .source))
+
+  pub whole-length : n ≡ firstState t .number → z .at ≡ wholeIn t from out .at
+  whole-length en = ap (λ (p : Page). p .at) (whole-page en)
+
+  pub whole-buffer : n ≡ firstState t .number → o₄ ≡ wholeIn t from out .buf
+  whole-buffer en = ap (λ (p : Page). p .buf) (whole-page en)
+
+-- ---- room or not
+
+measured : (t : Tape) (from : ℕ) (l : Bytes) {n : ℕ} → length (textOf t) < 2 ^ 60 → n ≡ wholeIn t from l .at → n ≡ length (textOf t)
+unfolding wholeIn
+measured t from l h e = e ∙ paint-at (record { at = 0; from = from; buf = l }) (textOf t) (omega arith) ∙ omega arith
+
+nothing-before : (ys out : Bytes) → length ys ≡ 0 → ys ++ out ≡ out
+nothing-before [] out h = refl
+nothing-before (y ∷ ys) out h = absurd (omega arith)
+
+-- a walk that found no room
+pub no-room : (t : Tape) (l out ys : Bytes) {k n : ℕ} → (k ≡ firstState t .number → n ≡ wholeIn t 0 l .at) → length ys ≡ 0 → length (ys ++ out) < n
+    → k ≡ firstState t .number → Walked t Whole out n (ys ++ out)
+unfolding left fitting
+no-room t l out ys {k} {n} f hy h e = record { counts = λ small. measured t 0 l small (f e); leaves = there }
+  where
+    there : length (textOf t) < 2 ^ 60 → ys ++ out ≡ fitting (textOf t) out .buffer
+    there small =
+        let is = measured t 0 l small (f e) in
+        let same : ys ++ out ≡ out = nothing-before ys out hy in
+        let over : length out < length (textOf t) = omega (arith, ap length same, is) in
+        rw (lt-leb (length (textOf t)) (length out) over, same)
+
+-- a walk that wrote the text
+pub room : (t : Tape) (l out ys last : Bytes) {k n : ℕ} → (k ≡ firstState t .number → n ≡ wholeIn t 0 l .at) → length ys ≡ 0 → n ≤ length (ys ++ out)
+    → (k ≡ firstState t .number → last ≡ wholeIn t 0 (ys ++ out) .buf)
+    → k ≡ firstState t .number → Walked t Whole out n last
+unfolding left fitting wholeIn
+room t l out ys last {k} {n} f hy h g e = record { counts = λ small. measured t 0 l small (f e); leaves = there }
+  where
+    there : length (textOf t) < 2 ^ 60 → last ≡ fitting (textOf t) out .buffer
+    there small =
+        let is = measured t 0 l small (f e) in
+        let same : ys ++ out ≡ out = nothing-before ys out hy in
+        let fits : length (textOf t) ≤ length out = omega (arith, ap length same, is) in
+        let front : last ≡ textOf t ++ drop (length (textOf t)) out =
+        g e ∙ ap (λ (o : Bytes). paint (record { at = 0; from = 0; buf = o }) (textOf t) .buf) same ∙ paint-front out (textOf t) fits (omega arith) in
+        rw (le-leb (length (textOf t)) (length out) fits, front)
+
+-- ---- what was asked
+
+-- a walk through a window
+pub window-walked : (t : Tape) (out : Bytes) {asked : Asked} {from : ℕ} → asked ≡ From from → {n : ℕ} {last : Bytes} {k : ℕ}
+    → (k ≡ firstState t .number → n ≡ wholeIn t from out .at) → (k ≡ firstState t .number → last ≡ wholeIn t from out .buf) → k ≡ firstState t .number → Walked t asked out n last
+unfolding wholeIn left showing windowOf
+window-walked t out {asked} {from} ea f g e =
+    record { counts = λ small. measured t from out small (f e); leaves = λ small. rw ea (g e ∙ paint-window from out (textOf t) (omega arith)) }
+
+-- a walk that was asked for the whole text
+pub whole-walked : (t : Tape) (out : Bytes) {asked : Asked} → asked ≡ Whole → {n : ℕ} {last : Bytes} → Walked t Whole out n last → Walked t asked out n last
+whole-walked t out ea w = rw ea w
