@@ -1,4 +1,4 @@
-//! The functions of libbench_api.a, and of libapi.a those that write a tape. A slice passes as pointer and length.
+//! The functions of libbench_api.a, and of libapi.a those that write a tape and the one that shows a window. A slice passes as pointer and length.
 
 mod raw {
     extern "C" {
@@ -9,8 +9,8 @@ mod raw {
         pub fn bench_body(out: *mut u8, room: usize, at: usize, from: usize, s: *const u8, len: usize) -> usize;
         pub fn bench_is_utf8(s: *const u8, len: usize) -> usize;
         pub fn bench_serialize(file: *const u8, len: usize, out: *mut u8, room: usize) -> usize;
-        pub fn bench_window(file: *const u8, len: usize, from: usize, out: *mut u8, room: usize) -> usize;
         pub fn bench_put_number(out: *mut u8, room: usize, at: usize, from: usize, n: u32) -> usize;
+        pub fn andelura_window(file: *const u8, len: usize, from: usize, out: *mut u8, room: usize, numbers: *mut u64, count: usize) -> u32;
         pub fn andelura_tape_start(state: *mut u64, states: usize, buf: *mut u8, room: usize) -> u32;
         pub fn andelura_tape_entry(state: *mut u64, states: usize, buf: *mut u8, room: usize, names: *const u8, size: usize, start: u32, len: u16, category: u8, element: u8) -> u32;
         pub fn andelura_tape_source(state: *mut u64, states: usize, buf: *mut u8, room: usize, piece: *const u8, size: usize) -> u32;
@@ -63,10 +63,11 @@ pub fn serialize(file: &[u8], out: &mut [u8]) -> (u8, usize) {
     ((answer % 16) as u8, answer / 16)
 }
 
-/// What `window` answers for a file, a starting byte and a buffer: document 01's number, and the length of the whole text.
-pub fn window(file: &[u8], from: usize, out: &mut [u8]) -> (u8, usize) {
-    let answer = unsafe { raw::bench_window(file.as_ptr(), file.len(), from, out.as_mut_ptr(), out.len()) };
-    ((answer % 16) as u8, answer / 16)
+/// What `window` answers for a file, a starting byte and a buffer: document 01's number, how many bytes are given, and the length of the whole text.
+pub fn window(file: &[u8], from: usize, out: &mut [u8]) -> (u32, [u64; 2]) {
+    let mut numbers = [0; 2];
+    let number = unsafe { raw::andelura_window(file.as_ptr(), file.len(), from, out.as_mut_ptr(), out.len(), numbers.as_mut_ptr(), numbers.len()) };
+    (number, numbers)
 }
 
 /// A tape that is written into a buffer; each step gives its number.

@@ -116,7 +116,7 @@ fn times(name: &str, file: &[u8], runs: usize) -> (usize, [f64; 6]) {
     assert_eq!(api::serialize(file, &mut out), (0, written.len()), "{name}");
     assert!(out == written.as_bytes(), "{name}");
     let mut shown = vec![0; written.len()];
-    assert_eq!(api::window(file, 0, &mut shown), (0, written.len()), "{name}");
+    assert_eq!(api::window(file, 0, &mut shown), (0, [written.len() as u64; 2]), "{name}");
     assert!(shown == out, "{name}");
     let taken = best(
         runs,

@@ -1,4 +1,6 @@
-// The steps of writing a tape, for C: over a lent buffer and lent numbers, which keep the state. A slice passes as pointer and length.
+// For C: the steps of writing a tape, over a lent buffer and lent numbers, which keep the state; and a tape's text. A slice passes as pointer and length.
+mod text;
+
 ghost use mathlib.Core.Path.{_≡_};
 ghost use Prim.Native.Nat.{_≤_};
 ghost use lib.ListN.{length};
@@ -11,6 +13,7 @@ use layout::Writer;
 use tape::Category;
 use tape::Element;
 use tape::Entry;
+pub use text::andelura_window;
 use writer::Answer;
 
 // How many numbers keep a state: phase, nodes, entries, names, source, inner, depth, and the length that the last call gave.

@@ -18,10 +18,6 @@ use Rattle.bounds.proofs.Whole.{given-small}
 use Rattle.usx.specs.Answer.{answerNumber, answerLength, outcomeOf}
 use Rattle.usx.specs.declared.Answer.{Answer}
 use Rattle.usx.specs.declared.Answer.the-variants.{Written, Refused, NoRoom}
-use Rattle.usx.specs.Shown.{View, view, shownNumber, shownWhole, viewOf}
-use Rattle.usx.specs.declared.Shown.{Shown}
-use Rattle.usx.specs.declared.Shown.the-variants.{Given, Refused as Refused-window}
-use Rattle.cuts.proofs.Views.{whole-measured}
 use Rattle.window.specs.Page.{Page, pageOf}
 use Rattle.window.specs.declared.Window.{Window}
 
@@ -85,29 +81,3 @@ module _ (file out : Bytes) (r : Answer) (last : Bytes) (e : outcomeOf r last �
   pub told-no-room : {n : ℕ} → r ≡ NoRoom n → (8 + 16 * n ≡ outcome file out .number + 16 * outcome file out .given)
   unfolding answerNumber answerLength
   told-no-room {n} i = omega (arith, given-is (NoRoom n) i, number-is (NoRoom n) i)
-
--- the same of a window
-module _ (file : Bytes) (from : ℕ) (out : Bytes) (r : Shown) (last : Bytes) (e : viewOf r last ≡ view file from out) where
-  whole-is : (a : Shown) → r ≡ a → shownWhole a ≡ view file from out .whole
-  unfolding viewOf
-  whole-is a i = ap shownWhole (sym i) ∙ ap (λ (v : View). v .whole) e
-
-  shown-is : (a : Shown) → r ≡ a → shownNumber a ≡ view file from out .number
-  unfolding viewOf
-  shown-is a i = ap shownNumber (sym i) ∙ ap (λ (v : View). v .number) e
-
-  pub room-shown : {n w : ℕ} → r ≡ Given n w → 16 * w < 2 ^ 64
-  unfolding shownWhole
-  room-shown {n} {w} i = omega (arith, whole-is (Given n w) i, whole-measured file from out out, given-small file out)
-
-  pub shown-buffer : last ≡ view file from out .buffer
-  unfolding viewOf
-  shown-buffer = ap (λ (v : View). v .buffer) e
-
-  pub told-shown : {n w : ℕ} → r ≡ Given n w → (16 * w ≡ view file from out .number + 16 * view file from out .whole)
-  unfolding shownNumber shownWhole
-  told-shown {n} {w} i = omega (arith, whole-is (Given n w) i, shown-is (Given n w) i)
-
-  pub told-unshown : {n m : ℕ} → r ≡ Refused-window n → m ≡ n → (m ≡ view file from out .number + 16 * view file from out .whole)
-  unfolding shownNumber shownWhole
-  told-unshown {n} {m} i w = omega (arith, w, whole-is (Refused-window n) i, shown-is (Refused-window n) i)

@@ -11,11 +11,9 @@ ghost use Rattle.admit.specs.Refusal.{Refusal};
 ghost use Rattle.checker.specs.Answer.{answerOf};
 ghost use Rattle.checker.specs.Check.{foldVerdict};
 ghost use Rattle.events.specs.Text.{outcome};
-ghost use Rattle.usx.specs.Shown.{view};
 use admit::Admitted;
 use checker::Verdict;
 use usx::Answer;
-use usx::Shown;
 use window::Window;
 
 // A text with its escapes behind `at` bytes, in a window that starts at `from`; the bytes written so far.
@@ -116,17 +114,5 @@ pub extern "C" fn bench_serialize(file: &[u8], out: &mut [u8]) -> usize
         Answer::Written(n) => 16 * n,
         Answer::Refused(n) => long(n),
         Answer::NoRoom(n) => 8 + 16 * n,
-    }
-}
-
-// What `window` answers for a file, a start and a buffer: document 01's number, and sixteen times the length of the whole text.
-#[no_mangle]
-pub extern "C" fn bench_window(file: &[u8], from: usize, out: &mut [u8]) -> usize
-    ensures answer { λ r. ⌜ r ≡ view (now (file .entry)) from (now (out .entry)) .number + 16 * view (now (file .entry)) from (now (out .entry)) .whole ⌝ }
-    ensures buffer { λ _. ⌜ now (out .exit) ≡ view (now (file .entry)) from (now (out .entry)) .buffer ⌝ }
-{
-    match usx::window(file, from, out) {
-        Shown::Given { bytes: _, whole } => 16 * whole,
-        Shown::Refused(n) => long(n),
     }
 }

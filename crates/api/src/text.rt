@@ -1,0 +1,42 @@
+// The text of a tape, for C: over a lent buffer and lent numbers, which tell its lengths.
+ghost use mathlib.Core.Path.{_≡_};
+ghost use lib.ListN.{set};
+ghost use Rattle.usx.specs.Shown.{view};
+ghost use Rattle.api.specs.Told.{Showed};
+use crate::from_count;
+use crate::wide;
+use usx::Shown;
+
+// Stores a number at a place, where there is one.
+fn tell(numbers: &mut [u64], at: usize, n: usize)
+    ensures { λ _. ⌜ now (numbers .exit) ≡ set (now (numbers .entry)) at n ⌝ }
+{
+    if at < numbers.len() {
+        numbers[at] = from_count(n);
+    }
+}
+
+// Shows the bytes of a tape file's text from one on, as many as the buffer has room for. Gives document 01's number, 0 where they are shown; of the numbers
+// 0 becomes how many bytes are shown and 1 how long the whole text is.
+#[no_mangle]
+pub extern "C" fn andelura_window(
+    file: &[u8],
+    from: usize,
+    out: &mut [u8],
+    numbers: &mut [u64],
+) -> u32
+    ensures { λ r. ⌜ Showed (view (now (file .entry)) from (now (out .entry))) (now (numbers .entry)) r (now (numbers .exit)) (now (out .exit)) ⌝ }
+{
+    match usx::window(file, from, out) {
+        Shown::Given { bytes, whole } => {
+            tell(numbers, 0, bytes);
+            tell(numbers, 1, whole);
+            0
+        }
+        Shown::Refused(n) => {
+            tell(numbers, 0, 0);
+            tell(numbers, 1, 0);
+            wide(n)
+        }
+    }
+}
