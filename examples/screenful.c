@@ -8,28 +8,18 @@
  *
  * scripts/example screenful builds it on x86-64 and on Arm; by hand, on x86-64:
  *
- *     rt staticlib api && cc examples/screenful.c target/staticlib/libapi.a -o screenful
+ *     rt staticlib api && cc examples/screenful.c -I include target/staticlib/libapi.a -o screenful
  */
 #include <errno.h>
-#include <stdint.h>
 #include <stdio.h>
 #include <stdlib.h>
 #include <string.h>
 
-/*
- * Of libapi.a: writes the text's bytes from number `from` on to the front of `out`, as many as it has room for, and no other byte of it. Gives 0, or the number of a refusal,
- * which writes nothing; numbers[0] becomes how many bytes are shown and numbers[1] how long the whole text is. No two of the three slices may overlap.
- */
-uint32_t andelura_window(const uint8_t *file, size_t size, size_t from, uint8_t *out, size_t room, uint64_t *numbers, size_t count);
+#include "andelura.h"
 
-enum {
-    LINES = 24,
-    COLUMNS = 80,
-    /* the longest tape file: header, nodes, entries, names, source */
-    LONGEST = 36 + 16 * 262144 + 8 * 1024 + 16384 + 4194304
-};
+enum { LINES = 24, COLUMNS = 80 };
 
-static uint8_t tape[LONGEST + 1];
+static uint8_t tape[ANDELURA_LONGEST_TAPE + 1];
 static uint8_t screen[LINES * COLUMNS];
 
 /* What is wrong with the call, or with reading and writing. */
@@ -58,20 +48,20 @@ int main(int words, char **word) {
     if (ferror(book))
         return failed(word[1], strerror(errno));
     fclose(book);
-    if (size > LONGEST) {
-        fprintf(stderr, "screenful: %s: longer than any tape file, which has at most %d bytes\n", word[1], LONGEST);
+    if (size > ANDELURA_LONGEST_TAPE) {
+        fprintf(stderr, "screenful: %s: longer than any tape file, which has at most %d bytes\n", word[1], ANDELURA_LONGEST_TAPE);
         return 1;
     }
 
-    uint64_t numbers[2];
-    uint32_t refused = andelura_window(tape, size, from, screen, sizeof screen, numbers, 2);
+    uint64_t numbers[ANDELURA_WINDOW_NUMBERS];
+    uint32_t refused = andelura_window(tape, size, from, screen, sizeof screen, numbers, ANDELURA_WINDOW_NUMBERS);
     if (refused) {
         fprintf(stderr, "screenful: %s: refused by number %u: docs/REFUSALS.md says what was found and what to do\n", word[1], (unsigned)refused);
         return 1;
     }
-    size_t shown = (size_t)numbers[0];
+    size_t shown = (size_t)numbers[ANDELURA_WINDOW_BYTES];
     if (fwrite(screen, 1, shown, stdout) != shown || fflush(stdout))
         return failed("standard output", strerror(errno));
-    fprintf(stderr, "\nbytes %zu to %zu of %llu\n", from, from + shown, (unsigned long long)numbers[1]);
+    fprintf(stderr, "\nbytes %zu to %zu of %llu\n", from, from + shown, (unsigned long long)numbers[ANDELURA_WINDOW_WHOLE]);
     return 0;
 }

@@ -5,11 +5,11 @@ mod raw {
         pub fn bench_escape_xml(out: *mut u8, room: usize, at: usize, from: usize, s: *const u8, len: usize) -> usize;
         pub fn bench_escape_xml_attr(out: *mut u8, room: usize, at: usize, from: usize, s: *const u8, len: usize) -> usize;
         pub fn bench_admit(file: *const u8, len: usize) -> u32;
-        pub fn bench_check(text: *const u8, len: usize) -> u32;
         pub fn bench_body(out: *mut u8, room: usize, at: usize, from: usize, s: *const u8, len: usize) -> usize;
         pub fn bench_is_utf8(s: *const u8, len: usize) -> usize;
-        pub fn bench_serialize(file: *const u8, len: usize, out: *mut u8, room: usize) -> usize;
         pub fn bench_put_number(out: *mut u8, room: usize, at: usize, from: usize, n: u32) -> usize;
+        pub fn andelura_check(text: *const u8, len: usize, numbers: *mut u64, count: usize) -> u32;
+        pub fn andelura_serialize(file: *const u8, len: usize, out: *mut u8, room: usize, numbers: *mut u64, count: usize) -> u32;
         pub fn andelura_window(file: *const u8, len: usize, from: usize, out: *mut u8, room: usize, numbers: *mut u64, count: usize) -> u32;
         pub fn andelura_tape_start(state: *mut u64, states: usize, buf: *mut u8, room: usize) -> u32;
         pub fn andelura_tape_entry(state: *mut u64, states: usize, buf: *mut u8, room: usize, names: *const u8, size: usize, start: u32, len: u16, category: u8, element: u8) -> u32;
@@ -54,13 +54,15 @@ pub fn admit(file: &[u8]) -> u32 {
 
 /// The number that a finished text is given, 0 where it is accepted.
 pub fn check(text: &[u8]) -> u32 {
-    unsafe { raw::bench_check(text.as_ptr(), text.len()) }
+    let mut numbers = [0; 4];
+    unsafe { raw::andelura_check(text.as_ptr(), text.len(), numbers.as_mut_ptr(), numbers.len()) }
 }
 
 /// What `serialize` answers for a file and a buffer: document 01's number, and the length given.
 pub fn serialize(file: &[u8], out: &mut [u8]) -> (u8, usize) {
-    let answer = unsafe { raw::bench_serialize(file.as_ptr(), file.len(), out.as_mut_ptr(), out.len()) };
-    ((answer % 16) as u8, answer / 16)
+    let mut numbers = [0; 1];
+    let number = unsafe { raw::andelura_serialize(file.as_ptr(), file.len(), out.as_mut_ptr(), out.len(), numbers.as_mut_ptr(), numbers.len()) };
+    (number as u8, numbers[0] as usize)
 }
 
 /// What `window` answers for a file, a starting byte and a buffer: document 01's number, how many bytes are given, and the length of the whole text.

@@ -2,6 +2,7 @@
 
 use crate::cst::Cursor;
 use crate::marker::TapeTable;
+use crate::serialize::tape_file::{self, ExportError};
 use crate::tape::{Node, NodeKind, Tape};
 
 /// marker.rs names its tables by version; a tape brings its own table.
@@ -12,7 +13,7 @@ pub(crate) enum Version {
     V3_2,
 }
 
-/// An admitted tape with its source and its marker table. usx.rs adds `to_usx`.
+/// A tape with its source and its marker table. usx.rs adds `to_usx`, which asks for an admitted one.
 pub struct Document<'src> {
     source: &'src str,
     table: TapeTable,
@@ -28,6 +29,11 @@ impl<'src> Document<'src> {
     pub(crate) fn implicit_chapter(&self) -> u16 {
         let has_chapter = self.tape.nodes.iter().any(|n| n.kind == NodeKind::Chapter);
         if has_chapter { 0 } else { 1 }
+    }
+
+    /// The tape file that the exporter makes of this.
+    pub fn to_tape_file(&self) -> Result<Vec<u8>, ExportError> {
+        tape_file::export(&self.tape, self.table.table(), self.source)
     }
 
     /// A cursor at Root.

@@ -28,6 +28,7 @@ pub mod check;
 pub mod check_cases;
 mod document;
 pub mod dump;
+pub mod export;
 pub mod generate;
 pub mod loader;
 pub mod names;
@@ -42,3 +43,4 @@ pub mod writer;
 
 pub use document::Document;
 use document::Version;
+pub use serialize::tape_file::ExportError;

@@ -31,8 +31,24 @@ pub fn load(file: &[u8]) -> Result<Document<'_>, Refusal> {
     let nodes = good_nodes(&sections, source, &entries)?;
     not_too_deep(&nodes)?;
     nested(&nodes)?;
+    Ok(for_rust(source, names, &entries, &nodes))
+}
+
+fn for_rust<'a>(source: &'a str, names: &str, entries: &[TapeEntry], nodes: &[RawNode]) -> Document<'a> {
     let tape = Tape { nodes: nodes.iter().map(RawNode::for_rust).collect() };
-    Ok(Document::new(source, TapeTable::new(names, &entries), tape))
+    Document::new(source, TapeTable::new(names, entries), tape)
+}
+
+/// The Rust's tape of a file, admitted or not; none where the Rust's types cannot hold what the file says.
+pub(crate) fn held(file: &[u8]) -> Option<Document<'_>> {
+    let sections = laid_out(file).ok()?;
+    let source = utf8_source(sections.source).ok()?;
+    let names = std::str::from_utf8(sections.names).ok()?;
+    let entries = all_entries(&sections, names).ok()?;
+    let records = sections.nodes.chunks_exact(NODE_BYTES as usize);
+    let nodes = records.map(|r| raw_node(r).ok()).collect::<Option<Vec<_>>>()?;
+    let whole = entries.iter().all(|e| names.get(e.name.clone()).is_some());
+    whole.then(|| for_rust(source, names, &entries, &nodes))
 }
 
 // --- 1: the layout ---------------------------------------------------------
@@ -102,9 +118,12 @@ fn utf8_source(source: &[u8]) -> Result<&str, Refusal> {
 fn good_entries<'a>(s: &Sections<'a>) -> Result<(&'a str, Vec<TapeEntry>), Refusal> {
     demand(s.names.iter().all(|b| (0x21..=0x7E).contains(b)), 4)?;
     let names = std::str::from_utf8(s.names).expect("ASCII");
+    Ok((names, all_entries(s, names)?))
+}
+
+fn all_entries(s: &Sections<'_>, names: &str) -> Result<Vec<TapeEntry>, Refusal> {
     let records = s.entries.chunks_exact(ENTRY_BYTES as usize);
-    let entries: Result<_, _> = records.map(|r| good_entry(r, names.len())).collect();
-    Ok((names, entries?))
+    records.map(|r| good_entry(r, names.len())).collect()
 }
 
 fn good_entry(record: &[u8], names: usize) -> Result<TapeEntry, Refusal> {
@@ -200,7 +219,8 @@ fn good_nodes(s: &Sections<'_>, source: &str, entries: &[TapeEntry]) -> Result<V
     records.enumerate().map(|(i, r)| good_node(i, r, source, entries)).collect()
 }
 
-fn good_node(i: usize, r: &[u8], source: &str, entries: &[TapeEntry]) -> Result<RawNode, Refusal> {
+/// A node whose kind and flags the Rust has.
+fn raw_node(r: &[u8]) -> Result<RawNode, Refusal> {
     let node = RawNode {
         kind: kind(r[0]).ok_or(Refusal(5))?,
         flags: r[1],
@@ -210,6 +230,11 @@ fn good_node(i: usize, r: &[u8], source: &str, entries: &[TapeEntry]) -> Result<
         length: u32_at(r, 12),
     };
     demand(node.flags <= FLAG_SYNTHETIC | FLAG_NESTED, 5)?;
+    Ok(node)
+}
+
+fn good_node(i: usize, r: &[u8], source: &str, entries: &[TapeEntry]) -> Result<RawNode, Refusal> {
+    let node = raw_node(r)?;
     demand((node.kind == NodeKind::Root) == (i == 0), 5)?;
     let text = span_text(&node, source).ok_or(Refusal(5))?;
     let entry = entries.get(usize::from(node.marker));

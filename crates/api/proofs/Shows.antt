@@ -1,13 +1,41 @@
--- What a call for a window leaves, from what its parts ensure.
+-- What the calls for a text and for a window leave, from what their parts ensure.
 use mathlib.Core.Path.{_≡_, refl, sym, ap, _∙_}
 use mathlib.Core.List.{List}
 use Prim.Native.Nat.{ℕ}
 use lib.ListN.{set}
 use Rattle.parts.specs.Bytes.{Bytes}
+use Rattle.events.specs.Text.{Outcome}
+use Rattle.usx.specs.declared.Answer.{Answer}
+use Rattle.usx.specs.declared.Answer.the-variants.{Written, Refused as Barred, NoRoom}
+use Rattle.usx.specs.Answer.{answerNumber, answerLength, outcomeOf}
 use Rattle.usx.specs.Shown.{View, shownNumber, shownBytes, shownWhole, viewOf}
 use Rattle.usx.specs.declared.Shown.{Shown}
 use Rattle.usx.specs.declared.Shown.the-variants.{Given, Refused}
-use Rattle.api.specs.Told.{Showed}
+use Rattle.api.specs.Told.{Wrote, Showed}
+
+module _ {o : Outcome} {a : Answer} {last : Bytes} (e : outcomeOf a last ≡ o) {before after : List ℕ} where
+  -- a length told
+  wrote : (b : Answer) → a ≡ b → after ≡ set before 0 (answerLength b) → {number : ℕ} → number ≡ answerNumber b → Wrote o before number after last
+  unfolding outcomeOf
+  wrote b i ea en =
+      let is : outcomeOf b last ≡ o = ap (λ (x : Answer). outcomeOf x last) (sym i) ∙ e in
+      record {
+        answer = en ∙ ap (λ (w : Outcome). w .number) is;
+        told = ea ∙ ap (λ (w : Outcome). set before 0 (w .given)) is;
+        buffer = ap (λ (w : Outcome). w .buffer) is;
+      }
+
+  pub written-wrote : {n : ℕ} → a ≡ Written n → after ≡ set before 0 n → Wrote o before 0 after last
+  unfolding answerNumber answerLength
+  written-wrote {n} i ea = wrote (Written n) i ea refl
+
+  pub refused-wrote : {n number : ℕ} → a ≡ Barred n → after ≡ set before 0 0 → number ≡ n → Wrote o before number after last
+  unfolding answerNumber answerLength
+  refused-wrote {n} i ea en = wrote (Barred n) i ea en
+
+  pub no-room-wrote : {n : ℕ} → a ≡ NoRoom n → after ≡ set before 0 n → Wrote o before 8 after last
+  unfolding answerNumber answerLength
+  no-room-wrote {n} i ea = wrote (NoRoom n) i ea refl
 
 module _ {v : View} {s : Shown} {last : Bytes} (e : viewOf s last ≡ v) {before mid after : List ℕ} where
   -- both lengths told, one behind the other

@@ -1,4 +1,5 @@
-// For C: the steps of writing a tape, over a lent buffer and lent numbers, which keep the state; and a tape's text. A slice passes as pointer and length.
+// For C: the steps of writing a tape, over a lent buffer and lent numbers, which keep the state; a tape's text; and what is said of a text and of names. A slice passes as pointer and length.
+mod review;
 mod text;
 
 ghost use mathlib.Core.Path.{_≡_};
@@ -10,9 +11,12 @@ ghost use Rattle.tape.specs.Kind as kinds;
 ghost use Rattle.writer.specs.Steps.{Started, Finished, nodeWith, closeKind};
 ghost use Rattle.api.specs.Numbers.{stateLen, phaseIn, writerIn, keptIn, storedIn, Called, takes, entryWith};
 use layout::Writer;
+pub use review::andelura_check;
+pub use review::andelura_find_names;
 use tape::Category;
 use tape::Element;
 use tape::Entry;
+pub use text::andelura_serialize;
 pub use text::andelura_window;
 use writer::Answer;
 

@@ -5,7 +5,7 @@ use std::process::ExitCode;
 
 use oracle::generate::Cuts;
 use oracle::{
-    answer, both_sides, check, check_cases, dump, names, notation, rebuild, rendered, replay, steps, windows,
+    answer, both_sides, check, check_cases, dump, export, names, notation, rebuild, rendered, replay, steps, windows,
 };
 
 const USAGE: &str = "usage: oracle print   one tape on standard input, printed as the printing program prints it
@@ -25,6 +25,7 @@ const USAGE: &str = "usage: oracle print   one tape on standard input, printed a
        oracle both-sides  the tapes of document 01's examples 1 to 13 and its listing, as a stream
        oracle steps   a stream of lists of steps to what the second tape writer answers
        oracle rebuild-check  a stream of tapes, each written anew by the second tape writer and compared
+       oracle export-check  a stream of tapes, each exported from what the loader read and compared
        oracle tape NOTATION  the tape of docs/DIFFERENCES.md's notation, on standard output";
 
 fn main() -> ExitCode {
@@ -46,6 +47,7 @@ fn main() -> ExitCode {
         ["both-sides"] => both_sides::write(BufWriter::new(io::stdout().lock())),
         ["steps"] => steps::stream(io::stdin().lock(), BufWriter::new(io::stdout().lock())),
         ["rebuild-check"] => rebuild::check(io::stdin().lock(), io::stdout().lock()),
+        ["export-check"] => export::check(io::stdin().lock(), io::stdout().lock()),
         ["stream"] => answer::stream(io::stdin().lock(), BufWriter::new(io::stdout().lock())),
         _ => {
             eprintln!("{USAGE}");
