@@ -67,6 +67,8 @@ mod expat {
 
 /// Those that build.rs found.
 fn readers() -> Vec<Reader> {
+    // Nothing is added where neither library is installed.
+    #[allow(unused_mut)]
     let mut all: Vec<Reader> = Vec::new();
     #[cfg(libxml2)]
     all.extend([("libxml2, events", libxml2::events as fn(&[u8]) -> bool), ("libxml2, tree", libxml2::tree)]);
