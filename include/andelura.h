@@ -8,7 +8,7 @@
  *   - a pointer is not null and aligned for its type, and as many elements as its length says may be read there (and written, where it is not const), also where the
  *     length is 0: then nothing is read, and any address of something of that type will do;
  *   - no two slices of one call overlap;
- *   - the calling thread has 640 KiB of stack left (scripts/stack measures it).
+ *   - the calling thread has 640 KiB of stack left (scripts/stack and rust/andelura/tests/stack.rs measure it; no theorem bounds it).
  *
  * Lent numbers: a function that tells several numbers stores each at its place of `numbers`, as far as `numbers_len` reaches, and changes no other.
  * docs/REFUSALS.md says of each refusal what was found and what to do.

@@ -1,2 +1,3 @@
 pub mod Shows
 pub mod Reviews
+pub mod One

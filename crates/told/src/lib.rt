@@ -8,15 +8,13 @@ pub use review::find_names;
 pub use text::serialize;
 pub use text::window;
 
-// A number of 8 bits as one of 32.
-pub fn wide(x: u8) -> u32
+fn wide(x: u8) -> u32
     ensures { λ r. ⌜ r ≡ x ⌝ }
 {
     x as u32
 }
 
-// A length as a number of 64 bits.
-pub fn from_count(x: usize) -> u64
+fn from_count(x: usize) -> u64
     ensures { λ r. ⌜ r ≡ x ⌝ }
 {
     x as u64

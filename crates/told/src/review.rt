@@ -1,4 +1,4 @@
-// What is said of a finished text and of a tape's names, for C: over lent numbers at fixed places.
+// What is said of a finished text and of a tape's names, told in lent numbers.
 ghost use mathlib.Core.Path.{_≡_};
 ghost use lib.ListN.{set};
 ghost use Rattle.checker.specs.Answer.{answerOf};
@@ -82,8 +82,7 @@ fn line_of(text: &[u8], v: Verdict, at: usize) -> usize
     checker::line_of(text, at)
 }
 
-// Checks a finished text. Gives document 01's number, 0 where it is accepted; of the numbers 0 becomes how many chapters start and 1 how many verses, both 0
-// where the text is refused; 2 how many bytes stand before the place where the rule broke and 3 the line of that place, both 0 where it is accepted.
+// The answer to a finished text; its counts become numbers 0 and 1, the place where the rule broke 2 and its line 3.
 pub fn check(text: &[u8], numbers: &mut [u64]) -> u32
     ensures { λ r. ⌜ Checked (now (text .entry)) (now (numbers .entry)) r (now (numbers .exit)) ⌝ }
 {
@@ -128,9 +127,7 @@ fn source_line(file: &[u8], at: usize) -> usize
     checker::line_of(tape::source(file, Sections::of(file)), at)
 }
 
-// Looks for the first name of a tape file that breaks the proviso. Gives document 01's number, 0 where the file is admitted; of the numbers 0 becomes what the
-// name is (1 book code, 2 label, 3 marker name, 4 key), 1 its node, 2 its first byte of the source, 3 how many bytes it has and 4 its line of the source; all
-// become 0 where every name is kept, or the file is refused.
+// The first name of a tape file that breaks the proviso, told by `tell_name`; all numbers become 0 where there is none.
 pub fn find_names(file: &[u8], numbers: &mut [u64]) -> u32
     ensures { λ r. ⌜ Named (now (file .entry)) (now (numbers .entry)) r (now (numbers .exit)) ⌝ }
 {

@@ -1,4 +1,4 @@
-// The text of a tape, for C: over a lent buffer and lent numbers, which tell its lengths.
+// The text of a tape and a window of it, their lengths told in lent numbers.
 ghost use mathlib.Core.Path.{_≡_};
 ghost use lib.ListN.{set};
 ghost use Rattle.events.specs.Text.{outcome};
@@ -21,8 +21,7 @@ pub fn tell(numbers: &mut [u64], at: usize, n: usize)
     }
 }
 
-// Writes the USX text of a tape file at the front of a buffer. Gives document 01's number, 0 where it is written; of the numbers 0 becomes the text's
-// length, also where 8 says that it is more than there is room for, and 0 where the file is refused.
+// The USX text of a tape file at the front of a buffer; number 0 becomes the length that the answer gives.
 pub fn serialize(file: &[u8], out: &mut [u8], numbers: &mut [u64]) -> u32
     ensures { λ r. ⌜ Wrote (outcome (now (file .entry)) (now (out .entry))) (now (numbers .entry)) r (now (numbers .exit)) (now (out .exit)) ⌝ }
 {
@@ -42,8 +41,7 @@ pub fn serialize(file: &[u8], out: &mut [u8], numbers: &mut [u64]) -> u32
     }
 }
 
-// Shows the bytes of a tape file's text from one on, as many as the buffer has room for. Gives document 01's number, 0 where they are shown; of the numbers
-// 0 becomes how many bytes are shown and 1 how long the whole text is.
+// The bytes of that text from one on; number 0 becomes how many are shown and 1 how long the whole text is.
 pub fn window(file: &[u8], from: usize, out: &mut [u8], numbers: &mut [u64]) -> u32
     ensures { λ r. ⌜ Showed (view (now (file .entry)) from (now (out .entry))) (now (numbers .entry)) r (now (numbers .exit)) (now (out .exit)) ⌝ }
 {
