@@ -15,7 +15,7 @@ use Rattle.events.specs.Event.{Event, rawly}
 use Rattle.events.specs.Pairing.{State, chapterId, verseId, after, endOf, chapterAttrs, verseAttrs, bookItems, itemsOf, lastEnds, paired}
 use Rattle.events.specs.Text.{firstState}
 use Rattle.events.specs.Walk.{eventsOf}
-use Rattle.grammar.specs.Grammar.{a-text, a-line, an-empty, a-chapter, a-verse, Written, by-itself, of-book, opening, closing, AllWritten}
+use Rattle.grammar.specs.Grammar.{a-text, a-line, an-empty, a-chapter, a-verse, an-aside, a-back, Written, by-itself, of-book, opening, closing, AllWritten}
 use Rattle.grammar.proofs.Written.{walk-written, given-range}
 use Rattle.milestones.specs.Seen.{pairs, tokenOf, seen}
 use Rattle.accepts.specs.Proviso.{Free}
@@ -100,6 +100,8 @@ agree-event s js (by-itself (a-chapter {n} {alt} {published})) i g =
     (agree-end _ (agree-end _ (agree-empty js g 3 _ (chapter-mark (s .book) n alt published i)) 3 (s .chapter)) 4 (s .verse))
 agree-event s js (by-itself (a-verse k {alt} {published} v)) i g =
     rw append-assoc (agree-end _ (agree-empty js g 4 _ (verse-mark (s .book) (s .number) _ alt published i)) 4 (s .verse))
+agree-event s js (by-itself an-aside) i g = g
+agree-event s js (by-itself a-back) i g = g
 agree-event s js (of-book k o r) i g = agree-book _ _ js g
 agree-event s js (opening {n} {qs} a) i g = agree-start js g n qs
 agree-event s js (closing {n} a) i g = agree-close js g n

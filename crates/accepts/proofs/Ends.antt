@@ -14,7 +14,7 @@ use Rattle.tags.specs.Items.{Attr, Item, start, empty, close, text, line, value
 use Rattle.checker.specs.View.{start as starts, bare, markOn}
 use Rattle.checker.specs.Words.{Kind, IsStart}
 use Rattle.checker.proofs.Tags.{start-exact}
-use Rattle.events.specs.Event.{Event, item, chapter, verse, book, rawly}
+use Rattle.events.specs.Event.{Event, item, chapter, verse, book, aside, back, rawly}
 use Rattle.events.specs.Pairing.{State, after, endOf, verseAttrs, bookItems, itemsOf, lastEnds, paired}
 use Rattle.events.specs.Text.{firstState, itemsOfTape}
 use Rattle.events.specs.Walk.{eventsOf}
@@ -83,6 +83,8 @@ ahead-verse s i e (chapter n alt published ∷ es) js p = subst (Ahead 4 i) (sym
 ahead-verse s i e (verse label alt published ∷ es) js p = subst (Ahead 4 i) (sym (verse-paired s label alt published es js)) (rw e (ahead-now 4 i _))
 ahead-verse s i e (book code rest ∷ es) js p =
     rw append-assoc (ahead-past 4 i (bookItems code rest) _ (no-book 4 i (λ x. omega arith) code rest) (ahead-verse (after s (book code rest)) i e es js p))
+ahead-verse s i e (aside ∷ es) js p = ahead-verse s i e es js p
+ahead-verse s i e (back ∷ es) js p = ahead-verse s i e es js p
 
 -- a chapter
 ahead-chapter : (s : State) (i : Bytes) → s .chapter ≡ some i → (es : List Event) (js : List Item) → PlainEvents es → Ahead 3 i (paired s es ++ js)
@@ -98,6 +100,8 @@ ahead-chapter s i e (verse label alt published ∷ es) js p =
     (ahead-past 3 i (empty 4 (verseAttrs (s .book) (s .number) label alt published) ∷ []) _ (λ x. omega arith, tt) (ahead-chapter (after s (verse label alt published)) i e es js p)))
 ahead-chapter s i e (book code rest ∷ es) js p =
     rw append-assoc (ahead-past 3 i (bookItems code rest) _ (no-book 3 i (λ x. omega arith) code rest) (ahead-chapter (after s (book code rest)) i e es js p))
+ahead-chapter s i e (aside ∷ es) js p = ahead-chapter s i e es js p
+ahead-chapter s i e (back ∷ es) js p = ahead-chapter s i e es js p
 
 -- ---- the bytes of both
 
@@ -171,6 +175,8 @@ each-ended s (chapter n alt published ∷ es) js p =
 each-ended s (verse label alt published ∷ es) js p =
     (ended 4 _ _ _ (verse-sid (s .book) (s .number) label alt published) (ahead-verse (after s (verse label alt published)) _ refl es js p), each-ended (after s (verse label alt published)) es js p)
 each-ended s (book code rest ∷ es) js p = each-ended (after s (book code rest)) es js p
+each-ended s (aside ∷ es) js p = each-ended s es js p
+each-ended s (back ∷ es) js p = each-ended s es js p
 
 -- ---- every tape
 
@@ -215,6 +221,8 @@ names-ids s (verse label alt published ∷ es) js =
     let r = names-ids (after s (verse label alt published)) es js in
     (λ h. (f .0 (h .0), r .0 (h .1)), λ h. (f .1 (h .0), r .1 (h .1)))
 names-ids s (book code rest ∷ es) js = names-ids (after s (book code rest)) es js
+names-ids s (aside ∷ es) js = names-ids s es js
+names-ids s (back ∷ es) js = names-ids s es js
 
 -- no start of the text differs from its end exactly where no written chapter and verse has one of the four bytes in its book code or its label
 pub names-agree : (t : Tape) → AllAgree t ↔ WrittenFree t

@@ -18,7 +18,7 @@ use Rattle.events.specs.Event.{Event}
 use Rattle.events.specs.Pairing.{State, after}
 use Rattle.events.specs.Text.{firstState}
 use Rattle.events.specs.Walk.{id, roleOf, eventsOf}
-use Rattle.grammar.specs.Grammar.{Given, a-text, a-line, an-empty, a-chapter, a-verse, Written, by-itself, of-book, opening, closing, AllWritten}
+use Rattle.grammar.specs.Grammar.{Given, a-text, a-line, an-empty, a-chapter, a-verse, an-aside, a-back, Written, by-itself, of-book, opening, closing, AllWritten}
 use Rattle.grammar.proofs.Written.{walk-written}
 use Rattle.grammar.proofs.Attrs.{Keys, given-attrs}
 use Rattle.accepts.specs.Proviso.{hasSpecial, Free, What, code, label, marker, Name, nameWhere, isId, hasCode, collectsAs, keysOf, namesOf, AllFree, Proviso}
@@ -82,6 +82,8 @@ module _ (t : Tape) (p : Proviso t) where
   kept-event s (by-itself (an-empty a)) h = (given-legal a, h)
   kept-event s (by-itself (a-chapter {n})) h = (free-chapter (s .book) n .0 h, h)
   kept-event s (by-itself (a-verse k v)) h = (free-verse (s .book) (s .number) (labelOf t k) .0 (h, kept-label t p k v), h)
+  kept-event s (by-itself an-aside) h = (tt, h)
+  kept-event s (by-itself a-back) h = (tt, h)
   kept-event s (of-book k o r) h = (free-clean (bookCode t k) (kept-code t p k o r), kept-code t p k o r)
   kept-event s (opening a) h = (given-legal a, h)
   kept-event s (closing a) h = (tt, h)

@@ -23,7 +23,7 @@ use Rattle.events.specs.Event.{Event, rawly, escaped}
 use Rattle.events.specs.Pairing.{State, after, endOf, chapterAttrs, verseAttrs, bookAttrs, bookItems, itemsOf, lastEnds, paired}
 use Rattle.events.specs.Text.{firstState, itemsOfTape, textOf}
 use Rattle.events.specs.Walk.{eventsOf}
-use Rattle.grammar.specs.Grammar.{a-text, a-line, an-empty, a-chapter, a-verse, Written, by-itself, of-book, opening, closing, AllWritten}
+use Rattle.grammar.specs.Grammar.{a-text, a-line, an-empty, a-chapter, a-verse, an-aside, a-back, Written, by-itself, of-book, opening, closing, AllWritten}
 use Rattle.grammar.proofs.Written.{walk-written, given-name}
 use Rattle.grammar.proofs.Attrs.{fixedStyles, fixedKeys, OfEach, AttrsOf, no-attr, a-style, a-value, chapter-attrs, verse-attrs}
 use Rattle.accepts.specs.Proviso.{hasSpecial, Free}
@@ -100,6 +100,8 @@ open-after s (by-itself a-line) g h = h
 open-after s (by-itself (an-empty a)) g h = h
 open-after s (by-itself a-chapter) g h = record { chapter = g; verse = tt }
 open-after s (by-itself (a-verse k v)) g h = record { chapter = h .chapter; verse = g }
+open-after s (by-itself an-aside) g h = h
+open-after s (by-itself a-back) g h = h
 open-after s (of-book k o r) g h = record { chapter = h .chapter; verse = h .verse }
 open-after s (opening a) g h = h
 open-after s (closing a) g h = h
@@ -147,6 +149,8 @@ event-legal s js (by-itself (a-chapter {n} {alt} {published})) i h g =
     (legal-end 4 (s .verse) _ is-verse (h .verse) (legal-end 3 (s .chapter) _ is-chapter (h .chapter) (legal-empty is-chapter (chapter-legal (s .book) n alt published) g)))
 event-legal s js (by-itself (a-verse k {alt} {published} v)) i h g =
     rw append-assoc (legal-end 4 (s .verse) _ is-verse (h .verse) (legal-empty is-verse (verse-legal (s .book) (s .number) _ alt published) g))
+event-legal s js (by-itself an-aside) i h g = g
+event-legal s js (by-itself a-back) i h g = g
 event-legal s js (of-book k o r) i h g = book-legal _ _ js i g
 event-legal s js (opening a) i h g = a-start (given-name a) i g
 event-legal s js (closing a) i h g = a-close (given-name a) g

@@ -10,7 +10,7 @@ use Rattle.tags.specs.Items.{Attr, Item, start, empty, close, text, line}
 use Rattle.checker.specs.View.{Mark, start as starts, ends, View, single, view}
 use Rattle.checker.specs.Words.{Kind, IsStart}
 use Rattle.checker.proofs.Tags.{start-exact}
-use Rattle.events.specs.Event.{Event, item, chapter, verse, book, rawly}
+use Rattle.events.specs.Event.{Event, item, chapter, verse, book, aside, back, rawly}
 use Rattle.events.specs.Pairing.{State, chapterId, verseId, after, endOf, chapterAttrs, verseAttrs, bookItems, itemsOf, lastEnds, paired}
 use Rattle.events.proofs.Emits.{chapter-items, verse-items}
 use Rattle.milestones.specs.Seen.{pairs, tokenOf, PlainItem, PlainEvents}
@@ -85,6 +85,8 @@ module _ (P : ℕ → List Attr → Bytes → List Item → Type 0) where
       P 4 (verseAttrs (s .book) (s .number) label alt published) (verseId (s .book) (s .number) label) (paired (after s (verse label alt published)) es ++ js)
       × EachId (after s (verse label alt published)) es js
   EachId s (book code rest ∷ es) js = EachId (after s (book code rest)) es js
+  EachId s (aside ∷ es) js = EachId s es js
+  EachId s (back ∷ es) js = EachId s es js
 
   -- ---- by places
 
@@ -142,6 +144,8 @@ module _ (P : ℕ → List Attr → Bytes → List Item → Type 0) where
       (each-tag 4 _ _ _ (verse-seen (s .book) (s .number) label alt published) (f .0) (each-paired (after s (verse label alt published)) es js p (f .1) h)))
   each-paired s (book code rest ∷ es) js p f h =
       rw append-assoc (each-book code rest _ (each-paired (after s (book code rest)) es js p f h))
+  each-paired s (aside ∷ es) js p f h = each-paired s es js p f h
+  each-paired s (back ∷ es) js p f h = each-paired s es js p f h
 
   -- ---- and back
 
@@ -175,3 +179,5 @@ module _ (P : ℕ → List Attr → Bytes → List Item → Type 0) where
   each-id s (book code rest ∷ es) js h =
       each-id (after s (book code rest)) es js
       (past-book code rest _ (subst Each (append-assoc (bookItems code rest) (paired (after s (book code rest)) es) js) h))
+  each-id s (aside ∷ es) js h = each-id s es js h
+  each-id s (back ∷ es) js h = each-id s es js h

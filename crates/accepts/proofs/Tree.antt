@@ -27,7 +27,7 @@ use Rattle.events.specs.Emit.{emitted, afterAll}
 use Rattle.events.specs.Text.{firstState, itemsOfTape}
 use Rattle.events.specs.Walk.{eventsOf}
 use Rattle.events.proofs.Emits.{emitted-append, paired-emitted}
-use Rattle.grammar.specs.Grammar.{Leaf, a-text, a-line, an-empty, a-chapter, a-verse, Grown, none, leaf, a-book, around}
+use Rattle.grammar.specs.Grammar.{Leaf, a-text, a-line, an-empty, a-chapter, a-verse, an-aside, a-back, Grown, none, leaf, a-book, around}
 use Rattle.grammar.proofs.Walk.{walk-grown}
 use Rattle.grammar.proofs.Written.{given-range}
 use Rattle.accepts.proofs.Heights.{Low, low-end, low-words, low-open, low-close, low-single, low-height}
@@ -110,6 +110,8 @@ same-leaf st s js a-chapter =
 same-leaf st s js (a-verse k v) =
     rw append-assoc
     (then-same (same-end st _ 4 (s .verse) (not-usx 4 (omega arith))) (same-empty st js 4 _ (not-usx 4 (omega arith))))
+same-leaf st s js an-aside = record { tree = refl; low = λ l. l }
+same-leaf st s js a-back = record { tree = refl; low = λ l. l }
 
 same-book : (st : List ℕ) (code rest : Bytes) (js : List Item) → length st < 132 → Same st (bookItems code rest ++ js) js
 unfolding bookItems

@@ -13,7 +13,7 @@ use Rattle.admit.specs.Refusal.{Refusal}
 use Rattle.admit.specs.Decide.{refusal}
 use Rattle.checker.specs.Words.{Judged}
 use Rattle.checker.specs.Answer.{accepted as acceptedWith}
-use Rattle.events.specs.Event.{Event, item, chapter, verse, book}
+use Rattle.events.specs.Event.{Event, item, chapter, verse, book, aside, back}
 use Rattle.events.specs.Pairing.{State, after}
 use Rattle.events.specs.Text.{firstState, textOf, Outcome, fitting, outcomeBy, outcome}
 use Rattle.events.specs.Walk.{eventsOf}
@@ -40,6 +40,8 @@ sound-names s (item i ∷ es) h = sound-names s es (h .1)
 sound-names s (chapter n alt published ∷ es) h = (free-chapter (s .book) n .1 (h .0), sound-names (after s (chapter n alt published)) es (h .1))
 sound-names s (verse label alt published ∷ es) h = (free-verse (s .book) (s .number) label .1 (h .0), sound-names (after s (verse label alt published)) es (h .1))
 sound-names s (book code rest ∷ es) h = sound-names (after s (book code rest)) es (h .1)
+sound-names s (aside ∷ es) h = sound-names s es (h .1)
+sound-names s (back ∷ es) h = sound-names s es (h .1)
 
 -- where a tape keeps the proviso every start and the end that belongs to it have equal bytes
 pub kept-agree : (t : Tape) → Proviso t → AllAgree t

@@ -7,7 +7,7 @@ use Rattle.parts.specs.Bytes.{Bytes}
 use Rattle.tape.specs.File.{Tape}
 use Rattle.tags.specs.Items.{Attr, Item, start, empty, close, text, line, pairsOf}
 use Rattle.checker.specs.Words.{Kind, IsStart, IsEnd}
-use Rattle.events.specs.Event.{Event, item, chapter, verse, book}
+use Rattle.events.specs.Event.{Event, item, chapter, verse, book, aside, back}
 use Rattle.events.specs.Pairing.{State, after}
 use Rattle.events.specs.Text.{firstState, itemsOfTape}
 use Rattle.events.specs.Walk.{eventsOf}
@@ -59,6 +59,8 @@ FreeNames s (item i ∷ es) = FreeNames s es
 FreeNames s (chapter n alt published ∷ es) = Free (s .book) × FreeNames (after s (chapter n alt published)) es
 FreeNames s (verse label alt published ∷ es) = (Free (s .book) × Free label) × FreeNames (after s (verse label alt published)) es
 FreeNames s (book code rest ∷ es) = FreeNames (after s (book code rest)) es
+FreeNames s (aside ∷ es) = FreeNames s es
+FreeNames s (back ∷ es) = FreeNames s es
 
 -- those of a tape
 abbrev pub WrittenFree : Tape → Type 0

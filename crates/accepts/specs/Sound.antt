@@ -4,7 +4,7 @@ use Rattle.tape.specs.File.{Tape}
 use Rattle.tags.specs.Write.{Clean}
 use Rattle.tags.specs.Items.{Item, start, empty, close, text, line, LegalAttrs}
 use Rattle.tags.specs.declared.Class.the-variants.{Value}
-use Rattle.events.specs.Event.{Event, item, chapter, verse, book}
+use Rattle.events.specs.Event.{Event, item, chapter, verse, book, aside, back}
 use Rattle.events.specs.Pairing.{State, chapterId, verseId, after}
 use Rattle.events.specs.Text.{firstState}
 use Rattle.events.specs.Walk.{eventsOf}
@@ -24,6 +24,8 @@ SoundEvent s (item i) = SoundItem i
 SoundEvent s (chapter n alt published) = Free (chapterId (s .book) n)
 SoundEvent s (verse label alt published) = Free (verseId (s .book) (s .number) label)
 SoundEvent s (book code rest) = Clean Value code
+SoundEvent s aside = Unit {0}
+SoundEvent s back = Unit {0}
 
 -- events one behind the other, each in the state that those before it leave
 abbrev pub SoundEvents : State → List Event → Type 0

@@ -10,7 +10,7 @@ use Rattle.tape.specs.declared.Sections.{Sections}
 use Rattle.nest.specs.Nest.{TooDeep, Sound}
 use Rattle.nest.proofs.Tape.{clash}
 use Rattle.admit.specs.Rules.{LaidOut, Small, GoodNames, GoodNodes}
-use Rattle.admit.specs.Refusal.{Kept₁, Kept₂, Kept₃, Kept₄, Kept₅, Kept₆, Refusal, none, first, second, third, fourth, fifth, sixth, seventh, refusalNumber, answerWith}
+use Rattle.admit.specs.Refusal.{Kept₁, Kept₂, Kept₃, Kept₄, Kept₅, Refusal, none, first, second, third, fourth, fifth, sixth, seventh, refusalNumber, answerWith}
 use Rattle.admit.specs.declared.Admitted.{Admitted}
 use Rattle.admit.specs.declared.Admitted.the-variants.{Tape, Refused}
 use Rattle.admit.proofs.All.{holds, fails}
@@ -63,28 +63,29 @@ module _ (file : Bytes) {b₁ : Bool} (a₁ : (b₁ ≡ true) ↔ LaidOut file) 
           unfolding refusalNumber answerWith
           gives-5 h = (fifth kept₄ (fails (rw tape-is at a₅) h), refl)
 
-          module _ {b₆ : Bool} (h₅ : not b₅ ≡ false) (a₆ : (b₆ ≡ true) ↔ TooDeep (tapeIn t file .nodes)) where
+          module _ {b₇ : Bool} (h₅ : not b₅ ≡ false) (a₇ : (b₇ ≡ true) ↔ Sound (tapeIn t file .nodes)) where
             kept₅ : Kept₅ file
             kept₅ = record { kept = kept₄; nodes = holds (rw tape-is at a₅) h₅ }
 
-            deep-is : (b₆ ≡ true) ↔ TooDeep (tapeOf file .nodes)
-            deep-is = rw tape-is at a₆
+            sound-is : (b₇ ≡ true) ↔ Sound (tapeOf file .nodes)
+            sound-is = rw tape-is at a₇
 
-            pub gives-6 : b₆ ≡ true → Right file (Refused 6)
+            pub gives-0 : b₇ ≡ true → Right file (Tape t)
             unfolding refusalNumber answerWith
-            gives-6 h = (sixth kept₅ (deep-is .0 h), refl)
+            gives-0 h =
+                let s = sound-is .0 h in
+                (none (record { kept = record { kept = kept₅; shallow = s .shallow }; nested = s .nested }), ap Tape et)
 
-            module _ {b₇ : Bool} (h₆ : b₆ ≡ false) (a₇ : (b₇ ≡ true) ↔ Sound (tapeIn t file .nodes)) where
-              kept₆ : Kept₆ file
-              kept₆ = record { kept = kept₅; shallow = λ d. clash (deep-is .1 d) h₆ }
+            module _ {b₆ : Bool} (h₇ : b₇ ≡ false) (a₆ : (b₆ ≡ true) ↔ TooDeep (tapeIn t file .nodes)) where
+              deep-is : (b₆ ≡ true) ↔ TooDeep (tapeOf file .nodes)
+              deep-is = rw tape-is at a₆
 
-              sound-is : (b₇ ≡ true) ↔ Sound (tapeOf file .nodes)
-              sound-is = rw tape-is at a₇
-
-              pub gives-7 : not b₇ ≡ true → Right file (Refused 7)
+              pub gives-6 : b₆ ≡ true → Right file (Refused 6)
               unfolding refusalNumber answerWith
-              gives-7 h = (seventh kept₆ (λ n. fails sound-is h (record { shallow = kept₆ .shallow; nested = n })), refl)
+              gives-6 h = (sixth kept₅ (deep-is .0 h), refl)
 
-              pub gives-0 : not b₇ ≡ false → Right file (Tape t)
+              pub gives-7 : b₆ ≡ false → Right file (Refused 7)
               unfolding refusalNumber answerWith
-              gives-0 h = (none (record { kept = kept₆; nested = holds sound-is h .nested }), ap Tape et)
+              gives-7 h =
+                  let s : TooDeep (tapeOf file .nodes) → ⊥ = λ d. clash (deep-is .1 d) h in
+                  (seventh (record { kept = kept₅; shallow = s }) (λ n. clash (sound-is .1 (record { shallow = s; nested = n })) h₇), refl)

@@ -7,7 +7,7 @@ use Rattle.chars.specs.Range.{within, inAny}
 use Rattle.chars.specs.Utf8.{table37, fits, rowLen, seqLen, step, cutAt, characters, isSequence, every, isUtf8, point, codeOf, isBoundary}
 use Rattle.chars.specs.Space.{whiteSpace, isWhite}
 use Rattle.words.specs.Words.{stepOf, charsOf, white, takeWhile, onto, pieces, nonempty, words}
-use Rattle.tape.specs.File.{le16, le32, nodeOf, entryOf, recordsOf, tapeIn, sectionsOf, tapeOf, nodeAt, entryAt, textAt, bearsMarker, infoAt, elementOf, baseLen}
+use Rattle.tape.specs.File.{le16, le32, nodeFields, nodeOf, entryFields, entryOf, recordsOf, tapeIn, sectionsOf, tapeOf, nodeAt, entryAt, textAt, bearsMarker, infoAt, elementOf, baseLen}
 use Rattle.tape.specs.Name.{strip, bare, endsName, inName, nameIn, markerName}
 use Rattle.nest.specs.Nest.{container, close, partOf}
 use Rattle.nest.specs.Decide.{deepFrom, tooDeep, awaited, matchFrom, allMatched, rootEnds, sound}
@@ -91,5 +91,5 @@ by : {f : Bytes} {n : ℕ} → refusal f ≡ n → Refusal f n
 by {f} e = subst (Refusal f) e (refusal-right f)
 
 pub examples : Each Holds table
-unfolding flatten begins within inAny table37 fits rowLen seqLen step cutAt characters isSequence every isUtf8 point codeOf isBoundary whiteSpace isWhite stepOf charsOf white takeWhile onto pieces nonempty words le16 le32 nodeOf entryOf recordsOf tapeIn sectionsOf tapeOf nodeAt entryAt textAt bearsMarker infoAt strip bare endsName inName nameIn markerName container close partOf deepFrom tooDeep awaited matchFrom allMatched rootEnds sound baseLen elementOf allBelow laidOut small goodByte goodEntry goodNames labelCut goodNode goodNodes refusalIn refusal
+unfolding flatten begins within inAny table37 fits rowLen seqLen step cutAt characters isSequence every isUtf8 point codeOf isBoundary whiteSpace isWhite stepOf charsOf white takeWhile onto pieces nonempty words le16 le32 nodeFields nodeOf entryFields entryOf recordsOf tapeIn sectionsOf tapeOf nodeAt entryAt textAt bearsMarker infoAt strip bare endsName inName nameIn markerName container close partOf deepFrom tooDeep awaited matchFrom allMatched rootEnds sound baseLen elementOf allBelow laidOut small goodByte goodEntry goodNames labelCut goodNode goodNodes refusalIn refusal
 examples = (by refl, (by refl, (by refl, (by refl, (by refl, (by refl, (by refl, (by refl, (by refl, (by refl, (by refl, (by refl, (by refl, (by refl, (by refl, (by refl, tt))))))))))))))))

@@ -14,7 +14,7 @@ use Rattle.parts.specs.Bytes.{Bytes, part}
 use Rattle.chars.specs.Utf8.{characters, isBoundary}
 use Rattle.words.specs.Words.{words}
 use Rattle.words.specs.declared.Set.the-variants.{Unicode}
-use Rattle.tape.specs.File.{tapeIn, nodeAt, textAt, infoAt, baseLen}
+use Rattle.tape.specs.File.{tapeIn, nodeAt, kindAt, textAt, infoAt, baseLen}
 use Rattle.tape.specs.Name.{bare, nameLen, nameIn, markerName}
 use Rattle.tape.specs.declared.Node.{Node}
 use Rattle.tape.specs.declared.Sections.{Sections}
@@ -74,8 +74,8 @@ module _ (c : Sections) (file : Bytes) (k : ℕ) {z : Cursor} {base : ℕ} (ez :
     pub label-clear : {enders gaps : List ℕ} → b ≡ true → Tables (tapeIn c file .source) enders gaps → SoundNode (tapeIn c file) k → (true ≡ true) ↔ GoodLabel (tapeIn c file) k
     label-clear h t g = yes-is (λ l. cut-is l ∙ h)
 
-    pub clear-verse : {n : Node} → n ≡ nodeAt (tapeIn c file) k → n .kind .code ≡ 7 → b ≡ true → GoodVerse (tapeIn c file) k
-    clear-verse er h e v l = cut-is l ∙ e
+    pub clear-verse : b ≡ true → GoodVerse (tapeIn c file) k
+    clear-verse e v l = cut-is l ∙ e
 
     name-fits : length name ≤ length text
     name-fits = bare-fits text en
@@ -182,12 +182,13 @@ module _ (c : Sections) (file : Bytes) (k : ℕ) {z : Cursor} {base : ℕ} (ez :
 
 -- ---- Verses
 
+pub clear-other : (c : Sections) (file : Bytes) (k : ℕ) {z : Cursor} {x : ℕ} → z .at ≡ k → x ≡ kindAt (tapeIn c file) (z .at) → (x ≡ 7 → ⊥)
+    → true ≡ true → GoodVerse (tapeIn c file) k
+clear-other c file k ez ex h e v = absurd (h (ex ∙ ap (kindAt (tapeIn c file)) ez ∙ v))
+
 module _ (c : Sections) (file : Bytes) (k : ℕ) {n : Node} (er : n ≡ nodeAt (tapeIn c file) k) where
   other : (n .kind .code ≡ 7 → ⊥) → GoodVerse (tapeIn c file) k
   other h v = absurd (h (ap (λ (m : Node). m .kind .code) er ∙ v))
-
-  pub clear-other : (n .kind .code ≡ 7 → ⊥) → true ≡ true → GoodVerse (tapeIn c file) k
-  clear-other h e = other h
 
   module _ {enders gaps : List ℕ} where
     pub verse-other : (n .kind .code ≡ 7 → ⊥) → Tables (tapeIn c file .source) enders gaps → SoundNode (tapeIn c file) k → (true ≡ true) ↔ GoodVerse (tapeIn c file) k

@@ -14,9 +14,8 @@ use tape::long;
 fn is_clear(file: &[u8], t: Sections, k: u32) -> bool
     ensures { λ r. ⌜ (r ≡ true → GoodVerse (tapeIn t (now (file .entry))) k) ⌝ }
 {
-    let n = tape::node_at(file, t, k);
-    if n.kind.code == Kind::VERSE {
-        let c = Cursor::new(k);
+    let c = Cursor::new(k);
+    if c.kind(file, t).code == Kind::VERSE {
         let base = c.base_len(file, t);
         return chars::is_boundary(tape::bare(c.text(file, t)), base);
     }

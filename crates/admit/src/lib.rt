@@ -35,11 +35,11 @@ pub fn admit(file: &[u8]) -> Admitted
     if !nodes::good_nodes(file, t) {
         return Admitted::Refused(5);
     }
+    if nest::nests(file, t) {
+        return Admitted::Tape(t);
+    }
     if nest::too_deep(file, t) {
         return Admitted::Refused(6);
     }
-    if !nest::nests(file, t) {
-        return Admitted::Refused(7);
-    }
-    Admitted::Tape(t)
+    Admitted::Refused(7)
 }

@@ -25,13 +25,15 @@ use Rattle.lists.proofs.Nodes.{nodes-go}
 use Rattle.tags.specs.Items.{start, close, line, valueOf, attrBytes, attrsBytes, bytesOf}
 use Rattle.tags.specs.Names.{nameOf}
 use Rattle.events.specs.Event.{Event, item, chapter, rawly, element}
-use Rattle.events.specs.Walk.{styled, Place, aRow, aChapter, aSidebar, aPeriph, aBlock, aVerse, dropped, placeOf, nodeIn, inside, inlineAll, tableE, blockTurn, blocksAll, blocksOn}
+use Rattle.events.specs.Walk.{styled, Place, aRow, aChapter, aSidebar, aPeriph, aBlock, aVerse, dropped, placeOf, isFigure, nodeIn, inside, inlineAll, tableE, blockTurn, blocksAll, blocksOn}
 use Rattle.events.specs.Emit.{Desk, emit, emitAll}
-use Rattle.events.proofs.Emits.{between, then}
+use Rattle.events.proofs.Emits.{between, then, besides-on}
 use Rattle.events.proofs.Turns.{blocks-turn}
 use Rattle.sink.specs.Desk.{deskIn, putOn}
 use Rattle.sink.specs.declared.Sink.{Sink}
 use Rattle.sink.proofs.Chains.{item-on}
+use Rattle.turns.specs.Turn.{behindOf}
+use Rattle.turns.specs.declared.Behind.the-variants.{Ends}
 use Rattle.tables.specs.Rows.{isNoRow}
 use Rattle.tables.proofs.Spans.{up-row}
 use Rattle.blocks.specs.Blocks.{holderOf, runOpens, runIn, uncut, stepBehind}
@@ -158,6 +160,7 @@ block-step t span k d level {n = n} sink a out mid {r} ea ed er en B =
     ∙ then (deskIn (t .source) a mid) (nodeIn (inside t d) t k false) (blocksAll B t d level (nodesIn t span (nextSibling t k)))
     (er ∙ ap (λ (j : ℕ). emitAll (deskIn (t .source) a mid) (nodeIn (inside t j) t k false)) ed)
     ∙ ap (λ (u : Desk). emitAll u (nodeIn (inside t d) t k false ++ blocksAll B t d level (nodesIn t span (nextSibling t k)))) (ea (t .source))
+    ∙ besides-on (deskIn (t .source) sink out) (isFigure t (infoAt t k)) (item (line level) ∷ nodeIn (inside t d) t k false) (blocksAll B t d level (nodesIn t span (nextSibling t k)))
 
 -- ---- a verse
 
@@ -187,11 +190,11 @@ run-opened l sink a r out mid last ea er source =
 
 pub run-whole : (t : Tape) (sifted : Bool) (c : Cursor) (d level : ℕ) {j : ℕ} (sink a e r : Sink) (out mid now last : Bytes)
     → ((source : Bytes) → deskIn source a mid ≡ emitAll (deskIn source sink out) (runOpens level)) → j ≡ d
-    → deskIn (t .source) e now ≡ emitAll (deskIn (t .source) a mid) (inlineAll (nodeIn (inside t j) t) t false true (nodesIn t (record { cut = true; sifted = sifted }) (At c)))
+    → deskIn (t .source) e now ≡ emitAll (deskIn (t .source) a mid) (inlineAll (nodeIn (inside t j) t) t (behindOf t c false Ends) true (nodesIn t (record { cut = true; sifted = sifted }) (At c)))
     → ((source : Bytes) → deskIn source r last ≡ putOn (deskIn source e now) (b "</para>"))
     → memberOf t (uncut sifted) (c .at) ≡ Listed → isTopLevelBlock t (c .at) ≡ false
     → deskIn (t .source) r last ≡ emitAll (deskIn (t .source) sink out) (runIn t d level (c .at) (nodesIn t (uncut sifted) (nextSibling t (c .at))))
-unfolding runOpens runIn element emitAll
+unfolding runOpens runIn element emitAll behindOf
 run-whole t sifted c d level sink a e r out mid now last ea ed ee er hm hb =
     between (deskIn (t .source) sink out) (runOpens level) (inlineAll (nodeIn (inside t d) t) t false true (c .at ∷ upTo (isTopLevelBlock t) (nodesIn t (uncut sifted) (nextSibling t (c .at))))) (item (close 5) ∷ [])
     (ea (t .source))

@@ -38,6 +38,7 @@ use tape::Element;
 use tape::Kind;
 use tape::Sections;
 use tape::Step;
+use turns::Behind;
 
 // What a node holds blocks as.
 pub enum Holder {
@@ -129,7 +130,19 @@ fn verse_para(
     let run = Span { cut: true, sifted };
     let a = open_run(level as usize, sink, out);
     let depth = depth_at(level);
-    let e = inline::inline(file, tape, solids, run, Step::At(c), depth, false, a, out);
+    let e = inline::inline(
+        file,
+        tape,
+        solids,
+        run,
+        c,
+        Step::At(c),
+        depth,
+        false,
+        Behind::Ends,
+        a,
+        out,
+    );
     literal(e, out, b"</para>")
 }
 

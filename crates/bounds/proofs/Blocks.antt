@@ -6,7 +6,7 @@ use Prim.Native.Nat.{ℕ, zero, suc, _+_, _*_, _≤_}
 use native.Mathlib.Omega.{arith}
 use lib.ListN.{length}
 use Rattle.parts.specs.Bytes.{Bytes, b}
-use Rattle.tape.specs.File.{Tape, tapeOf, numberAt}
+use Rattle.tape.specs.File.{Tape, tapeOf, infoAt, numberAt}
 use Rattle.tape.specs.Tree.{children, upTo, without}
 use Rattle.tape.specs.Name.{markerName}
 use Rattle.render.specs.Shape.{isRow, isTopLevelBlock, isCategoryMarker}
@@ -20,9 +20,9 @@ use Rattle.fold.specs.Fold.{foldAt}
 use Rattle.tags.specs.Items.{Attr, start, empty, close, line, bytesOf}
 use Rattle.admit.specs.Refusal.{Kept₇}
 use Rattle.events.specs.Event.{Event, item, chapter, rawly, escaped, perhaps, collected, element}
-use Rattle.events.specs.Walk.{style, styled, unclosed, asInline, nodeIn, inside, isCell, cellIn, cellsAlong, cells, rowE, rowsE, tableE, holder, sidebarIn, periphIn, Place, aRow, aChapter, aSidebar, aPeriph, aBlock, aVerse, dropped, placeOf, Blocks, blockTurn, blocksFrom, blocksAll, blocksE}
+use Rattle.events.specs.Walk.{style, styled, unclosed, asInline, nodeIn, inside, isCell, cellIn, cellsAlong, cells, rowE, rowsE, tableE, holder, sidebarIn, periphIn, Place, aRow, aChapter, aSidebar, aPeriph, aBlock, aVerse, dropped, placeOf, isFigure, Blocks, blockTurn, blocksFrom, blocksAll, blocksE}
 use Rattle.bounds.proofs.Items.{attrCost, attrsCost, attrs-append, start-most, empty-most, close-most, line-most}
-use Rattle.bounds.proofs.Light.{sizeOr, Light, nil, more, light-most, light-append, light-item, light-one, light-element, perhaps-most}
+use Rattle.bounds.proofs.Light.{sizeOr, Light, nil, more, light-most, light-append, light-item, light-one, light-element, light-besides, perhaps-most}
 use Rattle.bounds.proofs.Mass.{cost, under, sizeOf, sizes, mass, mass-is, cost-next, size-some, without-mass, cut-mass}
 use Rattle.bounds.proofs.Parts.{category-limit, alt-limit, attributes-limit, style-limit, unclosed-limit, fold-limit}
 use Rattle.bounds.proofs.Inside.{two-cost, more-cost, escaped-cost, own-cost, node-light, mass-more, text-cost, inline-light, under-next, inside-light}
@@ -212,7 +212,7 @@ module _ (file : Bytes) (z : Kept₇ file) where
     turn-light level low k ks aBlock =
         record {
           weight = 1000 + cost d (sizeOf t k);
-          written = line-light level (omega arith) (node-light file z d (inside t d) (inside-light file z d) k false) (omega arith);
+          written = light-besides (isFigure t (infoAt t k)) (line-light level (omega arith) (node-light file z d (inside t d) (inside-light file z d) k false) (omega arith));
           left = omega (arith, mass-more file z (suc d) k ks, cost-next d (sizeOf t k), size-some file z k);
         }
     turn-light level low k ks aVerse =

@@ -29,7 +29,7 @@ use Rattle.admit.specs.Refusal.{Kept₇}
 use Rattle.events.specs.Event.{Event, item, chapter, verse, book, rawly, escaped, perhaps, collected, element}
 use Rattle.events.specs.Walk.{unbroken, breaks, segmented, broken, style, styled, unclosed, Manner, asInline, asNote, Role, unknownBlock, unknownInline, unwritten, figure, ref, id, note, ms, char, para, roleOf, canLink, linkOf, linked, figureAs, markerAs, nodeIn, Child, anchor, words, passed, marker, childOf, noteChildOf, Turn, normalized, inlineTurn, inlineFrom, inlineAll, noteText, noteTurn, noteAll, inside, NoteChild, direct, leftOut, entered, Noted}
 use Rattle.bounds.proofs.Items.{attrCost, attrsCost, attrs-append, empty-most, text-most}
-use Rattle.bounds.proofs.Light.{sizeOr, Light, nil, more, light-most, light-append, light-item, light-one, light-element, perhaps-most}
+use Rattle.bounds.proofs.Light.{sizeOr, Light, nil, more, light-most, light-append, light-item, light-one, light-element, light-asided, perhaps-most}
 use Rattle.bounds.proofs.Mass.{cost, cost-least, cost-most, under, cost-under, under-most, sizeOf, sizes, mass, mass-is, size-some, inner-size}
 use Rattle.bounds.proofs.Lengths.{weigh, after-most, written-most, segments-weigh}
 use Rattle.bounds.proofs.Parts.{text-limit, label-limit, code-limit, rest-limit, caller-limit, category-limit, field-limit, legacy-limit, attributes-limit, first-limit, style-limit, unclosed-limit, fold-limit}
@@ -107,11 +107,13 @@ module _ (file : Bytes) (z : Kept₇ file) where
     figure-light : (k : ℕ) (outer : Bool) (s : Step) → Light (1000000000 + 1000000000 * inner k + under d (inner k)) (figureAs f t k outer s)
     unfolding figureAs captionOf
     figure-light k outer (At a) =
-        light-element {m = 6 * length (fieldAt t (a .at) 4)} 9 (styled (b "fig") ++ collected (legacyPairs t k (a .at))) (light-item (text (fieldAt t (a .at) 4)) (text-most (fieldAt t (a .at) 4)))
-        (omega (arith, fig-cost, legacy-limit file z k (a .at), field-limit file z (a .at) 4, attrs-append (styled (b "fig")) (collected (legacyPairs t k (a .at)))))
+        light-asided
+        (light-element {m = 6 * length (fieldAt t (a .at) 4)} 9 (styled (b "fig") ++ collected (legacyPairs t k (a .at))) (light-item (text (fieldAt t (a .at) 4)) (text-most (fieldAt t (a .at) 4)))
+        (omega (arith, fig-cost, legacy-limit file z k (a .at), field-limit file z (a .at) 4, attrs-append (styled (b "fig")) (collected (legacyPairs t k (a .at))))))
     figure-light k outer Done =
-        light-element 9 (styled (b "fig") ++ collected (attributesOf t k (b "fig"))) (light asInline k outer)
-        (omega (arith, fig-cost, attributes-limit file z k (b "fig"), attrs-append (styled (b "fig")) (collected (attributesOf t k (b "fig")))))
+        light-asided
+        (light-element 9 (styled (b "fig") ++ collected (attributesOf t k (b "fig"))) (light asInline k outer)
+        (omega (arith, fig-cost, attributes-limit file z k (b "fig"), attrs-append (styled (b "fig")) (collected (attributesOf t k (b "fig"))))))
 
     link-limit : (k : ℕ) → sizeOr (linkOf t k) ≤ 50000000 * inner k
     unfolding linkOf sizeOr
@@ -140,7 +142,8 @@ module _ (file : Bytes) (z : Kept₇ file) where
     marker-light k outer note =
         let c = escaped (b "caller") (noteCaller t k) in
         let q = perhaps (b "category") (writtenCategory t k) in
-        light-element 7 (c ∷ style t k ∷ q) (light asNote k outer)
+        light-asided
+        (light-element 7 (c ∷ style t k ∷ q) (light asNote k outer)
         (omega (
           arith,
           more-cost c (style t k ∷ q),
@@ -150,7 +153,7 @@ module _ (file : Bytes) (z : Kept₇ file) where
           style-limit file z k,
           perhaps-most (b "category") (writtenCategory t k),
           category-limit file z k,
-        ))
+        )))
     marker-light k outer ms =
         let q = collected (attributesOf t k (markerName t k)) in
         light-item (empty 8 (style t k ∷ q)) (omega (arith, empty-most 8 (style t k ∷ q), more-cost (style t k) q, style-limit file z k, attributes-limit file z k (markerName t k)))

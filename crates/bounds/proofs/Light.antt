@@ -1,4 +1,5 @@
 -- What events may cost, and that the text of events costs no more.
+use mathlib.Core.Bool.{Bool, true, false}
 use mathlib.Core.List.{List, [], _∷_, _++_}
 use mathlib.Core.Option.{Option, none, some}
 use Prim.Native.Nat.{ℕ, _+_, _*_, _≤_}
@@ -8,7 +9,7 @@ use Rattle.parts.specs.Bytes.{Bytes, b}
 use Rattle.chars.specs.Decimal.{decimal}
 use Rattle.chars.proofs.Digits.{decimal-length}
 use Rattle.tags.specs.Items.{Attr, Item, empty, close, bytesOf}
-use Rattle.events.specs.Event.{Event, item, chapter, verse, book, rawly, escaped, perhaps, element}
+use Rattle.events.specs.Event.{Event, item, chapter, verse, book, aside, back, rawly, escaped, perhaps, element, asided, besides}
 use Rattle.events.specs.Pairing.{State, chapterId, verseId, after, endOf, chapterAttrs, verseAttrs, bookAttrs, bookItems, itemsOf, lastEnds, paired}
 use Rattle.bounds.proofs.Items.{attrCost, attrsCost, attrs-append, start-most, empty-most, close-most, text-most, itemsCost, items-append}
 
@@ -23,6 +24,8 @@ Fits n (item i) = length (bytesOf i) ≤ n
 Fits n (chapter c alt published) = 400000000 + 6 * (sizeOr alt + sizeOr published) ≤ n
 Fits n (verse label alt published) = (length label ≤ 9000000) × (400000000 + 6 * (sizeOr alt + sizeOr published) ≤ n)
 Fits n (book code rest) = (length code ≤ 9000000) × (400000000 + 6 * length rest ≤ n)
+Fits n aside = Unit {0}
+Fits n back = Unit {0}
 
 -- events cost at most so much
 pub data Light : ℕ → List Event → Type 0 where
@@ -49,6 +52,16 @@ unfolding element
 light-element {m} {n} i qs l h =
     more (200 + attrsCost qs) (m + 200) n (start-most i qs) (light-append l (light-item (close i) (close-most i)) (omega arith)) (omega arith)
 
+-- what stands aside costs nothing more
+pub light-asided : {n : ℕ} {es : List Event} → Light n es → Light n (asided es)
+unfolding asided
+light-asided {n} l = more 0 n n tt (light-append l (light-one {n = 0} tt) (omega arith)) (omega arith)
+
+pub light-besides : {n : ℕ} (one : Bool) {es : List Event} → Light n es → Light n (besides one es)
+unfolding besides
+light-besides true l = light-asided l
+light-besides false l = l
+
 -- ---- pairing
 
 -- an open identifier is no longer than a book's code and a label
@@ -74,6 +87,8 @@ small-after s z n (chapter c alt published) f =
 small-after s z n (verse label alt published) f =
     record { book = z .book; chapter = z .chapter; verse = omega (arith, verse-id (s .book) (s .number) label, z .book, f .0) }
 small-after s z n (book code rest) f = record { book = f .0; chapter = z .chapter; verse = z .verse }
+small-after s z n aside f = z
+small-after s z n back f = z
 
 pub perhaps-most : (key : Bytes) (v : Option Bytes) → attrsCost (perhaps key v) ≤ 4 + length key + 6 * sizeOr v
 unfolding perhaps sizeOr attrsCost attrCost escaped
@@ -150,6 +165,8 @@ items-most s z n (verse label alt published) f =
       items-append (endOf 4 (s .verse)) (empty 4 q ∷ []),
     )
 items-most s z n (book code rest) f = omega (arith, f .1, book-most code rest (f .0))
+items-most s z n aside f = omega arith
+items-most s z n back f = omega arith
 
 -- the items of events cost no more than the events, and two ends
 pub paired-most : {n : ℕ} (s : State) → Small s → (es : List Event) → Light n es → itemsCost (paired s es) ≤ n + 400000000

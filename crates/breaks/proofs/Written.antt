@@ -16,6 +16,8 @@ use Rattle.words.specs.declared.Set.the-variants.{Unicode}
 use Rattle.texts.specs.Text.{bodyOf, written, hasBreak, splitBreaks, segments}
 use Rattle.texts.specs.declared.Normalized.{Normalized}
 use Rattle.texts.proofs.Segments.{split-last, split-next, segments-bodies}
+use Rattle.prose.specs.Easy.{easy, innerOf, edged}
+use Rattle.prose.proofs.Easy.{easy-whole, easy-written}
 use Rattle.window.specs.Page.{pageOf, paint}
 use Rattle.window.specs.declared.Window.{Window}
 use Rattle.tags.specs.Items.{text, empty, bytesOf, attrsBytes}
@@ -39,6 +41,21 @@ module _ (s : Bytes) (n : Normalized) (sink : Sink) (out : Bytes) where
   pub unbroken-hidden : n .shows ≡ false → (source : Bytes) → deskIn source sink out ≡ emitAll (deskIn source sink out) (unbroken s n)
   unfolding unbroken emitAll
   unbroken-hidden h source = rw h
+
+  -- a body that is written as it stands
+  module _ {body : Bytes} (eb : body ≡ innerOf s) where
+    pub easy-shows : n .shows ≡ true → easy body ≡ true → {w v : Window} {r : Sink} {last : Bytes} → w ≡ windowIn sink → pageOf v last ≡ paint (pageOf w out) (edged body n) → r ≡ overBy sink v
+        → (source : Bytes) → deskIn source r last ≡ emitAll (deskIn source sink out) (unbroken s n)
+    easy-shows h e ew ev er source = unbroken-shows h ew (ev ∙ rw (eb, easy-written s (rw eb at e) n)) er source
+
+    module _ {t : Bool} (et : t ≡ easy body) (h : t ≡ true) (r : Sink) (last : Bytes)
+        (f : (s : Bytes) → body ≡ innerOf s → easy body ≡ true → (source : Bytes) → deskIn source r last ≡ emitAll (deskIn source sink out) (unbroken s n)) where
+      pub unbroken-easy : (source : Bytes) → deskIn source r last ≡ emitAll (deskIn source sink out) (unbroken s n)
+      unbroken-easy source = f s eb (sym et ∙ h) source
+
+      pub broken-easy : (source : Bytes) → deskIn source r last ≡ emitAll (deskIn source sink out) (broken s n)
+      unfolding broken
+      broken-easy source = rw (easy-whole s (rw eb at (sym et ∙ h))) (unbroken-easy source)
 
   module _ {x : Bool} (ex : x ≡ hasBreak (bodyOf s)) (r : Sink) (last : Bytes) where
     pub broken-split : x ≡ true → ((source : Bytes) → deskIn source r last ≡ emitAll (deskIn source sink out) (segmented (segments s)))

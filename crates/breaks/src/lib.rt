@@ -1,9 +1,11 @@
 // Normalized text, whole or broken at `//`.
 ghost use mathlib.Core.Path.{_≡_};
+ghost use mathlib.Core.Bool.{true};
 ghost use Prim.Native.Nat.{_<_};
 ghost use lib.ListN.{length};
 ghost use Rattle.parts.specs.Bytes.{Bytes};
 ghost use Rattle.texts.specs.Text.{segments};
+ghost use Rattle.prose.specs.Easy.{easy, innerOf};
 ghost use Rattle.tags.specs.Items.{text};
 ghost use Rattle.events.specs.Event.{item};
 ghost use Rattle.events.specs.Walk.{unbroken, segmented, broken};
@@ -14,8 +16,20 @@ use sink::Sink;
 use sink::literal;
 use texts::Normalized;
 
-// A text where it shows.
-pub fn put_unbroken(s: &[u8], n: Normalized, sink: Sink, out: &mut [u8]) -> Sink
+// A text where it shows, whose body is written as it stands.
+fn put_easy(body: &[u8], n: Normalized, sink: Sink, out: &mut [u8]) -> Sink
+    ensures { λ r. ⌜ ((s : Bytes) → now (body .entry) ≡ innerOf s → easy (now (body .entry)) ≡ true → (source : Bytes) → deskIn source r (now (out .exit)) ≡ emitAll (deskIn source sink (now (out .entry))) (unbroken s n)) ⌝ }
+{
+    if n.shows {
+        let w = prose::put_easy(sink.window(), out, body, n);
+        sink.over(w)
+    } else {
+        sink
+    }
+}
+
+// A text where it shows, word by word.
+fn put_worded(s: &[u8], n: Normalized, sink: Sink, out: &mut [u8]) -> Sink
     ensures { λ r. ⌜ ((source : Bytes) → deskIn source r (now (out .exit)) ≡ emitAll (deskIn source sink (now (out .entry))) (unbroken (now (s .entry)) n)) ⌝ }
 {
     if n.shows {
@@ -23,6 +37,18 @@ pub fn put_unbroken(s: &[u8], n: Normalized, sink: Sink, out: &mut [u8]) -> Sink
         sink.over(w)
     } else {
         sink
+    }
+}
+
+// A text where it shows.
+pub fn put_unbroken(s: &[u8], n: Normalized, sink: Sink, out: &mut [u8]) -> Sink
+    ensures { λ r. ⌜ ((source : Bytes) → deskIn source r (now (out .exit)) ≡ emitAll (deskIn source sink (now (out .entry))) (unbroken (now (s .entry)) n)) ⌝ }
+{
+    let body = prose::inner(s);
+    if prose::is_easy(body) {
+        put_easy(body, n, sink, out)
+    } else {
+        put_worded(s, n, sink, out)
     }
 }
 
@@ -71,13 +97,25 @@ fn put_segments(s: &[u8], sink: Sink, out: &mut [u8]) -> Sink
     v
 }
 
-// A text broken at each `//`, or whole.
-pub fn put_broken(s: &[u8], n: Normalized, sink: Sink, out: &mut [u8]) -> Sink
+// A text that is not easy, broken at each `//`, or whole.
+fn put_hard(s: &[u8], n: Normalized, sink: Sink, out: &mut [u8]) -> Sink
     ensures { λ r. ⌜ ((source : Bytes) → deskIn source r (now (out .exit)) ≡ emitAll (deskIn source sink (now (out .entry))) (broken (now (s .entry)) n)) ⌝ }
 {
     if texts::has_break(s) {
         put_segments(s, sink, out)
     } else {
-        put_unbroken(s, n, sink, out)
+        put_worded(s, n, sink, out)
+    }
+}
+
+// A text broken at each `//`, or whole.
+pub fn put_broken(s: &[u8], n: Normalized, sink: Sink, out: &mut [u8]) -> Sink
+    ensures { λ r. ⌜ ((source : Bytes) → deskIn source r (now (out .exit)) ≡ emitAll (deskIn source sink (now (out .entry))) (broken (now (s .entry)) n)) ⌝ }
+{
+    let body = prose::inner(s);
+    if prose::is_easy(body) {
+        put_easy(body, n, sink, out)
+    } else {
+        put_hard(s, n, sink, out)
     }
 }

@@ -4,16 +4,15 @@ use mathlib.Core.Bool.{Bool, true, false, cond, not, _&&_, and-false, and-true, 
 use mathlib.Core.List.{[], _∷_}
 use Prim.Native.Nat.{ℕ, _+_, _-_, _*_, _≤_, _<_}
 use native.Mathlib.Omega.{arith}
-use lib.ListN.{length, getD, take, drop, drop-of-length-le, length-drop}
-use lib.Seq.{drop-drop}
+use lib.ListN.{length, getD, take, drop, length-drop}
 use lib.Dec.{leb, eqb}
 use borrow.Author.Tests.{eq-eqb, ne-eqb, lt-ltb, le-ltb, le-leb, lt-leb, eqb-true, eqb-false, leb-true, leb-false, not-true, not-false}
 use Rattle.parts.specs.Bytes.{Bytes}
 use Rattle.parts.proofs.Laws.{drop-at}
 use Rattle.chars.specs.Range.{_to_, within, inAny}
-use Rattle.chars.specs.Utf8.{tail, table37, fits, rowLen, seqLen, step, isSequence, isUtf8, point, codeOf, firstChar, isBoundary}
+use Rattle.chars.specs.Utf8.{tail, table37, fits, rowLen, seqLen, step, isSequence, point, codeOf, firstChar, isBoundary}
 use Rattle.chars.specs.declared.Char.{Char}
-use Rattle.chars.proofs.Characters.{seq-le, seq-le-four, seq-is, byte-is-not, step-seq, step-byte, utf8-nil, utf8-first, utf8-not}
+use Rattle.chars.proofs.Characters.{seq-le, seq-le-four, seq-is, byte-is-not, step-seq, step-byte}
 use Rattle.chars.specs.Space.{isAsciiWhite}
 
 -- ---- ranges
@@ -253,26 +252,13 @@ module _ (s : Bytes) (n : length s ≡ 0 → ⊥) where
       → (240 ≤ getD s 0 0 → r ≡ seqLen (getD s 0 0 ∷ y ∷ z ∷ w ∷ [])) → r ≡ seqLen s
   len-four l f i j g = g l ∙ rw (f, i, j) (sym (len-at s n))
 
--- ---- UTF-8
+-- ---- the sequence at a place
 
 pub len-from : (s : Bytes) (i : ℕ) {r : Bytes} {n : ℕ} → r ≡ drop i s → n ≡ seqLen r → n ≡ seqLen (drop i s)
 len-from s i e f = rw (← e) f
 
 pub len-ascii : (s : Bytes) (i : ℕ) → i < length s → getD s i 0 < 128 → 1 ≡ seqLen (drop i s)
 len-ascii s i h l = len-one (drop i s) (λ e. omega (arith, length-drop i s)) (rw (drop-at s i h) l)
-
-module _ (s : Bytes) (i n : ℕ) (h : i < length s) (e : n ≡ seqLen (drop i s)) where
-  pub utf8-turn : {t : Bool} → (n ≡ 0 → ⊥) → isUtf8 (drop i s) ≡ t → isUtf8 (drop (i + n) s) ≡ t
-  utf8-turn z inv = rw (← drop-drop n i s, e) (sym (utf8-first (drop i s) (omega arith)) ∙ inv)
-
-  pub utf8-within : (n ≡ 0 → ⊥) → i + n ≤ length s
-  utf8-within z = omega (arith, seq-le (drop i s), length-drop i s)
-
-  pub utf8-stop : {t : Bool} → n ≡ 0 → isUtf8 (drop i s) ≡ t → false ≡ t
-  utf8-stop z inv = sym (utf8-not (drop i s) (omega (arith, length-drop i s)) (sym e ∙ z)) ∙ inv
-
-pub utf8-end : (s : Bytes) (i : ℕ) {t : Bool} → length s ≤ i → isUtf8 (drop i s) ≡ t → true ≡ t
-utf8-end s i h inv = sym utf8-nil ∙ rw (← drop-of-length-le s h) inv
 
 -- ---- the first character
 

@@ -1,11 +1,12 @@
 // Characters: UTF-8 and white space.
 ghost use mathlib.Core.Path.{_≡_};
-ghost use mathlib.Core.Bool.{cond};
+ghost use mathlib.Core.Bool.{false, cond};
 ghost use mathlib.Core.List.{[], _∷_};
-ghost use Prim.Native.Nat.{_-_, _≤_};
-ghost use lib.ListN.{drop};
+ghost use Prim.Native.Nat.{_-_, _≤_, _<_, min};
+ghost use lib.ListN.{length, drop};
 ghost use Rattle.chars.specs.Range.{_to_, within};
 ghost use Rattle.chars.specs.Utf8.{seqLen, point, firstChar, isUtf8 as isUtf8Of, isBoundary};
+ghost use Rattle.chars.specs.Pass.{anyHigh, PassTo};
 ghost use Rattle.chars.specs.Space.{isWhite, isAsciiWhite, searched};
 use parts::byte_at;
 use parts::from;
@@ -150,17 +151,94 @@ fn len_at(s: &[u8], i: usize) -> usize
     seq_len(from(s, i))
 }
 
-// Whether s is UTF-8, in one pass.
+// Whether a text has a byte beyond ASCII; with no branch, so that the bytes of a block are tested at once.
+fn any_high(s: &[u8]) -> bool
+    ensures { λ r. ⌜ r ≡ anyHigh (now (s .entry)) ⌝ }
+{
+    let mut found = false;
+    let mut i = 0;
+    while i < s.len() {
+        found = found | (0x80 <= s[i]);
+        i += 1;
+    }
+    found
+}
+
+// Where the whole blocks of ASCII end, each of so many bytes.
+fn ascii_blocks(s: &[u8], size: usize) -> usize
+    ensures { λ r. ⌜ PassTo (now (s .entry)) r ⌝ }
+{
+    if size == 0 {
+        return 0;
+    }
+    let mut i = 0;
+    while size <= s.len() - i {
+        let e = i + size;
+        if any_high(&s[i..e]) {
+            return i;
+        }
+        i = e;
+    }
+    i
+}
+
+// The same by long blocks, and by short ones behind them.
+fn ascii_len(s: &[u8]) -> usize
+    ensures { λ r. ⌜ PassTo (now (s .entry)) r ⌝ }
+{
+    let n = ascii_blocks(s, 64);
+    n + ascii_blocks(&s[n..], 16)
+}
+
+// The lesser of two numbers.
+fn least(a: usize, z: usize) -> usize
+    ensures { λ r. ⌜ r ≡ min a z ⌝ }
+{
+    if a < z { a } else { z }
+}
+
+// Where the sequences end that begin in the first `span` bytes, or the first place that begins none.
+fn sequences(s: &[u8], span: usize) -> usize
+    ensures { λ r. ⌜ PassTo (now (s .entry)) r ⌝ }
+    ensures { λ r. ⌜ (r ≡ 0 → 0 < span → 0 < length (now (s .entry)) → isUtf8Of (now (s .entry)) ≡ false) ⌝ }
+{
+    let end = least(s.len(), span);
+    let mut i = 0;
+    while i < end {
+        let n = len_at(s, i);
+        if n == 0 {
+            return i;
+        }
+        i += n;
+    }
+    i
+}
+
+// How many bytes are walked by sequences: few behind blocks of ASCII, and where there were none twice as many as the last time.
+fn next_span(blocks: usize, span: usize) -> usize
+    ensures { λ r. ⌜ (0 < span → 0 < r) ⌝ }
+{
+    if 0 < blocks {
+        return 16;
+    }
+    if span < 4096 { span * 2 } else { span }
+}
+
+// Whether s is UTF-8, in one pass: by blocks of ASCII, and by sequences where they end.
 pub fn is_utf8(s: &[u8]) -> bool
     ensures { λ r. ⌜ r ≡ isUtf8Of (now (s .entry)) ⌝ }
 {
+    let mut span: usize = 16;
     let mut i = 0;
     while i < s.len() {
-        let n = len_at(s, i);
-        if n == 0 {
-            return false;
-        }
+        let n = ascii_len(&s[i..]);
+        span = next_span(n, span);
         i += n;
+        let m = sequences(&s[i..], span);
+        if m == 0 {
+            return i == s.len();
+        }
+        i += m;
     }
     true
 }

@@ -12,7 +12,7 @@ use Rattle.chars.specs.Space.{whiteSpace, isWhite, isAsciiWhite}
 use Rattle.chars.specs.Utf8.{table37, fits, rowLen, seqLen, step, cutAt, characters, isSequence, every, isUtf8, point, codeOf, isBoundary}
 use Rattle.words.specs.Words.{stepOf, charsOf, white, solid, takeWhile, dropWhile, keep, dropEnd, onto, pieces, nonempty, words, trimStart, trimEnd, trim, isBlank, whiteLen, wordLen, afterWord, lastOf, joined}
 use Rattle.texts.specs.Text.{hardSpaces, bodyOf, startsWhite, endsWhite, blankLead, normalizeText, spaceIf, written, hasBreak, splitBreaks, segments}
-use Rattle.tape.specs.File.{le16, le32, nodeOf, entryOf, recordsOf, tapeIn, sectionsOf, tapeOf, nodeAt, entryAt, textAt, entryName, isSynthetic, isNested, bearsMarker, infoAt, numberAt, elementOf, baseLen}
+use Rattle.tape.specs.File.{le16, le32, nodeFields, nodeOf, entryFields, entryOf, recordsOf, tapeIn, sectionsOf, tapeOf, nodeAt, entryAt, textAt, entryName, isSynthetic, isNested, bearsMarker, infoAt, numberAt, elementOf, baseLen}
 use Rattle.tape.specs.Name.{strip, bare, endsName, inName, nameIn, markerName}
 use Rattle.tape.specs.Tree.{isClose, holds, childBefore, firstChild, lastHeld, siblingPast, nextSibling, left, along, walkFrom, children, siblings, upTo, without, found, fromFirst}
 use Rattle.nest.specs.Decide.{deepFrom, tooDeep, awaited, matchFrom, allMatched, rootEnds, sound}
@@ -30,12 +30,12 @@ use Rattle.fold.specs.Fold.{slotBy, slotOf, free, claimOf, ownText, textsOf, nu
 use Rattle.figure.specs.Figure.{ifLegacy, legacyAt, split, fieldAt, trimmedText, describedBy, valued, legacyPairs, captionOf}
 use Rattle.tags.specs.Items.{valueOf, attrBytes, attrsBytes, newLine, bytesOf, render}
 use Rattle.tags.specs.Names.{nameOf}
-use Rattle.events.specs.Event.{rawly, escaped as eventsEscaped, perhaps, collected, element}
+use Rattle.events.specs.Event.{rawly, escaped as eventsEscaped, perhaps, collected, element, asided, besides}
 use Rattle.events.specs.Pairing.{chapterId, verseId, after, endOf, chapterAttrs, verseAttrs, bookAttrs, bookItems, itemsOf, lastEnds, paired}
 use Rattle.events.specs.Text.{anyChapter, firstState, itemsOfTape, textOf as eventsTextOf, fitting, outcomeBy, outcome}
-use Rattle.events.specs.Walk.{unbroken, breaks, segmented, broken, style, styled, unclosed, roleOfShape, roleOfCategory, roleBy, roleOf, isRef, canLink, linkOf, linked, figureAs, markerAs, nodeIn, childOf, noteChildOf, normalized, inlineTurn, inlineFrom, inlineAll, noteText, noteTurn, noteAll, inside, isKnown, isCell, cellIn, cellsAlong, cells, rowE, rowsE, tableE, holder, sidebarIn, periphIn, placeOf, blockTurn, blocksFrom, blocksAll, blocksE, eventsWithin, eventsOf}
+use Rattle.events.specs.Walk.{unbroken, breaks, segmented, broken, style, styled, unclosed, roleOfShape, roleOfCategory, roleBy, roleOf, isRef, canLink, linkOf, linked, figureAs, markerAs, nodeIn, childOf, noteChildOf, normalized, inlineTurn, inlineFrom, inlineAll, noteText, noteTurn, noteAll, inside, isKnown, isCell, cellIn, cellsAlong, cells, rowE, rowsE, tableE, holder, sidebarIn, periphIn, placeOf, isFigure, blockTurn, blocksFrom, blocksAll, blocksE, eventsWithin, eventsOf}
 
 -- what a file and a buffer of so many zeros give
 unfoldable pub answered : Bytes → ℕ → Outcome
-unfolding flatten same begins firstAt digits decimal escapedByte escape within inAny whiteSpace isWhite isAsciiWhite table37 fits rowLen seqLen step cutAt characters isSequence every isUtf8 point codeOf isBoundary stepOf charsOf white solid takeWhile dropWhile keep dropEnd onto pieces nonempty words trimStart trimEnd trim isBlank whiteLen wordLen afterWord lastOf joined hardSpaces bodyOf startsWhite endsWhite blankLead normalizeText spaceIf written hasBreak splitBreaks segments le16 le32 nodeOf entryOf recordsOf tapeIn sectionsOf tapeOf nodeAt entryAt textAt entryName isSynthetic isNested bearsMarker infoAt numberAt strip bare endsName inName nameIn markerName isClose holds childBefore firstChild lastHeld siblingPast nextSibling left along walkFrom children siblings upTo without deepFrom tooDeep awaited matchFrom allMatched rootEnds sound container close partOf allBelow laidOut small goodByte goodEntry goodNames labelCut goodNode goodNodes refusalIn refusal baseLen elementOf hasContent isPlainText firstText firstWith found any isSolid nextSolid inlineAt inlineFollows followed secondOr labelOf firstOr leadText callerOr noteCaller remainder textUnder categoryText trimmedAt writtenCategory stepText firstWords bookCode bookRest unlessEmpty periphAlt cellAlign alignWord closedBy shapeBy unknownShape isInlineShape isBlockShape inlineCategory inlineMarker isInline blockMarker isTopLevelBlock trimsAfter isElement isRow isCategoryMarker isBlankText isContent closesAt quotedFrom quotedLen unquoted shown valueFrom valueAt equals hasEquals keyIn keyed pairsFrom pairsIn isWordMarker defaultKey keyFor keyedFor attributeBody bodyPairs pairsAt pairsAlong attributesOf firstOf slotBy slotOf free claimOf ownText textsOf numberIn isSome foldFrom foldAt ifLegacy legacyAt split fieldAt trimmedText describedBy valued legacyPairs captionOf valueOf attrBytes attrsBytes newLine bytesOf render nameOf rawly eventsEscaped perhaps collected element chapterId verseId after endOf chapterAttrs verseAttrs bookAttrs bookItems itemsOf lastEnds paired anyChapter firstState itemsOfTape eventsTextOf fitting outcomeBy outcome unbroken breaks segmented broken style styled unclosed roleOfShape roleOfCategory roleBy roleOf isRef canLink linkOf linked figureAs markerAs nodeIn childOf noteChildOf normalized inlineTurn inlineFrom inlineAll noteText noteTurn noteAll inside isKnown isCell cellIn cellsAlong cells rowE rowsE tableE holder sidebarIn periphIn placeOf fromFirst blockTurn blocksFrom blocksAll blocksE eventsWithin eventsOf
+unfolding flatten same begins firstAt digits decimal escapedByte escape within inAny whiteSpace isWhite isAsciiWhite table37 fits rowLen seqLen step cutAt characters isSequence every isUtf8 point codeOf isBoundary stepOf charsOf white solid takeWhile dropWhile keep dropEnd onto pieces nonempty words trimStart trimEnd trim isBlank whiteLen wordLen afterWord lastOf joined hardSpaces bodyOf startsWhite endsWhite blankLead normalizeText spaceIf written hasBreak splitBreaks segments le16 le32 nodeFields nodeOf entryFields entryOf recordsOf tapeIn sectionsOf tapeOf nodeAt entryAt textAt entryName isSynthetic isNested bearsMarker infoAt numberAt strip bare endsName inName nameIn markerName isClose holds childBefore firstChild lastHeld siblingPast nextSibling left along walkFrom children siblings upTo without deepFrom tooDeep awaited matchFrom allMatched rootEnds sound container close partOf allBelow laidOut small goodByte goodEntry goodNames labelCut goodNode goodNodes refusalIn refusal baseLen elementOf hasContent isPlainText firstText firstWith found any isSolid nextSolid inlineAt inlineFollows followed secondOr labelOf firstOr leadText callerOr noteCaller remainder textUnder categoryText trimmedAt writtenCategory stepText firstWords bookCode bookRest unlessEmpty periphAlt cellAlign alignWord closedBy shapeBy unknownShape isInlineShape isBlockShape inlineCategory inlineMarker isInline blockMarker isTopLevelBlock trimsAfter isElement isRow isCategoryMarker isBlankText isContent closesAt quotedFrom quotedLen unquoted shown valueFrom valueAt equals hasEquals keyIn keyed pairsFrom pairsIn isWordMarker defaultKey keyFor keyedFor attributeBody bodyPairs pairsAt pairsAlong attributesOf firstOf slotBy slotOf free claimOf ownText textsOf numberIn isSome foldFrom foldAt ifLegacy legacyAt split fieldAt trimmedText describedBy valued legacyPairs captionOf valueOf attrBytes attrsBytes newLine bytesOf render nameOf rawly eventsEscaped perhaps collected element asided besides chapterId verseId after endOf chapterAttrs verseAttrs bookAttrs bookItems itemsOf lastEnds paired anyChapter firstState itemsOfTape eventsTextOf fitting outcomeBy outcome unbroken breaks segmented broken style styled unclosed roleOfShape roleOfCategory roleBy roleOf isRef canLink linkOf linked figureAs markerAs nodeIn childOf noteChildOf normalized inlineTurn inlineFrom inlineAll noteText noteTurn noteAll inside isKnown isCell cellIn cellsAlong cells rowE rowsE tableE holder sidebarIn periphIn placeOf isFigure fromFirst blockTurn blocksFrom blocksAll blocksE eventsWithin eventsOf
 answered file room = outcome file (replicate room 0)

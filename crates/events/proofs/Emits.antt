@@ -1,5 +1,6 @@
 -- Emission and pairing along a list of events.
 use mathlib.Core.Path.{_≡_, refl, sym, ap, _∙_}
+use mathlib.Core.Bool.{Bool, true, false}
 use mathlib.Core.List.{List, [], _∷_, _++_, append-assoc}
 use mathlib.Core.Option.{Option}
 use Prim.Native.Nat.{ℕ}
@@ -8,7 +9,7 @@ use Rattle.window.specs.Page.{Page, paint}
 use Rattle.window.proofs.Paint.{paint-append}
 use Rattle.tags.specs.Items.{Item, empty, render}
 use Rattle.tags.proofs.Rendered.{render-append}
-use Rattle.events.specs.Event.{Event, chapter, verse}
+use Rattle.events.specs.Event.{Event, chapter, verse, aside, back, asided, besides}
 use Rattle.events.specs.Pairing.{State, endOf, chapterAttrs, verseAttrs, itemsOf, after, paired, lastEnds}
 use Rattle.events.specs.Emit.{Desk, emit, emitAll, emitted, afterAll}
 
@@ -28,6 +29,23 @@ between d xs ys zs ee ef eg =
     eg ∙ ap (λ (u : Desk). emitAll u zs) (ef ∙ ap (λ (u : Desk). emitAll u ys) ee)
     ∙ ap (λ (u : Desk). emitAll u zs) (sym (emit-append d xs ys)) ∙ sym (emit-append d (xs ++ ys) zs)
     ∙ ap (emitAll d) (append-assoc xs ys zs)
+
+-- `aside` before events writes nothing and changes no state
+pub aside-on : (d : Desk) (es : List Event) → emitAll d es ≡ emitAll d (aside ∷ es)
+unfolding emitAll emit itemsOf after paint render
+aside-on d es = refl
+
+-- nor does `back` behind them
+pub back-on : (d : Desk) (es : List Event) → emitAll d es ≡ emitAll d (es ++ (back ∷ []))
+unfolding emitAll emit itemsOf after paint render
+back-on d es = sym (emit-append d es (back ∷ []))
+
+-- what may be a note or a figure, and others behind it
+pub besides-on : (d : Desk) (one : Bool) (es fs : List Event) → emitAll d (es ++ fs) ≡ emitAll d (besides one es ++ fs)
+unfolding besides asided
+besides-on d true es fs =
+    emit-append d es fs ∙ ap (λ (u : Desk). emitAll u fs) (back-on d es ∙ aside-on d (es ++ (back ∷ []))) ∙ sym (emit-append d (asided es) fs)
+besides-on d false es fs = refl
 
 -- the items of a chapter, and others behind them
 pub chapter-items : (s : State) (n : ℕ) (alt published : Option Bytes) (is : List Item)

@@ -1,7 +1,7 @@
 -- Events: what a walk over a tape finds, in order. They know nothing of ends and identifiers.
 use Prim.Native.Nat.{ℕ}
 use mathlib.Core.List.{List, [], _∷_, _++_}
-use mathlib.Core.Bool.{true, false}
+use mathlib.Core.Bool.{Bool, true, false, cond}
 use mathlib.Core.Option.{Option, none, some}
 use Rattle.parts.specs.Bytes.{Bytes}
 use Rattle.tags.specs.Items.{Attr, Item, start, close}
@@ -13,6 +13,8 @@ pub data Event : Type 0 where
   chapter : ℕ → Option Bytes → Option Bytes → Event
   verse : Bytes → Option Bytes → Option Bytes → Event
   book : Bytes → Bytes → Event
+  -- before and behind a note or a figure: what a text that leaves these out passes over
+  aside back : Event
 
 -- ---- attributes
 
@@ -39,3 +41,11 @@ collected (p ∷ ps) = escaped (p .key) (p .value) ∷ collected ps
 -- an element around its content
 unfoldable pub element : ℕ → List Attr → List Event → List Event
 element n qs es = item (start n qs) ∷ (es ++ (item (close n) ∷ []))
+
+-- a note or a figure: `aside` before it, `back` behind it
+unfoldable pub asided : List Event → List Event
+asided es = aside ∷ (es ++ (back ∷ []))
+
+-- what may be one
+unfoldable pub besides : Bool → List Event → List Event
+besides one es = cond one (asided es) es

@@ -5,7 +5,7 @@ use mathlib.Core.Option.{Option, none, some}
 use Rattle.parts.specs.Bytes.{Bytes, b}
 use Rattle.chars.specs.Decimal.{decimal}
 use Rattle.tags.specs.Items.{Attr, Item, start, empty, close, text}
-use Rattle.events.specs.Event.{Event, item, chapter, verse, book, rawly, escaped, perhaps}
+use Rattle.events.specs.Event.{Event, item, chapter, verse, book, aside, back, rawly, escaped, perhaps}
 use Rattle.tags.specs.Element as el
 
 -- the book's code, the chapter's number, and the identifiers of the chapter and verse that are open
@@ -36,6 +36,8 @@ after s (verse label alt published) =
     record { book = s .book; number = s .number; chapter = s .chapter; verse = some (verseId (s .book) (s .number) label) }
 after s (book code rest) =
     record { book = code; number = s .number; chapter = s .chapter; verse = s .verse }
+after s aside = s
+after s back = s
 
 -- ---- what an event writes
 
@@ -73,6 +75,8 @@ itemsOf s (chapter n alt published) =
 itemsOf s (verse label alt published) =
     endOf el.verse (s .verse) ++ (empty el.verse (verseAttrs (s .book) (s .number) label alt published) ∷ [])
 itemsOf s (book code rest) = bookItems code rest
+itemsOf s aside = []
+itemsOf s back = []
 
 -- what is still open at the end
 unfoldable pub lastEnds : State → List Item

@@ -28,7 +28,7 @@ use Rattle.attrs.specs.Walk.{firstOf}
 use Rattle.fold.specs.Fold.{foldAt}
 use Rattle.figure.specs.Figure.{legacyAt, legacyPairs, captionOf}
 use Rattle.tags.specs.Items.{Attr, start, empty, close, text, line}
-use Rattle.events.specs.Event.{Event, item, chapter, verse, book, rawly, escaped, perhaps, collected, element}
+use Rattle.events.specs.Event.{Event, item, chapter, verse, book, rawly, escaped, perhaps, collected, element, asided, besides}
 use Rattle.tape.specs.Kind as kinds
 use Rattle.tape.specs.Category as categories
 use Rattle.tape.specs.Element as elements
@@ -121,8 +121,8 @@ linked (some loc) es = element el.ref (escaped (b "loc") loc ∷ []) es
 
 -- `write_figure`: the positional form of old writes no child
 unfoldable pub figureAs : (Manner → ℕ → Bool → List Event) → Tape → ℕ → Bool → Step → List Event
-figureAs inside t k outer (At a) = element el.figure (styled (b "fig") ++ collected (legacyPairs t k (a .at))) (item (text (captionOf t (a .at))) ∷ [])
-figureAs inside t k outer Done = element el.figure (styled (b "fig") ++ collected (attributesOf t k (b "fig"))) (inside asInline k outer)
+figureAs inside t k outer (At a) = asided (element el.figure (styled (b "fig") ++ collected (legacyPairs t k (a .at))) (item (text (captionOf t (a .at))) ∷ []))
+figureAs inside t k outer Done = asided (element el.figure (styled (b "fig") ++ collected (attributesOf t k (b "fig"))) (inside asInline k outer))
 
 -- a MarkerOpen by its role; `inside` has the events inside a container, `outer` says whether inline content follows the parent
 unfoldable pub markerAs : (Manner → ℕ → Bool → List Event) → Tape → ℕ → Bool → Role → List Event
@@ -133,7 +133,7 @@ markerAs inside t k outer figure = figureAs inside t k outer (legacyAt t k)
 markerAs inside t k outer ref = element el.ref (perhaps (b "loc") (firstOf (b "loc") (attributesOf t k (b "ref")))) (inside asInline k outer)
 markerAs inside t k outer id = book (bookCode t k) (bookRest t k) ∷ []
 markerAs inside t k outer note =
-    element el.note (escaped (b "caller") (noteCaller t k) ∷ style t k ∷ perhaps (b "category") (writtenCategory t k)) (inside asNote k outer)
+    asided (element el.note (escaped (b "caller") (noteCaller t k) ∷ style t k ∷ perhaps (b "category") (writtenCategory t k)) (inside asNote k outer))
 markerAs inside t k outer ms = item (empty el.ms (style t k ∷ collected (attributesOf t k (markerName t k)))) ∷ []
 markerAs inside t k outer char =
     element el.char (style t k ∷ (unclosed t k ++ collected (attributesOf t k (markerName t k)))) (linked (linkOf t k) (inside asInline k outer))
@@ -319,12 +319,17 @@ placeOf t k =
     (cond (isElement elements.periph (infoAt t k)) aPeriph
     (cond (isTopLevelBlock t k) aBlock (cond (isVerse t k) aVerse dropped)))))
 
+-- what is written as a figure, by the entry's name, may stand as a block; by its category no note does
+unfoldable pub isFigure : Tape → Info → Bool
+isFigure t (Known e) = same (entryName t e) (b "fig")
+isFigure t Unknown = false
+
 -- one turn along a list of blocks: what is written, and where the list goes on
 pub record Blocks : Type 0 where
   pub written : List Event
   pub rest : List ℕ
 
--- `write_blocks`: each starts on a new line at its level; a verse starts a run in a paragraph of its own, cut at the next block
+-- `write_blocks`: each starts on a new line at its level, a figure's between its `aside` and `back`; a verse starts a run in a paragraph of its own, cut at the next block
 unfoldable pub blockTurn : (List ℕ → List Event) → Tape → ℕ → ℕ → ℕ → List ℕ → Place → Blocks
 blockTurn blocks t d level k ks aRow =
     record { written = tableE t d level (k ∷ upTo (λ i. not (isRow t i)) ks); rest = fromFirst (λ i. not (isRow t i)) ks }
@@ -333,7 +338,7 @@ blockTurn blocks t d level k ks aChapter =
     record { written = item (line level) ∷ chapter (numberAt t k) (f .alt) (f .published) ∷ []; rest = f .rest }
 blockTurn blocks t d level k ks aSidebar = record { written = item (line level) ∷ sidebarIn blocks t level k; rest = ks }
 blockTurn blocks t d level k ks aPeriph = record { written = item (line level) ∷ periphIn blocks t level k; rest = ks }
-blockTurn blocks t d level k ks aBlock = record { written = item (line level) ∷ nodeE t d k unfollowed; rest = ks }
+blockTurn blocks t d level k ks aBlock = record { written = besides (isFigure t (infoAt t k)) (item (line level) ∷ nodeE t d k unfollowed); rest = ks }
 blockTurn blocks t d level k ks aVerse =
     record {
       written = item (line level) ∷ element el.para (styled (b "p")) (inlineAll (nodeIn (inside t d) t) t unfollowed trimming (k ∷ upTo (isTopLevelBlock t) ks));

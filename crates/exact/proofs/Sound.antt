@@ -14,7 +14,7 @@ use Rattle.tags.specs.declared.Class.the-variants.{Value}
 use Rattle.checker.specs.View.{start as starts, View, single, view}
 use Rattle.checker.specs.Steps.{Held, shut, held}
 use Rattle.checker.specs.Meaning.{since}
-use Rattle.events.specs.Event.{Event, item, chapter, verse, book, rawly}
+use Rattle.events.specs.Event.{Event, item, chapter, verse, book, aside, back, rawly}
 use Rattle.events.specs.Pairing.{State, chapterId, verseId, after, endOf, chapterAttrs, verseAttrs, bookAttrs, bookItems, itemsOf, lastEnds, paired}
 use Rattle.events.proofs.Emits.{chapter-items, verse-items}
 use Rattle.accepts.specs.Sound.{SoundEvents}
@@ -145,3 +145,7 @@ read-sound s (book code words ∷ es) r h z =
     let k = reads-book code words (paired (after s (book code words)) es) r (h .0) z in
     let on = read-sound (after s (book code words)) es r (h .1) (k .1) in
     record { sound = (k .0, on .sound); chapter = on .chapter; verse = on .verse }
+read-sound s (aside ∷ es) r h z =
+    let on = read-sound s es r (h .1) z in record { sound = (tt, on .sound); chapter = on .chapter; verse = on .verse }
+read-sound s (back ∷ es) r h z =
+    let on = read-sound s es r (h .1) z in record { sound = (tt, on .sound); chapter = on .chapter; verse = on .verse }

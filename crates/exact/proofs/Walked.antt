@@ -7,7 +7,7 @@ use Rattle.tape.specs.File.{Tape}
 use Rattle.tags.specs.Items.{Attr}
 use Rattle.events.specs.Event.{Event}
 use Rattle.events.specs.Walk.{eventsOf}
-use Rattle.grammar.specs.Grammar.{Given, a-text, a-line, an-empty, a-chapter, a-verse, by-itself, of-book, opening, closing, AllWritten}
+use Rattle.grammar.specs.Grammar.{Given, a-text, a-line, an-empty, a-chapter, a-verse, an-aside, a-back, by-itself, of-book, opening, closing, AllWritten}
 use Rattle.grammar.proofs.Written.{walk-written, given-range, given-name}
 use Rattle.grammar.proofs.Attrs.{given-attrs}
 use Rattle.accepts.proofs.Spaces.{marker-spaceless, code-spaceless}
@@ -35,6 +35,8 @@ written-wordy t (e ∷ es) (by-itself (an-empty {n} a), w) =
     ((given-name a, apart n 3 (given-range a .0) (omega arith), apart n 4 (given-range a .0) (omega arith), given-wordy a), written-wordy t es w)
 written-wordy t (e ∷ es) (by-itself a-chapter, w) = (tt, written-wordy t es w)
 written-wordy t (e ∷ es) (by-itself (a-verse k v), w) = (tt, written-wordy t es w)
+written-wordy t (e ∷ es) (by-itself an-aside, w) = (tt, written-wordy t es w)
+written-wordy t (e ∷ es) (by-itself a-back, w) = (tt, written-wordy t es w)
 written-wordy t (e ∷ es) (of-book k o r, w) = (code-spaceless t k, written-wordy t es w)
 written-wordy t (e ∷ es) (opening {n} a, w) =
     ((given-name a, apart n 3 (given-range a .0) (omega arith), apart n 4 (given-range a .0) (omega arith), given-wordy a), written-wordy t es w)

@@ -7,7 +7,7 @@ use Prim.Native.Nat.{ℕ}
 use Rattle.parts.specs.Bytes.{Bytes, b}
 use Rattle.chars.proofs.Lists.{all}
 use Rattle.tags.specs.Items.{Attr}
-use Rattle.events.specs.Event.{Event, item, chapter, verse, book, rawly, escaped}
+use Rattle.events.specs.Event.{Event, item, chapter, verse, book, aside, back, rawly, escaped}
 use Rattle.events.specs.Pairing.{chapterAttrs, verseAttrs, bookAttrs}
 use Rattle.grammar.proofs.Attrs.{fixedStyles, fixedKeys, OfEach, AttrsOf, no-attr, a-style, a-value, chapter-attrs, verse-attrs}
 use Rattle.checker.proofs.Decides.{never}
@@ -65,6 +65,8 @@ WordyEvent (item i) = WordyItem i
 WordyEvent (chapter n alt published) = Unit {0}
 WordyEvent (verse label alt published) = Unit {0}
 WordyEvent (book code rest) = all (but 32) code ≡ true
+WordyEvent aside = Unit {0}
+WordyEvent back = Unit {0}
 
 -- each of a list
 abbrev pub WordyEvents : List Event → Type 0

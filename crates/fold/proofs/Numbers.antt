@@ -16,8 +16,7 @@ use Rattle.words.specs.Words.{charsOf, white, solid, takeWhile, onto, pieces, n
 use Rattle.words.specs.declared.Set.the-variants.{Ascii}
 use Rattle.words.specs.declared.Part.{Part}
 use Rattle.words.proofs.Texts.{white-le, word-le, trim-start-drop, word-none}
-use Rattle.texts.proofs.Breaks.{ascii-chars}
-use Rattle.texts.proofs.Edges.{white-more, white-ends}
+use Rattle.words.proofs.Bytes.{ascii-chars, white-more, white-ends}
 use Rattle.tape.specs.File.{Tape, nodeAt, kindAt, textAt}
 use Rattle.tape.specs.Tree.{firstChild, nextSibling, walkFrom}
 use Rattle.tape.specs.declared.Node.{Node}

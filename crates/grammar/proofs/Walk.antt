@@ -23,9 +23,9 @@ use Rattle.render.specs.Follow.{followed}
 use Rattle.render.specs.Children.{hasContent}
 use Rattle.figure.specs.Figure.{legacyAt}
 use Rattle.tags.specs.Items.{Attr, start, close, line}
-use Rattle.events.specs.Event.{Event, item, element}
-use Rattle.events.specs.Walk.{unbroken, breaks, segmented, broken, Manner, asInline, asNote, Role, unknownBlock, unknownInline, unwritten, figure, ref, id, note, ms, char, para, roleOf, linkOf, linked, figureAs, markerAs, nodeIn, Child, anchor, words, passed, marker, childOf, noteChildOf, normalized, inlineTurn, inlineFrom, inlineAll, noteText, noteTurn, noteAll, inside, isCell, isKnown, cellIn, cellsAlong, cells, rowE, rowsE, tableE, holder, sidebarIn, periphIn, Place, aRow, aChapter, aSidebar, aPeriph, aBlock, aVerse, dropped, placeOf, blockTurn, blocksFrom, blocksAll, blocksE, eventsWithin, eventsOf, NoteChild, direct, leftOut, entered}
-use Rattle.grammar.specs.Grammar.{Marked, Given, unknown-para, unknown-char, old-figure, a-figure, a-ref, a-link, a-note, an-ms, a-char, a-para, a-run, a-table, a-row, a-cell, a-sidebar, a-periph, a-break, a-text, a-line, an-empty, a-chapter, a-verse, Grown, none, leaf, a-book, around, twice}
+use Rattle.events.specs.Event.{Event, item, element, asided, besides}
+use Rattle.events.specs.Walk.{unbroken, breaks, segmented, broken, Manner, asInline, asNote, Role, unknownBlock, unknownInline, unwritten, figure, ref, id, note, ms, char, para, roleOf, linkOf, linked, figureAs, markerAs, nodeIn, Child, anchor, words, passed, marker, childOf, noteChildOf, normalized, inlineTurn, inlineFrom, inlineAll, noteText, noteTurn, noteAll, inside, isCell, isKnown, cellIn, cellsAlong, cells, rowE, rowsE, tableE, holder, sidebarIn, periphIn, Place, aRow, aChapter, aSidebar, aPeriph, aBlock, aVerse, dropped, placeOf, isFigure, blockTurn, blocksFrom, blocksAll, blocksE, eventsWithin, eventsOf, NoteChild, direct, leftOut, entered}
+use Rattle.grammar.specs.Grammar.{Marked, Given, unknown-para, unknown-char, old-figure, a-figure, a-ref, a-link, a-note, an-ms, a-char, a-para, a-run, a-table, a-row, a-cell, a-sidebar, a-periph, a-break, a-text, a-line, an-empty, a-chapter, a-verse, an-aside, a-back, Grown, none, leaf, a-book, around, twice}
 
 -- ---- lists of events
 
@@ -49,6 +49,15 @@ grown-if false es fs g f = f
 grown-element : {t : Tape} {h n : ℕ} {qs : List Attr} {es : List Event} → Given t n qs → Grown t h es → Grown t (suc h) (element n qs es)
 unfolding element
 grown-element a g = around a g none
+
+grown-asided : {t : Tape} {h : ℕ} {es : List Event} → Grown t h es → Grown t h (asided es)
+unfolding asided
+grown-asided g = leaf an-aside (grown-append g (leaf a-back none))
+
+grown-besides : {t : Tape} {h : ℕ} (one : Bool) {es : List Event} → Grown t h es → Grown t h (besides one es)
+unfolding besides
+grown-besides true g = grown-asided g
+grown-besides false g = g
 
 -- an element whose close stands on a line of its own
 grown-lined : {t : Tape} {h n : ℕ} {qs : List Attr} {es : List Event} (level : ℕ) → Given t n qs → Grown t h es
@@ -125,8 +134,8 @@ module _ (t : Tape) where
   module _ (h : ℕ) (within : Manner → ℕ → Bool → List Event) (g : (m : Manner) (k : ℕ) (outer : Bool) → Grown t h (within m k outer)) where
     grown-figure : (k : ℕ) (outer : Bool) (s : Step) → Grown t (suc h) (figureAs within t k outer s)
     unfolding figureAs
-    grown-figure k outer (At a) = grown-element (old-figure k (a .at)) (leaf a-text none)
-    grown-figure k outer Done = grown-element (a-figure k) (g asInline k outer)
+    grown-figure k outer (At a) = grown-asided (grown-element (old-figure k (a .at)) (leaf a-text none))
+    grown-figure k outer Done = grown-asided (grown-element (a-figure k) (g asInline k outer))
 
     grown-marker : (k : ℕ) (outer : Bool) → isOpen t k ≡ true → (r : Role) → roleOf t k ≡ r → Grown t (suc (suc h)) (markerAs within t k outer r)
     unfolding markerAs
@@ -136,7 +145,7 @@ module _ (t : Tape) where
     grown-marker k outer o figure e = taller (grown-figure k outer (legacyAt t k))
     grown-marker k outer o ref e = taller (grown-element (a-ref k) (g asInline k outer))
     grown-marker k outer o id e = a-book k o e none
-    grown-marker k outer o note e = taller (grown-element (a-note k (open-marked t k o)) (g asNote k outer))
+    grown-marker k outer o note e = taller (grown-asided (grown-element (a-note k (open-marked t k o)) (g asNote k outer)))
     grown-marker k outer o ms e = leaf (an-empty (an-ms k (open-marked t k o))) none
     grown-marker k outer o char e = grown-element (a-char k (open-marked t k o)) (grown-linked (linkOf t k) _ (g asInline k outer))
     grown-marker k outer o para e =
@@ -236,7 +245,7 @@ module _ (t : Tape) where
     grown-block k ks aSidebar e =
         leaf a-line (grown-holder 13 _ (without (isCategoryMarker t) (children t k)) (a-sidebar k (sidebar-marked t k e)))
     grown-block k ks aPeriph e = leaf a-line (grown-holder 14 _ (children t k) (a-periph k))
-    grown-block k ks aBlock e = leaf a-line (taller (grown-node (twice d) (inside t d) (grown-inside d) k false))
+    grown-block k ks aBlock e = grown-besides (isFigure t (infoAt t k)) (leaf a-line (taller (grown-node (twice d) (inside t d) (grown-inside d) k false)))
     grown-block k ks aVerse e =
         leaf a-line (grown-element a-run
         (grown-all (suc (suc (twice d))) (nodeIn (inside t d) t) (grown-node (twice d) (inside t d) (grown-inside d)) false true (k ∷ upTo (isTopLevelBlock t) ks)))

@@ -14,7 +14,7 @@ use Rattle.attrs.specs.Attr.{attributesOf}
 use Rattle.attrs.specs.Walk.{firstOf}
 use Rattle.figure.specs.Figure.{legacyPairs}
 use Rattle.tags.specs.Items.{Attr, start, empty, close, text, line}
-use Rattle.events.specs.Event.{Event, item, chapter, verse, book, escaped, perhaps, collected}
+use Rattle.events.specs.Event.{Event, item, chapter, verse, book, aside, back, escaped, perhaps, collected}
 use Rattle.events.specs.Walk.{style, styled, unclosed, id, roleOf}
 use Rattle.tags.specs.Element as el
 
@@ -49,6 +49,8 @@ pub data Leaf (t : Tape) : Event → Type 0 where
   an-empty : {n : ℕ} {qs : List Attr} → Given t n qs → Leaf t (item (empty n qs))
   a-chapter : {n : ℕ} {alt published : Option Bytes} → Leaf t (chapter n alt published)
   a-verse : (k : ℕ) {alt published : Option Bytes} → isVerse t k ≡ true → Leaf t (verse (labelOf t k) alt published)
+  an-aside : Leaf t aside
+  a-back : Leaf t back
 
 -- events in which every element is closed by its own close, at most so many around one another; a book may be one
 pub data Grown (t : Tape) : ℕ → List Event → Type 0 where

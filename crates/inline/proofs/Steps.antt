@@ -27,11 +27,14 @@ use Rattle.events.proofs.Turns.{inline-none}
 use Rattle.roles.specs.Roles.{isWhole, mannerOf, mannerBy}
 use Rattle.tagging.specs.Marker.{markerOpens, markerCloses, leafOf}
 use Rattle.tagging.proofs.Splits.{marker-split}
-use Rattle.turns.specs.Turn.{sortIn, noteSort, plainFrom, onward, notePlain, noteOnward, KeptAt}
+use Rattle.turns.specs.Turn.{sortIn, noteSort, plainFrom, onward, notePlain, noteOnward, KeptAt, behindOf, learnt, followsBy, behindBy, noteBehindBy}
+use Rattle.turns.specs.declared.Behind.{Behind}
+use Rattle.turns.specs.declared.Behind.the-variants.{Unasked}
 use Rattle.turns.specs.declared.Sort.{Sort}
 use Rattle.turns.specs.declared.Sort.the-variants.{End, Enter, Plain}
 use Rattle.turns.specs.declared.Child.{Child}
 use Rattle.turns.proofs.Sorts.{sort-turn, note-sort-turn}
+use Rattle.turns.proofs.Laws.{asked-same, follows-learnt, turn-same, note-turn-same}
 
 -- ---- markers
 
@@ -92,23 +95,23 @@ module _ (t : Tape) (k : ℕ) (outer : Bool) (s : Desk) where
   inside-deep zero m h = absurd (h refl)
   inside-deep (suc d) m h = ap (λ (j : ℕ). inside t (suc j) m k outer) (omega arith)
 
-  pub inside-inline : {d : ℕ} {note behind : Bool} {first : Step} {r : Desk} → (d ≡ 0 → ⊥) → behind ≡ followed t k outer → first ≡ firstChild t k → note ≡ false
-      → r ≡ emitAll s (inlineAll (nodeIn (inside t (d - 1)) t) t behind true (nodesIn t all first)) → r ≡ emitAll s (inside t d (mannerBy note) k outer)
-  unfolding inside mannerBy
-  inside-inline {d} {note} {behind} {first} h eb ef hn er =
+  pub inside-inline : {d : ℕ} {note : Bool} {parent : Cursor} {first : Step} {r : Desk} → (d ≡ 0 → ⊥) → parent .at ≡ k → first ≡ firstChild t k → note ≡ false
+      → r ≡ emitAll s (inlineAll (nodeIn (inside t (d - 1)) t) t (behindOf t parent outer Unasked) true (nodesIn t all first)) → r ≡ emitAll s (inside t d (mannerBy note) k outer)
+  unfolding inside mannerBy behindOf
+  inside-inline {d} {note} {parent} {first} h ep ef hn er =
       er
-      ∙ ap (λ (ks : List ℕ). emitAll s (inlineAll (nodeIn (inside t (d - 1)) t) t behind true ks)) (all-nodes t first ∙ children-walk t k ef)
-      ∙ ap (λ (x : Bool). emitAll s (inlineAll (nodeIn (inside t (d - 1)) t) t x true (children t k))) eb
+      ∙ ap (λ (ks : List ℕ). emitAll s (inlineAll (nodeIn (inside t (d - 1)) t) t (followed t (parent .at) outer) true ks)) (all-nodes t first ∙ children-walk t k ef)
+      ∙ ap (λ (i : ℕ). emitAll s (inlineAll (nodeIn (inside t (d - 1)) t) t (followed t i outer) true (children t k))) ep
       ∙ ap (emitAll s) (inside-deep d asInline h)
       ∙ ap (λ (x : Bool). emitAll s (inside t d (mannerBy x) k outer)) (sym hn)
 
-  pub inside-note : {d : ℕ} {note behind : Bool} {first : Step} {r : Desk} → (d ≡ 0 → ⊥) → behind ≡ followed t k outer → first ≡ firstChild t k → note ≡ true
-      → r ≡ emitAll s (noteAll (nodeIn (inside t (d - 1)) t) t (k + 1) behind true (walkFrom t first)) → r ≡ emitAll s (inside t d (mannerBy note) k outer)
-  unfolding inside mannerBy
-  inside-note {d} {note} {behind} {first} h eb ef hn er =
+  pub inside-note : {d : ℕ} {note : Bool} {parent : Cursor} {first : Step} {r : Desk} → (d ≡ 0 → ⊥) → parent .at ≡ k → first ≡ firstChild t k → note ≡ true
+      → r ≡ emitAll s (noteAll (nodeIn (inside t (d - 1)) t) t (parent .at + 1) (behindOf t parent outer Unasked) true (walkFrom t first)) → r ≡ emitAll s (inside t d (mannerBy note) k outer)
+  unfolding inside mannerBy behindOf
+  inside-note {d} {note} {parent} {first} h ep ef hn er =
       er
-      ∙ ap (λ (ks : List ℕ). emitAll s (noteAll (nodeIn (inside t (d - 1)) t) t (k + 1) behind true ks)) (children-walk t k ef)
-      ∙ ap (λ (x : Bool). emitAll s (noteAll (nodeIn (inside t (d - 1)) t) t (k + 1) x true (children t k))) eb
+      ∙ ap (λ (ks : List ℕ). emitAll s (noteAll (nodeIn (inside t (d - 1)) t) t (parent .at + 1) (followed t (parent .at) outer) true ks)) (children-walk t k ef)
+      ∙ ap (λ (i : ℕ). emitAll s (noteAll (nodeIn (inside t (d - 1)) t) t (i + 1) (followed t i outer) true (children t k))) ep
       ∙ ap (emitAll s) (inside-deep d asNote h)
       ∙ ap (λ (x : Bool). emitAll s (inside t d (mannerBy x) k outer)) (sym hn)
 
@@ -122,68 +125,76 @@ kept-plain t kept e h n k f = f (kept-for t h e)
 
 -- ---- a list of children
 
-module _ (node : ℕ → Bool → List Event) (t : Tape) (span : Span) (behind trim : Bool) {step : Step} (s : Desk) {s₀ : Desk}
-    (inv : emitAll s (inlineAll node t behind trim (nodesIn t span step)) ≡ s₀) where
+module _ (node : ℕ → Bool → List Event) (t : Tape) (span : Span) (parent : Cursor) (outer : Bool) (known : Behind) (trim : Bool) {step : Step} (s : Desk) {s₀ : Desk}
+    (inv : emitAll s (inlineAll node t (behindOf t parent outer known) trim (nodesIn t span step)) ≡ s₀) where
   pub inline-done : step ≡ Done → s ≡ s₀
   unfolding emitAll
-  inline-done e = sym (ap (emitAll s) (ap (inlineAll node t behind trim) (nodes-done t span e) ∙ inline-none node t behind trim)) ∙ inv
+  inline-done e = sym (ap (emitAll s) (ap (inlineAll node t (behindOf t parent outer known) trim) (nodes-done t span e) ∙ inline-none node t (behindOf t parent outer known) trim)) ∙ inv
 
   module _ {c : Cursor} (ec : step ≡ At c) {r : Sort} (er : r ≡ sortIn t span (c .at)) where
-    turned : {n : Step} → n ≡ nextSibling t (c .at) → emitAll s (onward node t behind trim (c .at) (nodesIn t span n) r) ≡ s₀
-    turned en = ap (emitAll s) (sym (sort-turn node t behind trim span ec en er)) ∙ inv
+    turned : {n : Step} → n ≡ nextSibling t (c .at) → emitAll s (onward node t (behindOf t parent outer known) trim (c .at) (nodesIn t span n) r) ≡ s₀
+    turned en = ap (emitAll s) (sym (sort-turn node t (behindOf t parent outer known) trim span ec en er)) ∙ inv
 
     pub inline-ended : r ≡ End → s ≡ s₀
     unfolding onward emitAll
-    inline-ended h = ap (λ (z : Sort). emitAll s (onward node t behind trim (c .at) (nodesIn t span (nextSibling t (c .at))) z)) (sym h) ∙ turned refl
+    inline-ended h = ap (λ (z : Sort). emitAll s (onward node t (behindOf t parent outer known) trim (c .at) (nodesIn t span (nextSibling t (c .at))) z)) (sym h) ∙ turned refl
 
-    pub inline-entered : r ≡ Enter → {u : Desk} {x : Bool} {n : Step} → u ≡ emitAll s (node (c .at) behind) → x ≡ trimsAfter t (c .at) → n ≡ nextSibling t (c .at)
-        → emitAll u (inlineAll node t behind x (nodesIn t span n)) ≡ s₀
+    pub inline-entered : r ≡ Enter → {later : Behind} {y : Bool} {u : Desk} {x : Bool} {n : Step} → later ≡ learnt (behindOf t parent outer known) → y ≡ followsBy later
+        → u ≡ emitAll s (node (c .at) y) → x ≡ trimsAfter t (c .at) → n ≡ nextSibling t (c .at)
+        → emitAll u (inlineAll node t (behindOf t parent outer later) x (nodesIn t span n)) ≡ s₀
     unfolding onward
-    inline-entered h {u} {x} {n} eu ex en =
-        ap (λ (z : Desk). emitAll z (inlineAll node t behind x (nodesIn t span n))) eu
-        ∙ sym (emit-append s (node (c .at) behind) (inlineAll node t behind x (nodesIn t span n)))
-        ∙ ap (λ (y : Bool). emitAll s (node (c .at) behind ++ inlineAll node t behind y (nodesIn t span n))) ex
-        ∙ ap (λ (z : Sort). emitAll s (onward node t behind trim (c .at) (nodesIn t span n) z)) (sym h)
+    inline-entered h {later} {y} {u} {x} {n} el ey eu ex en =
+        ap (λ (z : Bool). emitAll u (inlineAll node t z x (nodesIn t span n))) (ap (behindOf t parent outer) el ∙ asked-same t parent outer (behindOf t parent outer known))
+        ∙ ap (λ (z : Desk). emitAll z (inlineAll node t (behindOf t parent outer known) x (nodesIn t span n))) (eu ∙ ap (λ (z : Bool). emitAll s (node (c .at) z)) (follows-learnt (behindOf t parent outer known) el ey))
+        ∙ sym (emit-append s (node (c .at) (behindOf t parent outer known)) (inlineAll node t (behindOf t parent outer known) x (nodesIn t span n)))
+        ∙ ap (λ (y : Bool). emitAll s (node (c .at) (behindOf t parent outer known) ++ inlineAll node t (behindOf t parent outer known) y (nodesIn t span n))) ex
+        ∙ ap (λ (z : Sort). emitAll s (onward node t (behindOf t parent outer known) trim (c .at) (nodesIn t span n) z)) (sym h)
         ∙ turned en
 
-    pub inline-plain : {child : Child} → r ≡ Plain child → (kept : Step) → KeptAt t step kept → (u : Desk) (x : Bool) (n : Step)
-        → (Kept t c kept → (m : ℕ → Bool → List Event) → emitAll u (inlineAll m t behind x (nodesIn t span n)) ≡ emitAll s (plainFrom m t behind trim (c .at) (nodesIn t span (nextSibling t (c .at))) child))
-        → emitAll u (inlineAll node t behind x (nodesIn t span n)) ≡ s₀
+    pub inline-plain : {child : Child} → r ≡ Plain child → (kept : Step) → KeptAt t step kept → (u : Desk) (x : Bool) (n : Step) (later : Behind)
+        → (Kept t c kept → later ≡ behindBy t parent outer known (c .at) child)
+        → (Kept t c kept → (m : ℕ → Bool → List Event) → emitAll u (inlineAll m t (behindOf t parent outer known) x (nodesIn t span n)) ≡ emitAll s (plainFrom m t (behindOf t parent outer known) trim (c .at) (nodesIn t span (nextSibling t (c .at))) child))
+        → emitAll u (inlineAll node t (behindOf t parent outer later) x (nodesIn t span n)) ≡ s₀
     unfolding onward
-    inline-plain h kept hk u x n e =
-        e (kept-for t hk ec) node
-        ∙ ap (λ (z : Sort). emitAll s (onward node t behind trim (c .at) (nodesIn t span (nextSibling t (c .at))) z)) (sym h) ∙ turned refl
+    inline-plain {child} h kept hk u x n later el e =
+        ap (λ (z : Bool). emitAll u (inlineAll node t z x (nodesIn t span n))) (ap (behindOf t parent outer) (el (kept-for t hk ec)) ∙ turn-same t parent outer known (c .at) child)
+        ∙ e (kept-for t hk ec) node
+        ∙ ap (λ (z : Sort). emitAll s (onward node t (behindOf t parent outer known) trim (c .at) (nodesIn t span (nextSibling t (c .at))) z)) (sym h) ∙ turned refl
 
 -- ---- a note's children
 
-module _ (node : ℕ → Bool → List Event) (t : Tape) (first : ℕ) (behind trim : Bool) {step : Step} (s : Desk) {s₀ : Desk}
-    (inv : emitAll s (noteAll node t first behind trim (walkFrom t step)) ≡ s₀) where
+module _ (node : ℕ → Bool → List Event) (t : Tape) (first : ℕ) (parent : Cursor) (outer : Bool) (known : Behind) (trim : Bool) {step : Step} (s : Desk) {s₀ : Desk}
+    (inv : emitAll s (noteAll node t first (behindOf t parent outer known) trim (walkFrom t step)) ≡ s₀) where
   pub note-done : step ≡ Done → s ≡ s₀
   unfolding emitAll noteAll
-  note-done e = sym (ap (λ (ks : List ℕ). emitAll s (noteAll node t first behind trim ks)) (walk-end t e)) ∙ inv
+  note-done e = sym (ap (λ (ks : List ℕ). emitAll s (noteAll node t first (behindOf t parent outer known) trim ks)) (walk-end t e)) ∙ inv
 
   module _ {c : Cursor} (ec : step ≡ At c) {r : Sort} (er : r ≡ noteSort t (c .at)) where
-    note-turned : {n : Step} → n ≡ nextSibling t (c .at) → emitAll s (noteOnward node t behind trim first (c .at) (walkFrom t n) r) ≡ s₀
-    note-turned en = ap (emitAll s) (sym (note-sort-turn node t behind trim first ec en er)) ∙ inv
+    note-turned : {n : Step} → n ≡ nextSibling t (c .at) → emitAll s (noteOnward node t (behindOf t parent outer known) trim first (c .at) (walkFrom t n) r) ≡ s₀
+    note-turned en = ap (emitAll s) (sym (note-sort-turn node t (behindOf t parent outer known) trim first ec en er)) ∙ inv
 
     pub note-ended : r ≡ End → s ≡ s₀
     unfolding noteOnward emitAll
-    note-ended h = ap (λ (z : Sort). emitAll s (noteOnward node t behind trim first (c .at) (walkFrom t (nextSibling t (c .at))) z)) (sym h) ∙ note-turned refl
+    note-ended h = ap (λ (z : Sort). emitAll s (noteOnward node t (behindOf t parent outer known) trim first (c .at) (walkFrom t (nextSibling t (c .at))) z)) (sym h) ∙ note-turned refl
 
-    pub note-entered : r ≡ Enter → {u : Desk} {x : Bool} {n : Step} → u ≡ emitAll s (node (c .at) behind) → x ≡ trimsAfter t (c .at) → n ≡ nextSibling t (c .at)
-        → emitAll u (noteAll node t first behind x (walkFrom t n)) ≡ s₀
+    pub note-entered : r ≡ Enter → {later : Behind} {y : Bool} {u : Desk} {x : Bool} {n : Step} → later ≡ learnt (behindOf t parent outer known) → y ≡ followsBy later
+        → u ≡ emitAll s (node (c .at) y) → x ≡ trimsAfter t (c .at) → n ≡ nextSibling t (c .at)
+        → emitAll u (noteAll node t first (behindOf t parent outer later) x (walkFrom t n)) ≡ s₀
     unfolding noteOnward
-    note-entered h {u} {x} {n} eu ex en =
-        ap (λ (z : Desk). emitAll z (noteAll node t first behind x (walkFrom t n))) eu
-        ∙ sym (emit-append s (node (c .at) behind) (noteAll node t first behind x (walkFrom t n)))
-        ∙ ap (λ (y : Bool). emitAll s (node (c .at) behind ++ noteAll node t first behind y (walkFrom t n))) ex
-        ∙ ap (λ (z : Sort). emitAll s (noteOnward node t behind trim first (c .at) (walkFrom t n) z)) (sym h)
+    note-entered h {later} {y} {u} {x} {n} el ey eu ex en =
+        ap (λ (z : Bool). emitAll u (noteAll node t first z x (walkFrom t n))) (ap (behindOf t parent outer) el ∙ asked-same t parent outer (behindOf t parent outer known))
+        ∙ ap (λ (z : Desk). emitAll z (noteAll node t first (behindOf t parent outer known) x (walkFrom t n))) (eu ∙ ap (λ (z : Bool). emitAll s (node (c .at) z)) (follows-learnt (behindOf t parent outer known) el ey))
+        ∙ sym (emit-append s (node (c .at) (behindOf t parent outer known)) (noteAll node t first (behindOf t parent outer known) x (walkFrom t n)))
+        ∙ ap (λ (y : Bool). emitAll s (node (c .at) (behindOf t parent outer known) ++ noteAll node t first (behindOf t parent outer known) y (walkFrom t n))) ex
+        ∙ ap (λ (z : Sort). emitAll s (noteOnward node t (behindOf t parent outer known) trim first (c .at) (walkFrom t n) z)) (sym h)
         ∙ note-turned en
 
-    pub note-plain : {child : Child} → r ≡ Plain child → (kept : Step) → KeptAt t step kept → (u : Desk) (x : Bool) (n : Step)
-        → (Kept t c kept → (m : ℕ → Bool → List Event) → emitAll u (noteAll m t first behind x (walkFrom t n)) ≡ emitAll s (notePlain m t behind trim first (c .at) (walkFrom t (nextSibling t (c .at))) child))
-        → emitAll u (noteAll node t first behind x (walkFrom t n)) ≡ s₀
+    pub note-plain : {child : Child} → r ≡ Plain child → (kept : Step) → KeptAt t step kept → (u : Desk) (x : Bool) (n : Step) (later : Behind)
+        → (Kept t c kept → later ≡ noteBehindBy t first parent outer known (c .at) child)
+        → (Kept t c kept → (m : ℕ → Bool → List Event) → emitAll u (noteAll m t first (behindOf t parent outer known) x (walkFrom t n)) ≡ emitAll s (notePlain m t (behindOf t parent outer known) trim first (c .at) (walkFrom t (nextSibling t (c .at))) child))
+        → emitAll u (noteAll node t first (behindOf t parent outer later) x (walkFrom t n)) ≡ s₀
     unfolding noteOnward
-    note-plain h kept hk u x n e =
-        e (kept-for t hk ec) node
-        ∙ ap (λ (z : Sort). emitAll s (noteOnward node t behind trim first (c .at) (walkFrom t (nextSibling t (c .at))) z)) (sym h) ∙ note-turned refl
+    note-plain {child} h kept hk u x n later el e =
+        ap (λ (z : Bool). emitAll u (noteAll node t first z x (walkFrom t n))) (ap (behindOf t parent outer) (el (kept-for t hk ec)) ∙ note-turn-same t parent outer known (c .at) first child)
+        ∙ e (kept-for t hk ec) node
+        ∙ ap (λ (z : Sort). emitAll s (noteOnward node t (behindOf t parent outer known) trim first (c .at) (walkFrom t (nextSibling t (c .at))) z)) (sym h) ∙ note-turned refl

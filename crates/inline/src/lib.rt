@@ -10,13 +10,17 @@ ghost use Rattle.events.specs.Emit.{emitAll};
 ghost use Rattle.sink.specs.Desk.{deskIn};
 ghost use Rattle.lists.specs.Span.{nodesIn};
 ghost use Rattle.roles.specs.Roles.{mannerBy};
+ghost use Rattle.turns.specs.Turn.{behindOf};
+ghost use Rattle.turns.specs.declared.Behind.the-variants.{Unasked};
 use lists::Span;
 use sink::Sink;
 use tape::Cursor;
 use tape::Kind;
 use tape::Sections;
 use tape::Step;
+use turns::Behind;
 use turns::Sort;
+use turns::follows;
 use turns::note_sort;
 use turns::note_turn;
 use turns::plain_turn;
@@ -109,10 +113,9 @@ pub fn inside(
     if depth == 0 {
         return sink;
     }
-    let behind = render::followed(file, tape, solids, c, outer);
     let first = c.first_child(file, tape);
     if note {
-        note_inline(file, tape, solids, c, first, depth - 1, behind, sink, out)
+        note_inline(file, tape, solids, c, first, depth - 1, outer, sink, out)
     } else {
         let span = Span {
             cut: false,
@@ -123,41 +126,47 @@ pub fn inside(
             tape,
             solids,
             span,
+            c,
             first,
             depth - 1,
-            behind,
+            outer,
+            Behind::Unasked,
             sink,
             out,
         )
     }
 }
 
-// A list of inline children; `behind` says whether inline content follows their parent.
+// A list of inline children; `behind` is what is known of whether inline content follows their parent, `outer` whether it follows the parent's own.
 pub fn inline(
     file: &[u8],
     tape: Sections,
     solids: &[u32],
     span: Span,
+    parent: Cursor,
     first: Step,
     depth: usize,
-    behind: bool,
+    outer: bool,
+    behind: Behind,
     sink: Sink,
     out: &mut [u8],
 ) -> Sink
     requires { ⌜ Solids (tapeIn tape (now file)) (now solids) ⌝ }
-    ensures { λ r. ⌜ deskIn (tapeIn tape (now (file .entry)) .source) r (now (out .exit)) ≡ emitAll (deskIn (tapeIn tape (now (file .entry)) .source) sink (now (out .entry))) (inlineAll (nodeIn (insideOf (tapeIn tape (now (file .entry))) depth) (tapeIn tape (now (file .entry)))) (tapeIn tape (now (file .entry))) behind true (nodesIn (tapeIn tape (now (file .entry))) span first)) ⌝ }
+    ensures { λ r. ⌜ deskIn (tapeIn tape (now (file .entry)) .source) r (now (out .exit)) ≡ emitAll (deskIn (tapeIn tape (now (file .entry)) .source) sink (now (out .entry))) (inlineAll (nodeIn (insideOf (tapeIn tape (now (file .entry))) depth) (tapeIn tape (now (file .entry)))) (tapeIn tape (now (file .entry))) (behindOf (tapeIn tape (now (file .entry))) parent outer behind) true (nodesIn (tapeIn tape (now (file .entry))) span first)) ⌝ }
 {
     let mut s = sink;
     let mut step = first;
     let mut kept = first;
     let mut trim = true;
+    let mut known = behind;
     loop {
         match step {
             Step::Done => return s,
             Step::At(c) => match sort_in(file, tape, span, c) {
                 Sort::End => return s,
                 Sort::Enter => {
-                    s = node(file, tape, solids, c, depth, behind, s, out);
+                    known = turns::ask(file, tape, solids, parent, outer, known);
+                    s = node(file, tape, solids, c, depth, follows(known), s, out);
                     trim = render::trims_after(file, tape, c);
                     step = c.next_sibling(file, tape);
                     kept = step;
@@ -168,16 +177,19 @@ pub fn inline(
                         tape,
                         solids,
                         span,
+                        parent,
+                        outer,
                         c,
                         child,
                         trim,
-                        behind,
+                        known,
                         kept,
                         s,
                         out,
                     );
                     s = g.sink;
                     trim = g.trim;
+                    known = g.behind;
                     kept = g.kept;
                     step = g.next;
                 }
@@ -194,24 +206,26 @@ fn note_inline(
     parent: Cursor,
     first: Step,
     depth: usize,
-    behind: bool,
+    outer: bool,
     sink: Sink,
     out: &mut [u8],
 ) -> Sink
     requires { ⌜ Solids (tapeIn tape (now file)) (now solids) ⌝ }
-    ensures { λ r. ⌜ deskIn (tapeIn tape (now (file .entry)) .source) r (now (out .exit)) ≡ emitAll (deskIn (tapeIn tape (now (file .entry)) .source) sink (now (out .entry))) (noteAll (nodeIn (insideOf (tapeIn tape (now (file .entry))) depth) (tapeIn tape (now (file .entry)))) (tapeIn tape (now (file .entry))) (parent .at + 1) behind true (walkFrom (tapeIn tape (now (file .entry))) first)) ⌝ }
+    ensures { λ r. ⌜ deskIn (tapeIn tape (now (file .entry)) .source) r (now (out .exit)) ≡ emitAll (deskIn (tapeIn tape (now (file .entry)) .source) sink (now (out .entry))) (noteAll (nodeIn (insideOf (tapeIn tape (now (file .entry))) depth) (tapeIn tape (now (file .entry)))) (tapeIn tape (now (file .entry))) (parent .at + 1) (behindOf (tapeIn tape (now (file .entry))) parent outer Unasked) true (walkFrom (tapeIn tape (now (file .entry))) first)) ⌝ }
 {
     let mut s = sink;
     let mut step = first;
     let mut kept = first;
     let mut trim = true;
+    let mut known = Behind::Unasked;
     loop {
         match step {
             Step::Done => return s,
             Step::At(c) => match note_sort(file, tape, c) {
                 Sort::End => return s,
                 Sort::Enter => {
-                    s = node(file, tape, solids, c, depth, behind, s, out);
+                    known = turns::ask(file, tape, solids, parent, outer, known);
+                    s = node(file, tape, solids, c, depth, follows(known), s, out);
                     trim = render::trims_after(file, tape, c);
                     step = c.next_sibling(file, tape);
                     kept = step;
@@ -222,16 +236,18 @@ fn note_inline(
                         tape,
                         solids,
                         parent,
+                        outer,
                         c,
                         child,
                         trim,
-                        behind,
+                        known,
                         kept,
                         s,
                         out,
                     );
                     s = g.sink;
                     trim = g.trim;
+                    known = g.behind;
                     kept = g.kept;
                     step = g.next;
                 }

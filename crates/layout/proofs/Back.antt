@@ -5,13 +5,14 @@ use Prim.Native.Nat.{ℕ, zero, suc, _+_, _-_, _*_, _/_, _%_, _≤_, _<_}
 use native.Mathlib.Nat.{mul-suc, mul-zero}
 use native.Mathlib.Numerals.{add-one}
 use native.Mathlib.Omega.{arith}
-use lib.ListN.{length, getD, drop, length-drop, List·getD-append}
-use lib.Seq.{drop-append-le, drop-drop, getD-drop}
+use borrow.Author.Tests.{le-leb}
+use lib.ListN.{length, getD, drop, length-append, length-drop}
+use lib.Seq.{drop-append-le, drop-drop}
 use Rattle.parts.specs.Bytes.{Bytes}
-use Rattle.tape.specs.File.{le16, le32, nodeOf, entryOf, recordsOf, nowhere}
+use Rattle.tape.specs.File.{le16, le32, nodeFields, entryFields, nodeOf, entryOf, recordsOf, nowhere}
 use Rattle.tape.specs.declared.Node.{Node}
 use Rattle.tape.specs.declared.Entry.{Entry}
-use Rattle.tape.proofs.Laws.{records-at}
+use Rattle.tape.proofs.Laws.{Local, node-local, entry-local, records-at}
 use Rattle.layout.specs.Bytes.{nodeBytes, entryBytes}
 use Rattle.layout.specs.Layout.{linkAt}
 
@@ -24,42 +25,35 @@ two-back n = omega arith
 pub four-back : (n : ℕ) → n % 65536 % 256 + 256 * (n % 65536 / 256) + 65536 * (n / 65536 % 256 + 256 * (n / 65536 / 256)) ≡ n
 four-back n = omega arith
 
+-- the fields of a node that was stored
+node-fields : (n : Node) (rest : Bytes) → nodeFields (nodeBytes n ++ rest) ≡ n
+unfolding nodeFields nodeBytes le32 le16
+node-fields n rest = rw (two-back (n .marker), four-back (n .link), four-back (n .start), four-back (n .len))
+
+node-length : (n : Node) → length (nodeBytes n) ≡ 16
+unfolding nodeBytes
+node-length n = refl
+
 -- a node that was stored
 pub node-back : (n : Node) (rest : Bytes) → nodeOf (nodeBytes n ++ rest) ≡ n
-unfolding nodeOf nodeBytes le32 le16
-node-back n rest = rw (two-back (n .marker), four-back (n .link), four-back (n .start), four-back (n .len))
+unfolding nodeOf
+node-back n rest =
+    rw (le-leb 16 (length (nodeBytes n ++ rest)) (omega (arith, length-append (nodeBytes n) rest, node-length n))) (node-fields n rest)
+
+-- the fields of an entry that was stored
+entry-fields : (e : Entry) (rest : Bytes) → entryFields (entryBytes e ++ rest) ≡ e
+unfolding entryFields entryBytes le32 le16
+entry-fields e rest = rw (four-back (e .start), two-back (e .len))
+
+entry-length : (e : Entry) → length (entryBytes e) ≡ 8
+unfolding entryBytes
+entry-length e = refl
 
 -- an entry that was stored
 pub entry-back : (e : Entry) (rest : Bytes) → entryOf (entryBytes e ++ rest) ≡ e
-unfolding entryOf entryBytes le32 le16
-entry-back e rest = rw (four-back (e .start), two-back (e .len))
-
--- ---- what stands in front of other bytes
-
--- a byte of the first of two lists, behind a place
-front : (s t : Bytes) (k i : ℕ) → k + i < length s → getD (drop k (s ++ t)) i 0 ≡ getD (drop k s) i 0
-front s t k i h = getD-drop k (s ++ t) i 0 ∙ List·getD-append s t 0 (k + i) h ∙ sym (getD-drop k s i 0)
-
-le16-front : (s t : Bytes) (k : ℕ) → k + 2 ≤ length s → le16 (drop k (s ++ t)) ≡ le16 (drop k s)
-unfolding le16
-le16-front s t k h = rw (front s t k 0 (omega arith), front s t k 1 (omega arith))
-
-le32-front : (s t : Bytes) (k : ℕ) → k + 4 ≤ length s → le32 (drop k (s ++ t)) ≡ le32 (drop k s)
-unfolding le32
-le32-front s t k h = rw (drop-drop 2 k (s ++ t), drop-drop 2 k s, le16-front s t k (omega arith), le16-front s t (k + 2) (omega arith))
-
--- a record reads its own bytes only
-abbrev pub Local : {A : Type 0} → (Bytes → A) → ℕ → Type 0
-Local read size = (s t : Bytes) → size ≤ length s → read (s ++ t) ≡ read s
-
-pub node-local : Local nodeOf 16
-unfolding nodeOf
-node-local s t h =
-    rw (front s t 0 0 (omega arith), front s t 0 1 (omega arith), le16-front s t 2 (omega arith), le32-front s t 4 (omega arith), le32-front s t 8 (omega arith), le32-front s t 12 (omega arith))
-
-pub entry-local : Local entryOf 8
 unfolding entryOf
-entry-local s t h = rw (le32-front s t 0 (omega arith), le16-front s t 4 (omega arith), front s t 0 6 (omega arith), front s t 0 7 (omega arith))
+entry-back e rest =
+    rw (le-leb 8 (length (entryBytes e ++ rest)) (omega (arith, length-append (entryBytes e) rest, entry-length e))) (entry-fields e rest)
 
 -- ---- records
 
@@ -101,6 +95,8 @@ pub entries-snoc : (n : ℕ) (s : Bytes) (x : Entry) → length s ≡ 8 * n → 
 entries-snoc n s x = stored-snoc entryOf 8 entry-local n s (entryBytes x) (entry-back x [])
 
 -- the link of the node at an index, Root left out
-pub link-back : (n i : ℕ) (s : Bytes) → 0 < i → i ≤ n → getD (recordsOf nodeOf 16 n s) (i - 1) nowhere .link ≡ le32 (drop (linkAt i) s)
-unfolding nodeOf
-link-back n i s pos h = ap (λ (x : Node). x .link) (records-at nodeOf 16 n s (i - 1) nowhere (omega arith)) ∙ ap le32 (drop-drop 4 (16 * (i - 1)) s)
+pub link-back : (n i : ℕ) (s : Bytes) → 16 * n ≤ length s → 0 < i → i ≤ n → getD (recordsOf nodeOf 16 n s) (i - 1) nowhere .link ≡ le32 (drop (linkAt i) s)
+unfolding nodeOf nodeFields
+link-back n i s l pos h =
+    ap (λ (x : Node). x .link) (records-at nodeOf 16 n s (i - 1) nowhere (omega arith))
+    ∙ rw (le-leb 16 (length (drop (16 * (i - 1)) s)) (omega (arith, length-drop (16 * (i - 1)) s))) (ap le32 (drop-drop 4 (16 * (i - 1)) s))

@@ -4,22 +4,24 @@ use mathlib.Core.List.{List, _∷_, _++_, append-assoc}
 use Prim.Native.Nat.{ℕ, _+_, _*_}
 use native.Mathlib.Numerals.{add-one}
 use native.Mathlib.Omega.{arith}
-use lib.ListN.{length, drop, take, length-append}
+use borrow.Author.Tests.{le-leb}
+use lib.ListN.{length, drop, take, length-append, length-drop}
 use lib.Seq.{drop-append-add, drop-at, take-at, take-all}
 use Rattle.parts.specs.Bytes.{Bytes, part}
-use Rattle.tape.specs.File.{le16, le32, nodeOf, entryOf, recordsOf, sectionsOf, tapeIn, tapeOf, entriesAt, namesAt, sourceAt}
+use Rattle.tape.specs.File.{le16, le32, nodeFields, nodeOf, entryOf, recordsOf, sectionsOf, tapeIn, tapeOf, entriesAt, namesAt, sourceAt}
 use Rattle.tape.specs.declared.Node.{Node}
 use Rattle.tape.specs.declared.Sections.{Sections}
 use Rattle.nest.specs.Nest.{Sound}
 use Rattle.admit.specs.Rules.{LaidOut, Small, Utf8, GoodNames, GoodNodes}
 use Rattle.admit.specs.Refusal.{Kept₃, Kept₅, Refusal, none}
 use Rattle.draft.specs.Draft.{rootNode, tapeFrom}
+use Rattle.tape.proofs.Laws.{node-local, entry-local}
 use Rattle.layout.specs.declared.Writer.{Writer}
 use Rattle.layout.specs.Bytes.{nodeBytes}
 use Rattle.layout.specs.Layout.{Held, Fits, fileLen, heldIn, readAs, draftOf, headerBytes, topOf, fileOf}
 use Rattle.layout.proofs.Laid.{Counts, counts}
 use Rattle.layout.proofs.Turn.{top-length}
-use Rattle.layout.proofs.Back.{four-back, records-front, node-local, entry-local}
+use Rattle.layout.proofs.Back.{four-back, records-front}
 use Rattle.layout.proofs.States.{nodes-count}
 
 -- ---- header and Root
@@ -52,9 +54,15 @@ offsets-read w rest =
     }
 
 -- Root, and what stands behind it
+root-fields : (w : Writer) (rest : Bytes) → nodeFields (drop 36 (topOf w ++ rest)) ≡ rootNode (w .nodes + 1)
+unfolding topOf headerBytes nodeBytes nodeFields le32 le16
+root-fields w rest = rw (four-back (w .nodes + 1))
+
 root-read : (w : Writer) (rest : Bytes) → nodeOf (drop 36 (topOf w ++ rest)) ≡ rootNode (w .nodes + 1)
-unfolding topOf headerBytes nodeBytes nodeOf le32 le16
-root-read w rest = rw (four-back (w .nodes + 1))
+unfolding nodeOf
+root-read w rest =
+    let l : length (drop 36 (topOf w ++ rest)) ≡ 16 + length rest = length-drop 36 (topOf w ++ rest) ∙ omega (arith, length-append (topOf w) rest, top-length w) in
+    rw (l, le-leb 16 (16 + length rest) (omega arith)) (root-fields w rest)
 
 past-root : (w : Writer) (rest : Bytes) → drop 16 (drop 36 (topOf w ++ rest)) ≡ rest
 unfolding topOf headerBytes nodeBytes

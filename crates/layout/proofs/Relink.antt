@@ -4,30 +4,38 @@ use mathlib.Core.List.{List, [], _∷_, _++_, append-assoc}
 use Prim.Native.Nat.{ℕ, zero, suc, _+_, _*_, _≤_, _<_}
 use native.Mathlib.Nat.{mul-suc}
 use native.Mathlib.Omega.{arith}
+use borrow.Author.Tests.{le-leb}
 use lib.ListN.{length, getD, take, drop, set, length-drop, take-append-drop}
 use lib.Seq.{drop-append-add, take-append-add, length-take-le, drop-at}
 use Rattle.parts.specs.Bytes.{Bytes}
-use Rattle.tape.specs.File.{le16, le32, nodeOf, recordsOf, nowhere}
+use Rattle.tape.specs.File.{le16, le32, nodeFields, nodeOf, recordsOf, nowhere}
 use Rattle.tape.specs.declared.Node.{Node}
+use Rattle.tape.proofs.Laws.{node-local}
 use Rattle.admit.specs.Encode.{four}
 use Rattle.draft.specs.Draft.{relinked}
 use Rattle.layout.specs.Bytes.{over}
 use Rattle.layout.proofs.Chain.{over-inside}
 use Rattle.layout.proofs.Moved.{length-over}
-use Rattle.layout.proofs.Back.{four-back, node-local}
+use Rattle.layout.proofs.Back.{four-back}
 
 -- the link of the first node
-first-relink : (s : Bytes) (to : ℕ) → 8 ≤ length s → nodeOf (over s 4 (four to)) ≡ relinked (nodeOf s) to
-unfolding over nodeOf le32 le16
-first-relink [] to l = absurd (omega arith)
-first-relink (a ∷ []) to l = absurd (omega arith)
-first-relink (a ∷ b ∷ []) to l = absurd (omega arith)
-first-relink (a ∷ b ∷ c ∷ []) to l = absurd (omega arith)
-first-relink (a ∷ b ∷ c ∷ d ∷ []) to l = absurd (omega arith)
-first-relink (a ∷ b ∷ c ∷ d ∷ e ∷ []) to l = absurd (omega arith)
-first-relink (a ∷ b ∷ c ∷ d ∷ e ∷ f ∷ []) to l = absurd (omega arith)
-first-relink (a ∷ b ∷ c ∷ d ∷ e ∷ f ∷ g ∷ []) to l = absurd (omega arith)
-first-relink (a ∷ b ∷ c ∷ d ∷ e ∷ f ∷ g ∷ h ∷ s) to l = rw (four-back to)
+fields-relink : (s : Bytes) (to : ℕ) → 8 ≤ length s → nodeFields (over s 4 (four to)) ≡ relinked (nodeFields s) to
+unfolding over nodeFields le32 le16
+fields-relink [] to l = absurd (omega arith)
+fields-relink (a ∷ []) to l = absurd (omega arith)
+fields-relink (a ∷ b ∷ []) to l = absurd (omega arith)
+fields-relink (a ∷ b ∷ c ∷ []) to l = absurd (omega arith)
+fields-relink (a ∷ b ∷ c ∷ d ∷ []) to l = absurd (omega arith)
+fields-relink (a ∷ b ∷ c ∷ d ∷ e ∷ []) to l = absurd (omega arith)
+fields-relink (a ∷ b ∷ c ∷ d ∷ e ∷ f ∷ []) to l = absurd (omega arith)
+fields-relink (a ∷ b ∷ c ∷ d ∷ e ∷ f ∷ g ∷ []) to l = absurd (omega arith)
+fields-relink (a ∷ b ∷ c ∷ d ∷ e ∷ f ∷ g ∷ h ∷ s) to l = rw (four-back to)
+
+first-relink : (s : Bytes) (to : ℕ) → 16 ≤ length s → nodeOf (over s 4 (four to)) ≡ relinked (nodeOf s) to
+unfolding nodeOf
+first-relink s to l =
+    let same : length (over s 4 (four to)) ≡ length s = length-over s (four to) 4 (omega arith) in
+    rw (same, le-leb 16 (length s) l) (fields-relink s to (omega arith))
 
 -- a run over the second of two lists
 over-second : (p r x : Bytes) (i at : ℕ) → length p + at ≡ i → over (p ++ r) i x ≡ p ++ over r at x

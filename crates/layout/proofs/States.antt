@@ -13,7 +13,7 @@ use Rattle.draft.specs.Draft.{Draft, piece, entry, plain, leaf, opens, closes, 
 use Rattle.layout.specs.declared.Writer.{Writer}
 use Rattle.layout.specs.Layout.{Fits, fileLen, heldIn, readAs, draftOf, stateOf}
 use Rattle.layout.specs.Steps.{outer, pushed, poured, entered}
-use Rattle.layout.proofs.Laid.{names-length, source-length}
+use Rattle.layout.proofs.Laid.{counts, names-length, source-length}
 use Rattle.layout.proofs.Back.{link-back}
 
 -- ---- states
@@ -77,7 +77,7 @@ module _ (w : Writer) (buf : Bytes) (f : Fits w (length buf)) where
   -- the link of the innermost open container
   pub outer-link : 0 < w .inner → innermost (draftOf w buf) .link ≡ outer (heldIn w buf) (w .inner)
   unfolding readAs outer
-  outer-link pos = link-back (w .nodes) (w .inner) (heldIn w buf .nodes) pos (f .inner)
+  outer-link pos = link-back (w .nodes) (w .inner) (heldIn w buf .nodes) (omega (arith, counts w buf f .nodes)) pos (f .inner)
 
   -- a close, whatever is open
   pub state-shut : (n : Node) → stateOf 1 (after (draftOf w buf) (closes n)) ≡ pushed w (innermost (draftOf w buf) .link) (w .depth - 1)

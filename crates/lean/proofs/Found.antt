@@ -11,7 +11,7 @@ use Rattle.chars.specs.Space.{isAsciiWhite}
 use Rattle.words.specs.Words.{whiteLen}
 use Rattle.words.specs.declared.Set.the-variants.{Ascii}
 use Rattle.words.proofs.Texts.{white-le}
-use Rattle.texts.proofs.Edges.{white-more, white-ends}
+use Rattle.words.proofs.Bytes.{white-more, white-ends}
 use Rattle.tape.specs.File.{tapeIn, nodeAt, textAt}
 use Rattle.tape.specs.declared.Sections.{Sections}
 use Rattle.tape.specs.declared.Cursor.{Cursor}

@@ -14,7 +14,7 @@ use Rattle.checker.specs.Words.{Kind, Demand, startsIn}
 use Rattle.checker.specs.Steps.{Held, shut, held}
 use Rattle.checker.specs.Meaning.{since, Fits, of-words, of-open, of-close, of-single, chapter-start, chapter-end, verse-start, verse-end}
 use Rattle.checker.proofs.Decides.{since-other, starts-other, starts-more}
-use Rattle.events.specs.Event.{Event, item, chapter, verse, book, rawly, escaped, perhaps}
+use Rattle.events.specs.Event.{Event, item, chapter, verse, book, aside, back, rawly, escaped, perhaps}
 use Rattle.events.specs.Pairing.{State, chapterId, verseId, after, endOf, chapterAttrs, verseAttrs, bookAttrs, bookItems, itemsOf, lastEnds, paired}
 use Rattle.events.proofs.Emits.{chapter-items, verse-items}
 use Rattle.milestones.specs.Seen.{pairs, tokenOf, seen, startOf, openStarts, PlainItem, PlainEvents, chaptersIn, versesIn}
@@ -118,6 +118,8 @@ paired-row s (verse label alt published ∷ es) h =
     (row-on (heldOf (s .chapter)) shut x _ (seen rest) (verse-seen (s .book) (s .number) label alt published) (verse-start refl) (paired-row (after s (verse label alt published)) es h)))
 paired-row s (book code rest ∷ es) h =
     row-book (heldOf (s .chapter)) (heldOf (s .verse)) code rest (paired (after s (book code rest)) es) (paired-row (after s (book code rest)) es h)
+paired-row s (aside ∷ es) h = paired-row s es h
+paired-row s (back ∷ es) h = paired-row s es h
 
 row-open : (c v : Option Bytes) (vs : List View) → Row (heldOf c) (heldOf v) vs → Row shut shut ((startOf 3 c ++ startOf 4 v) ++ vs)
 unfolding startOf since
@@ -192,6 +194,8 @@ chapters-paired s (verse label alt published ∷ es) h =
     starts-verse 3 s label alt published (paired (after s (verse label alt published)) es) ∙ chapters-paired (after s (verse label alt published)) es h
 chapters-paired s (book code rest ∷ es) h =
     starts-book 3 (inl refl) code rest (paired (after s (book code rest)) es) ∙ chapters-paired (after s (book code rest)) es h
+chapters-paired s (aside ∷ es) h = chapters-paired s es h
+chapters-paired s (back ∷ es) h = chapters-paired s es h
 
 verses-paired : (s : State) (es : List Event) → PlainEvents es → startsIn 4 (seen (paired s es)) ≡ versesIn es
 unfolding paired after itemsOf seen versesIn
@@ -203,6 +207,8 @@ verses-paired s (verse label alt published ∷ es) h =
     starts-verse 4 s label alt published (paired (after s (verse label alt published)) es) ∙ ap suc (verses-paired (after s (verse label alt published)) es h)
 verses-paired s (book code rest ∷ es) h =
     starts-book 4 (inr refl) code rest (paired (after s (book code rest)) es) ∙ verses-paired (after s (book code rest)) es h
+verses-paired s (aside ∷ es) h = verses-paired s es h
+verses-paired s (back ∷ es) h = verses-paired s es h
 
 -- the starts are as many as the chapter and verse events
 pub paired-counts : (s : State) (es : List Event) → PlainEvents es

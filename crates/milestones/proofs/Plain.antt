@@ -10,7 +10,7 @@ use Rattle.events.specs.Event.{Event}
 use Rattle.events.specs.Pairing.{paired}
 use Rattle.events.specs.Text.{firstState}
 use Rattle.events.specs.Walk.{eventsOf}
-use Rattle.grammar.specs.Grammar.{a-text, a-line, an-empty, a-chapter, a-verse, by-itself, of-book, opening, closing, AllWritten}
+use Rattle.grammar.specs.Grammar.{a-text, a-line, an-empty, a-chapter, a-verse, an-aside, a-back, by-itself, of-book, opening, closing, AllWritten}
 use Rattle.grammar.proofs.Written.{walk-written, given-range}
 use Rattle.milestones.specs.Seen.{seen, startOf, openStarts, PlainEvents, chaptersIn, versesIn}
 use Rattle.milestones.proofs.Paired.{paired-demand, paired-counts}
@@ -27,6 +27,8 @@ written-plain t (e ∷ es) (by-itself a-line, w) = (tt, written-plain t es w)
 written-plain t (e ∷ es) (by-itself (an-empty {n} a), w) = (neither n (given-range a .0), written-plain t es w)
 written-plain t (e ∷ es) (by-itself a-chapter, w) = written-plain t es w
 written-plain t (e ∷ es) (by-itself (a-verse k v), w) = written-plain t es w
+written-plain t (e ∷ es) (by-itself an-aside, w) = written-plain t es w
+written-plain t (e ∷ es) (by-itself a-back, w) = written-plain t es w
 written-plain t (e ∷ es) (of-book k o r, w) = written-plain t es w
 written-plain t (e ∷ es) (opening {n} a, w) = (neither n (given-range a .0), written-plain t es w)
 written-plain t (e ∷ es) (closing {n} a, w) = (neither n (given-range a .0), written-plain t es w)

@@ -7,7 +7,7 @@ use Rattle.tags.specs.Form.{Pair, Token, text as textToken, opens, closes, empt
 use Rattle.tags.specs.Items.{Attr, Item, start, empty, close, text, line, newLine}
 use Rattle.checker.specs.View.{start as starts, View, single, view}
 use Rattle.checker.specs.Words.{Kind}
-use Rattle.events.specs.Event.{Event, item, chapter, verse, book}
+use Rattle.events.specs.Event.{Event, item, chapter, verse, book, aside, back}
 use Rattle.events.specs.Pairing.{State}
 use Rattle.tags.specs.Element as el
 
@@ -55,6 +55,8 @@ PlainEvents (item i ∷ es) = PlainItem i × PlainEvents es
 PlainEvents (chapter n alt published ∷ es) = PlainEvents es
 PlainEvents (verse label alt published ∷ es) = PlainEvents es
 PlainEvents (book code rest ∷ es) = PlainEvents es
+PlainEvents (aside ∷ es) = PlainEvents es
+PlainEvents (back ∷ es) = PlainEvents es
 
 -- how many chapters stand among the events
 unfoldable pub chaptersIn : List Event → ℕ
@@ -63,6 +65,8 @@ chaptersIn (item i ∷ es) = chaptersIn es
 chaptersIn (chapter n alt published ∷ es) = suc (chaptersIn es)
 chaptersIn (verse label alt published ∷ es) = chaptersIn es
 chaptersIn (book code rest ∷ es) = chaptersIn es
+chaptersIn (aside ∷ es) = chaptersIn es
+chaptersIn (back ∷ es) = chaptersIn es
 
 -- how many verses stand among the events
 unfoldable pub versesIn : List Event → ℕ
@@ -71,3 +75,5 @@ versesIn (item i ∷ es) = versesIn es
 versesIn (chapter n alt published ∷ es) = versesIn es
 versesIn (verse label alt published ∷ es) = suc (versesIn es)
 versesIn (book code rest ∷ es) = versesIn es
+versesIn (aside ∷ es) = versesIn es
+versesIn (back ∷ es) = versesIn es

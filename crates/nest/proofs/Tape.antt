@@ -16,6 +16,7 @@ use Rattle.parts.specs.Bytes.{Bytes}
 use Rattle.tape.specs.File.{nowhere, tapeIn, nodeAt}
 use Rattle.tape.specs.Tree.{isClose}
 use Rattle.tape.specs.declared.Sections.{Sections}
+use Rattle.tape.specs.declared.Cursor.{Cursor}
 use Rattle.tape.proofs.Laws.{node-count}
 use Rattle.nest.specs.Nest.{container, close, Container, Close, partOf, count, RootEnds}
 use Rattle.nest.specs.declared.Part.{Part}
@@ -181,18 +182,27 @@ module _ (c : Sections) (file : Bytes) where
         λ r. eq-eqb (z .kind .code) 5 (⊎-elim {C = z .kind .code ≡ 5} (λ p. absurd (omega arith)) (λ p. same ∙ p .1) r),
       )
 
-  -- ---- the part of a node that is read
+  -- ---- the part of a node that a cursor reads
 
-  pub node-self : (i : ℕ) {n : Node} → n ≡ nodeAt (tapeIn c file) i → n .kind .code ≡ 3 → n .link ≡ i → Leaf ≡ partOf nodesIn i
-  node-self i en k l = part-self nodesIn i (kind-in i en) k (link-in i en) l
+  module _ (i : ℕ) {z : Cursor} (ez : z .at ≡ i) {k : ℕ} (ek : k ≡ nodeAt (tapeIn c file) (z .at) .kind .code) where
+    kind-is : k ≡ kindAt nodesIn i
+    unfolding nodeAt
+    kind-is = ek ∙ ap (kindAt nodesIn) ez
 
-  pub node-opens : (i : ℕ) {n : Node} → n ≡ nodeAt (tapeIn c file) i → n .kind .code ≡ 3 → (n .link ≡ i → ⊥) → Opens (n .link) ≡ partOf nodesIn i
-  node-opens i en k l = part-opens nodesIn i (kind-in i en) k (link-in i en) l
+    link-is : {l : ℕ} → l ≡ nodeAt (tapeIn c file) (z .at) .link → l ≡ linkAt nodesIn i
+    unfolding nodeAt
+    link-is el = el ∙ ap (linkAt nodesIn) ez
 
-  pub node-closes : (i : ℕ) {n : Node} {x : Bool} → n ≡ nodeAt (tapeIn c file) i → (n .kind .code ≡ 3 → ⊥) → x ≡ isClose (n .kind .code) → x ≡ true → Closes ≡ partOf nodesIn i
-  unfolding isClose partOf close
-  node-closes i en k ex x = rw (opens-not nodesIn i (λ e. k (kind-in i en ∙ e)), ← kind-in i en, ← ex, x)
+    pub node-self : {l : ℕ} → k ≡ 3 → l ≡ nodeAt (tapeIn c file) (z .at) .link → l ≡ i → Leaf ≡ partOf nodesIn i
+    node-self hk el hl = part-self nodesIn i kind-is hk (link-is el) hl
 
-  pub node-leaf : (i : ℕ) {n : Node} {x : Bool} → n ≡ nodeAt (tapeIn c file) i → (n .kind .code ≡ 3 → ⊥) → x ≡ isClose (n .kind .code) → x ≡ false → Leaf ≡ partOf nodesIn i
-  unfolding isClose partOf close
-  node-leaf i en k ex x = rw (opens-not nodesIn i (λ e. k (kind-in i en ∙ e)), ← kind-in i en, ← ex, x)
+    pub node-opens : {l : ℕ} → k ≡ 3 → l ≡ nodeAt (tapeIn c file) (z .at) .link → (l ≡ i → ⊥) → Opens l ≡ partOf nodesIn i
+    node-opens hk el hl = part-opens nodesIn i kind-is hk (link-is el) hl
+
+    pub node-closes : {x : Bool} → (k ≡ 3 → ⊥) → x ≡ isClose k → x ≡ true → Closes ≡ partOf nodesIn i
+    unfolding isClose partOf close
+    node-closes hk ex x = rw (opens-not nodesIn i (λ e. hk (kind-is ∙ e)), ← kind-is, ← ex, x)
+
+    pub node-leaf : {x : Bool} → (k ≡ 3 → ⊥) → x ≡ isClose k → x ≡ false → Leaf ≡ partOf nodesIn i
+    unfolding isClose partOf close
+    node-leaf hk ex x = rw (opens-not nodesIn i (λ e. hk (kind-is ∙ e)), ← kind-is, ← ex, x)

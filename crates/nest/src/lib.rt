@@ -5,6 +5,7 @@ ghost use mathlib.Core.Logic.{_↔_};
 ghost use Rattle.tape.specs.File.{tapeIn};
 ghost use Rattle.nest.specs.Tape.{linkAt};
 ghost use Rattle.nest.specs.Nest.{partOf, TooDeep, RootEnds, Sound};
+use tape::Cursor;
 use tape::Kind;
 use tape::Sections;
 
@@ -21,14 +22,16 @@ pub enum Part {
 pub fn part_at(file: &[u8], t: Sections, i: u32) -> Part
     ensures { λ r. ⌜ r ≡ partOf (tapeIn t (now (file .entry)) .nodes) i ⌝ }
 {
-    let n = tape::node_at(file, t, i);
-    if n.kind.code == Kind::MARKER_OPEN {
-        if n.link == i {
+    let c = Cursor::new(i);
+    let kind = c.kind(file, t);
+    if kind.code == Kind::MARKER_OPEN {
+        let link = c.link(file, t);
+        if link == i {
             return Part::Leaf;
         }
-        return Part::Opens(n.link);
+        return Part::Opens(link);
     }
-    if n.kind.is_close() {
+    if kind.is_close() {
         return Part::Closes;
     }
     Part::Leaf

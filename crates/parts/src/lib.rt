@@ -5,6 +5,7 @@ ghost use Prim.Native.Nat.{_-_};
 ghost use lib.ListN.{length, getD, drop};
 ghost use Rattle.parts.specs.Bytes.{part as partOf, same as isSame, begins, find};
 ghost use Rattle.parts.specs.Place.{VeryPart};
+ghost use Rattle.parts.specs.Pair.{anyPair, isBoth, NoPairTo};
 
 // The byte at a place, and 0 past the end.
 pub fn byte_at(s: &[u8], i: usize) -> u8
@@ -71,8 +72,36 @@ pub fn find_byte(s: &[u8], x: u8) -> usize
     i
 }
 
-// Where a byte first stands twice in a row, as in `//`, or the length where it does not.
-pub fn find_pair(s: &[u8], x: u8) -> usize
+// Whether a byte stands twice in a row; with no branch, so that the bytes of a block are tested at once.
+fn has_pair(s: &[u8], x: u8) -> bool
+    ensures { λ r. ⌜ r ≡ anyPair (isBoth x) (now (s .entry)) ⌝ }
+{
+    let mut found = false;
+    let mut i = 1;
+    while i < s.len() {
+        found = found | ((x == s[i - 1]) & (x == s[i]));
+        i += 1;
+    }
+    found
+}
+
+// Where the whole blocks end in which it does not.
+fn pairless_blocks(s: &[u8], x: u8) -> usize
+    ensures { λ r. ⌜ NoPairTo x (now (s .entry)) r ⌝ }
+{
+    let mut i = 0;
+    while 17 <= s.len() - i {
+        let e = i + 17;
+        if has_pair(&s[i..e], x) {
+            return i;
+        }
+        i += 16;
+    }
+    i
+}
+
+// Where a byte first stands twice in a row, one by one.
+fn pair_each(s: &[u8], x: u8) -> usize
     ensures { λ r. ⌜ r ≡ find (x ∷ x ∷ []) (now (s .entry)) ⌝ }
 {
     let mut i = 0;
@@ -83,4 +112,12 @@ pub fn find_pair(s: &[u8], x: u8) -> usize
         i += 1;
     }
     i
+}
+
+// Where a byte first stands twice in a row, as in `//`, or the length where it does not.
+pub fn find_pair(s: &[u8], x: u8) -> usize
+    ensures { λ r. ⌜ r ≡ find (x ∷ x ∷ []) (now (s .entry)) ⌝ }
+{
+    let i = pairless_blocks(s, x);
+    i + pair_each(&s[i..], x)
 }

@@ -1,23 +1,24 @@
 -- Blocks of a text that its body shares.
 use mathlib.Core.Path.{_≡_, refl, sym, ap, _∙_}
-use mathlib.Core.Bool.{Bool, true, false, not, _&&_, _||_, or-assoc, or-false, or-true}
+use mathlib.Core.Bool.{Bool, true, false, not, _&&_, _||_, or-true}
 use mathlib.Core.List.{[], _∷_}
 use Prim.Native.Nat.{ℕ, zero, suc, _+_, _-_, _≤_, _<_}
 use native.Mathlib.Nat.{zero-add}
 use native.Mathlib.Omega.{arith}
-use lib.ListN.{length, getD, take, drop, length-drop}
+use lib.ListN.{length, take, drop, length-drop}
 use lib.Seq.{drop-drop}
 use lib.Dec.{eqb, ltb}
 use borrow.Author.Tests.{eqb-false, ltb-false}
 use Rattle.parts.specs.Bytes.{Bytes, firstAt}
-use Rattle.parts.proofs.Laws.{drop-at, or-both}
+use Rattle.parts.specs.Pair.{anyPair}
+use Rattle.parts.proofs.Laws.{or-both}
+use Rattle.texts.proofs.Edges.{solid-above}
 use Rattle.prose.specs.Body.{plain, startsSolid, differs, sharedLen, odd, anyOdd, SharedTo}
-use Rattle.prose.proofs.Rest.{solid-above}
 
 -- ---- a block
 
 -- a byte that is not odd stands in the body as it is
-odd-same : (x y : ℕ) (s : Bytes) → odd x y ≡ false → differs (x ∷ y ∷ s) ≡ false
+pub odd-same : (x y : ℕ) (s : Bytes) → odd x y ≡ false → differs (x ∷ y ∷ s) ≡ false
 unfolding odd differs plain startsSolid
 odd-same x y s e =
     let h = or-both (ltb x 32) (eqb x 126 || (eqb x 32 && ltb y 33)) e in
@@ -32,7 +33,7 @@ odd-same x y s e =
         by n l = omega arith
 
 block-skip : (n : ℕ) (t : Bytes) → suc n ≤ length t → anyOdd (take (suc n) t) ≡ false → sharedLen t ≡ n + sharedLen (drop n t)
-unfolding sharedLen firstAt anyOdd
+unfolding sharedLen firstAt anyPair
 block-skip zero t h e = sym (zero-add (sharedLen t))
 block-skip (suc n) [] h e = absurd (omega arith)
 block-skip (suc n) (x ∷ []) h e = absurd (omega arith)
@@ -51,31 +52,3 @@ block-turn s i h et e z =
     let skip = block-skip 16 (drop i s) (omega (arith, length-drop i s)) (sym (et ∙ rw same) ∙ e) in
     let on : sharedLen (drop 16 (drop i s)) ≡ sharedLen (drop (i + 16) s) = ap sharedLen (drop-drop 16 i s) in
     record { within = omega arith; rest = omega (arith, skip, on, z .rest) }
-
--- ---- the test of a block
-
-module _ (s : Bytes) (i : ℕ) (l : 1 ≤ i) where
-  any-step : i < length s → anyOdd (drop (i - 1) s) ≡ odd (getD s (i - 1) 0) (getD s i 0) || anyOdd (drop i s)
-  unfolding anyOdd
-  any-step h =
-      let next : i - 1 + 1 ≡ i = omega arith in
-      let here : drop (i - 1) s ≡ getD s (i - 1) 0 ∷ drop i s = drop-at s (i - 1) (omega arith) ∙ rw next in
-      rw (here, drop-at s i h)
-
-  any-none : length s ≤ i → anyOdd (drop (i - 1) s) ≡ false
-  unfolding anyOdd
-  any-none h = go (drop (i - 1) s) (omega (arith, length-drop (i - 1) s))
-    where
-      go : (t : Bytes) → length t ≤ 1 → anyOdd t ≡ false
-      go [] h = refl
-      go (x ∷ []) h = refl
-      go (x ∷ y ∷ t) h = absurd (omega arith)
-
-  pub any-turn : (found : Bool) {t z : Bool} → i < length s → t ≡ odd (getD s (i - 1) 0) (getD s i 0)
-      → found || anyOdd (drop (i - 1) s) ≡ z → (found || t) || anyOdd (drop (i + 1 - 1) s) ≡ z
-  any-turn found {t} h et inv =
-      let back : i + 1 - 1 ≡ i = omega arith in
-      rw back (or-assoc found t (anyOdd (drop i s)) ∙ rw et (sym (ap (λ (b : Bool). found || b) (any-step h)) ∙ inv))
-
-  pub any-end : (found : Bool) {z : Bool} → length s ≤ i → found || anyOdd (drop (i - 1) s) ≡ z → found ≡ z
-  any-end found h inv = sym (rw (any-none h) (or-false found)) ∙ inv

@@ -21,9 +21,10 @@ use Rattle.words.proofs.Steps.{space-size}
 use Rattle.words.proofs.Texts.{chars-flatten, chars-row, row-chars}
 use Rattle.texts.specs.Text.{hardSpaces, bodyOf}
 use Rattle.texts.proofs.Texts.{by-tilde, hard-tilde, hard-other, hard-space, hard-append, hard-long}
+use Rattle.texts.proofs.Edges.{solid-above}
 use Rattle.texts.proofs.Told.{told, more as moreOf, lead, told-nil, told-words, told-solid, told-white, more-solid}
 use Rattle.prose.specs.Body.{restOf}
-use Rattle.prose.proofs.Rest.{solid-above, rest-more, rest-nil, rest-tilde, rest-white}
+use Rattle.prose.proofs.Rest.{rest-more, rest-nil, rest-tilde, rest-white}
 
 -- ---- a body, or how one goes on behind a solid byte
 

@@ -5,3 +5,4 @@ pub mod Turns
 pub mod Characters
 pub mod Edges
 pub mod Ends
+pub mod Easy

@@ -1,12 +1,12 @@
 -- What a body goes on with behind a solid byte: a run that it shares with its text, and the gap behind that.
 use mathlib.Core.Path.{_≡_, refl, sym, ap, _∙_}
-use mathlib.Core.Bool.{Bool, true, false, cond, not, _&&_, _||_, and-false}
+use mathlib.Core.Bool.{Bool, true, false, cond, not, _&&_, _||_}
 use mathlib.Core.List.{[], _∷_, _++_, flatten}
 use Prim.Native.Nat.{ℕ, suc, _-_, _≤_, _<_}
 use native.Mathlib.Omega.{arith}
 use lib.ListN.{length, take, drop, length-drop}
-use lib.Dec.{eqb, leb}
-use borrow.Author.Tests.{eqb-true, eqb-false, lt-leb, not-true, not-false}
+use lib.Dec.{eqb}
+use borrow.Author.Tests.{eqb-true, eqb-false, not-true, not-false}
 use Rattle.parts.specs.Bytes.{Bytes, firstAt}
 use Rattle.parts.proofs.Laws.{first-le}
 use Rattle.chars.specs.Range.{inAny, within}
@@ -17,7 +17,7 @@ use Rattle.words.specs.declared.Set.the-variants.{Ascii}
 use Rattle.words.proofs.Texts.{chars-flatten, trim-start-drop, white-le}
 use Rattle.texts.specs.Text.{hardSpaces, bodyOf}
 use Rattle.texts.proofs.Texts.{hard-tilde, hard-other, hard-space}
-use Rattle.texts.proofs.Breaks.{ascii-chars}
+use Rattle.words.proofs.Bytes.{ascii-chars}
 use Rattle.texts.proofs.Told.{told, more, lead, told-nil, more-nil, told-words, told-solid, told-white, more-solid, more-lead}
 use Rattle.prose.specs.Body.{restOf, plain, startsSolid, differs, sharedLen, marked, gapWhite, gapOf}
 use Rattle.prose.specs.declared.Gap.{Gap}
@@ -47,11 +47,6 @@ plain-both x e = go (isAsciiWhite x) (eqb x 126) refl refl e
     go false true ea ez e = absurd (let no-way : _≡_ {A = ℕ} 0 1 = cc in omega arith)
     go false false ea ez e = (ea, eqb-false x 126 ez)
 
--- no byte above the space is white space
-pub solid-above : (x : ℕ) → 32 < x → isAsciiWhite x ≡ false
-unfolding isAsciiWhite inAny within
-solid-above x h = rw (lt-leb x 10 (omega arith), lt-leb x 13 (omega arith), lt-leb x 32 (omega arith), and-false (leb 9 x), and-false (leb 12 x), and-false (leb 32 x))
-
 pub rest-plain : (x : ℕ) (s : Bytes) → plain x ≡ true → restOf (x ∷ s) ≡ x ∷ restOf s
 rest-plain x s e =
     let h = plain-both x e in
@@ -69,7 +64,7 @@ rest-white x s e = rest-more (x ∷ s) ∙ ap hardSpaces (more-lead x s e)
 
 -- ---- without white space in front
 
-trim-nil : trimStart Ascii [] ≡ []
+pub trim-nil : trimStart Ascii [] ≡ []
 unfolding trimStart charsOf cutAt dropWhile flatten
 trim-nil = refl
 
@@ -77,7 +72,7 @@ trim-white : (x : ℕ) (s : Bytes) → isAsciiWhite x ≡ true → trimStart Asc
 unfolding trimStart dropWhile white
 trim-white x s e = rw (ascii-chars x s, e)
 
-trim-solid : (x : ℕ) (s : Bytes) → isAsciiWhite x ≡ false → trimStart Ascii (x ∷ s) ≡ x ∷ s
+pub trim-solid : (x : ℕ) (s : Bytes) → isAsciiWhite x ≡ false → trimStart Ascii (x ∷ s) ≡ x ∷ s
 unfolding trimStart dropWhile white flatten
 trim-solid x s e = rw (ascii-chars x s, e) (ap (λ (t : Bytes). x ∷ t) (chars-flatten Ascii s))
 
@@ -216,7 +211,7 @@ rest-space (y ∷ s) e =
     ∙ hard-space (y ∷ more s)
     ∙ ap (λ (t : Bytes). 32 ∷ t) (ap hardSpaces (sym (more-solid y s h)) ∙ sym (rest-more (y ∷ s)))
 
-rest-same : (x : ℕ) (s : Bytes) → differs (x ∷ s) ≡ false → restOf (x ∷ s) ≡ x ∷ restOf s
+pub rest-same : (x : ℕ) (s : Bytes) → differs (x ∷ s) ≡ false → restOf (x ∷ s) ≡ x ∷ restOf s
 unfolding differs
 rest-same x s e = go (plain x) refl (eqb x 32) refl e
   where

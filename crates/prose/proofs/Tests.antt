@@ -14,10 +14,11 @@ use Rattle.parts.proofs.Laws.{drop-part, first-turn, first-stop, first-end}
 use Rattle.chars.specs.Space.{isAsciiWhite}
 use Rattle.words.specs.Words.{whiteLen}
 use Rattle.words.specs.declared.Set.the-variants.{Ascii}
+use Rattle.texts.proofs.Edges.{solid-above}
 use Rattle.prose.specs.Body.{plain, startsSolid, differs, sharedLen, SharedTo, gapWhite, gapOf}
 use Rattle.prose.specs.declared.Mark.the-variants.{Nothing, Space, Hard}
 use Rattle.prose.specs.declared.Gap.{Gap}
-use Rattle.prose.proofs.Rest.{solid-above, shared-le}
+use Rattle.prose.proofs.Rest.{shared-le}
 
 module _ (x : ℕ) where
   pub plain-above : 32 < x → not (eqb x 126) ≡ plain x

@@ -21,6 +21,7 @@ use Rattle.texts.proofs.Told.{spaced-nil}
 use Rattle.window.specs.Page.{Page, paint}
 use Rattle.window.proofs.Paint.{paint-two}
 use Rattle.prose.specs.Body.{restOf, sharedLen, marked, gapOf}
+use Rattle.prose.specs.Easy.{edged}
 use Rattle.prose.specs.declared.Mark.{Mark}
 use Rattle.prose.specs.declared.Mark.the-variants.{Nothing, Space, Hard}
 use Rattle.prose.specs.declared.Gap.{Gap}
@@ -114,16 +115,25 @@ unfolding spaceIf escape escapedByte
 space-plain true = refl
 space-plain false = refl
 
+pub none-put : (p : Page) (s : Bytes) → length s ≤ 0 → p ≡ paint p s
+unfolding paint
+none-put p [] h = refl
+none-put p (x ∷ s) h = absurd (omega arith)
+
+pub edged-put : (body : Bytes) (n : Normalized) (p q u : Page) {r : Page} → q ≡ paint p (spaceIf (n .lead)) → u ≡ paint q body → r ≡ paint u (spaceIf (n .trail)) → r ≡ paint p (edged body n)
+unfolding edged
+edged-put body n p q u eq eu er = paint-two p (spaceIf (n .lead)) (body ++ spaceIf (n .trail)) eq (paint-two q body (spaceIf (n .trail)) eu er)
+
+-- the edges have no byte that is written by name
+pub written-escaped : (s : Bytes) (n : Normalized) → escape false (written s n) ≡ edged (escape false (bodyOf s)) n
+unfolding written edged
+written-escaped s n =
+    escape-append false (spaceIf (n .lead)) (bodyOf s ++ spaceIf (n .trail))
+    ∙ rw (escape-append false (bodyOf s) (spaceIf (n .trail)), space-plain (n .lead), space-plain (n .trail))
+
 pub written-put : (s : Bytes) (n : Normalized) (p q u : Page) {r : Page} → q ≡ paint p (spaceIf (n .lead)) → u ≡ paint q (escape false (bodyOf s))
     → r ≡ paint u (spaceIf (n .trail)) → r ≡ paint p (escape false (written s n))
-unfolding written
-written-put s n p q u eq eu er =
-    let a : Bytes = spaceIf (n .lead) in
-    let z : Bytes = spaceIf (n .trail) in
-    let m : Bytes = bodyOf s in
-    let whole : escape false (a ++ (m ++ z)) ≡ a ++ (escape false m ++ z) =
-    escape-append false a (m ++ z) ∙ rw (escape-append false m z, space-plain (n .lead), space-plain (n .trail)) in
-    rw whole (paint-two p a (escape false m ++ z) eq (paint-two q (escape false m) z eu er))
+written-put s n p q u eq eu er = edged-put (escape false (bodyOf s)) n p q u eq eu er ∙ ap (paint p) (sym (written-escaped s n))
 
 -- ---- words
 

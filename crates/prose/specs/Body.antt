@@ -6,6 +6,7 @@ use mathlib.Core.List.{[], _∷_, _++_}
 use lib.ListN.{length, drop}
 use lib.Dec.{eqb, ltb}
 use Rattle.parts.specs.Bytes.{Bytes, b, firstAt}
+use Rattle.parts.specs.Pair.{anyPair}
 use Rattle.chars.specs.Space.{isAsciiWhite}
 use Rattle.words.specs.Words.{whiteLen}
 use Rattle.words.specs.declared.Set.the-variants.{Ascii}
@@ -41,10 +42,8 @@ unfoldable pub odd : ℕ → ℕ → Bool
 odd x y = ltb x 32 || (eqb x 126 || (eqb x 32 && ltb y 33))
 
 -- whether one of a text's bytes may, but for the last
-unfoldable pub anyOdd : Bytes → Bool
-anyOdd [] = false
-anyOdd (x ∷ []) = false
-anyOdd (x ∷ y ∷ s) = odd x y || anyOdd (y ∷ s)
+abbrev pub anyOdd : Bytes → Bool
+anyOdd s = anyPair odd s
 
 -- a place of a text up to which such a run reaches
 pub record SharedTo (s : Bytes) (i : ℕ) : Type 0 where

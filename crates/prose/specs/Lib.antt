@@ -1,2 +1,3 @@
 pub mod Body
+pub mod Easy
 pub mod Edge

@@ -1,13 +1,15 @@
 // Normalized text written through the window, without a copy of it.
 ghost use mathlib.Core.Path.{_≡_};
 ghost use mathlib.Core.Bool.{false};
-ghost use lib.ListN.{length, drop};
+ghost use lib.ListN.{length, getD, drop};
+ghost use Rattle.parts.specs.Pair.{anyPair};
 ghost use Rattle.chars.specs.Escape.{escape};
 ghost use Rattle.words.specs.Words.{words, joined, trim};
 ghost use Rattle.texts.specs.Text.{bodyOf, spaced, written, spaceIf};
 ghost use Rattle.window.specs.Page.{pageOf, paint};
 ghost use Rattle.prose.specs.Body.{restOf, plain, startsSolid, differs, sharedLen, odd, anyOdd, SharedTo, marked, gapWhite, gapOf};
 ghost use Rattle.prose.specs.Edge.{softLen, coreEnd, coreOf, frontOf};
+ghost use Rattle.prose.specs.Easy.{hard, anyHard, easy, EasyTo, innerOf, edged};
 use texts::Normalized;
 use window::Window;
 use words::Set;
@@ -277,6 +279,104 @@ pub fn put_written(w: Window, out: &mut [u8], s: &[u8], n: Normalized) -> Window
 {
     let v = put_space(w, out, n.lead);
     let u = put_body(v, out, s);
+    put_space(u, out, n.trail)
+}
+
+// Whether a byte before another may be written otherwise, or begin a `//`; with no branch, so that the bytes of a block are tested at once.
+fn is_hard(x: u8, y: u8) -> bool
+    ensures { λ r. ⌜ r ≡ hard x y ⌝ }
+{
+    is_odd(x, y) | ((x == b'/') | ((x == b'<') | ((x == b'>') | (x == b'&'))))
+}
+
+// Whether one of a text's bytes may, but for the last.
+fn any_hard(s: &[u8]) -> bool
+    ensures { λ r. ⌜ r ≡ anyPair hard (now (s .entry)) ⌝ }
+{
+    let mut found = false;
+    let mut i = 1;
+    while i < s.len() {
+        found = found | is_hard(s[i - 1], s[i]);
+        i += 1;
+    }
+    found
+}
+
+// Where the whole blocks end in which no byte is hard.
+fn easy_blocks(s: &[u8]) -> usize
+    ensures { λ r. ⌜ EasyTo (now (s .entry)) r ⌝ }
+{
+    let mut i = 0;
+    while 17 <= s.len() - i {
+        let e = i + 17;
+        if any_hard(&s[i..e]) {
+            return i;
+        }
+        i += 16;
+    }
+    i
+}
+
+// Whether the first byte of a text is hard; with branches: letters fall out by the first two.
+fn starts_hard(s: &[u8]) -> bool
+    ensures { λ r. ⌜ r ≡ hard (getD (now (s .entry)) 0 0) (getD (now (s .entry)) 1 0) ⌝ }
+{
+    let x = parts::byte_at(s, 0);
+    if b'>' < x {
+        return x == b'~';
+    }
+    is_hard(x, parts::byte_at(s, 1))
+}
+
+// Whether one of a text's bytes is hard, one by one.
+fn hard_each(s: &[u8]) -> bool
+    ensures { λ r. ⌜ r ≡ anyHard (now (s .entry)) ⌝ }
+{
+    let mut i = 0;
+    while i < s.len() {
+        if starts_hard(parts::from(s, i)) {
+            return true;
+        }
+        i += 1;
+    }
+    false
+}
+
+// Whether a text is its own body and is written as it stands: by blocks, and the last bytes singly.
+pub fn is_easy(s: &[u8]) -> bool
+    ensures { λ r. ⌜ r ≡ easy (now (s .entry)) ⌝ }
+{
+    if parts::byte_at(s, 0) == b' ' {
+        return false;
+    }
+    let i = easy_blocks(s);
+    !hard_each(&s[i..])
+}
+
+// A text without white space at its edges: its body is the same.
+pub fn inner(s: &[u8]) -> &[u8]
+    ensures { λ r. ⌜ now r ≡ innerOf (now (s .entry)) ⌝ }
+{
+    words::trim(s, Set::Ascii)
+}
+
+// A run, where there is one.
+fn put_some(w: Window, out: &mut [u8], run: &[u8]) -> Window
+    ensures { λ r. ⌜ pageOf r (now (out .exit)) ≡ paint (pageOf w (now (out .entry))) (now (run .entry)) ⌝ }
+{
+    if 0 < run.len() {
+        window::put_run(w, out, run)
+    } else {
+        w
+    }
+}
+
+// A body that is written as it stands, with its lead and trail.
+pub fn put_easy(w: Window, out: &mut [u8], body: &[u8], n: Normalized) -> Window
+    ensures { λ r. ⌜ pageOf r (now (out .exit)) ≡ paint (pageOf w (now (out .entry))) (edged (now (body .entry)) n) ⌝ }
+{
+    let v = put_space(w, out, n.lead);
+    let u = put_some(v, out, body);
     put_space(u, out, n.trail)
 }
 

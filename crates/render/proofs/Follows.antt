@@ -1,13 +1,16 @@
 -- What follows a node: one look for a run of blanks, one question for a parent.
 use mathlib.Core.Path.{_≡_, refl, sym, ap, _∙_}
 use mathlib.Core.Logic.{inl, inr, ⊎-elim}
-use mathlib.Core.Bool.{Bool, true, false, not}
+use mathlib.Core.Bool.{Bool, true, false, not, _||_}
 use Prim.Native.Nat.{ℕ}
 use native.Mathlib.Omega.{arith}
-use borrow.Author.Tests.{not-true, not-false}
+use lib.ListN.{getD}
+use lib.Dec.{eqb, ltb}
+use borrow.Author.Tests.{eqb-false, not-true, not-false}
 use Rattle.parts.specs.Bytes.{Bytes}
 use Rattle.words.specs.Words.{isBlank as blank}
 use Rattle.words.specs.declared.Set.the-variants.{Ascii}
+use Rattle.texts.proofs.Edges.{soon-shows}
 use Rattle.tape.specs.File.{Tape, kindAt, textAt}
 use Rattle.tape.specs.Tree.{nextSibling, walkFrom}
 use Rattle.tape.specs.declared.kinds.Kind.{Kind}
@@ -44,6 +47,20 @@ module _ (t : Tape) (k : ℕ) {z : Kind} (ek : z .code ≡ kindAt t k) where
   unfolding isSolid
   solid-text g h l es er = rw (kind-not t k ek 2 g, kind-not t k ek 8 h, kind-is t k ek 1 l, ← blank-lean Ascii (textAt t k), ← es, ← er)
 
+-- ---- what a look tells
+
+module _ (t : Tape) (k : ℕ) {z : Kind} (ek : z .code ≡ kindAt t k) where
+  pub clear-text : {s : Bytes} {x y : ℕ} → z .code ≡ 1 → s ≡ textAt t k → x ≡ getD s 0 0 → y ≡ getD s 1 0 → ltb 32 x || ltb 32 y ≡ true → isSolid t k ≡ true
+  unfolding isSolid
+  clear-text {s} h es ex ey e =
+      rw (kind-not t k ek 2 (λ n. omega arith), kind-not t k ek 8 (λ n. omega arith), kind-is t k ek 1 h, ← es, soon-shows s (rw (ex, ey) at e))
+
+  pub clear-other : (z .code ≡ 1 → ⊥) → (z .code ≡ 2 → ⊥) → not (eqb (z .code) 8) ≡ true → isSolid t k ≡ true
+  clear-other l g e = sym (solid-other t k ek g (eqb-false (z .code) 8 (not-true (eqb (z .code) 8) e)) l)
+
+pub clear-none : (t : Tape) (k : ℕ) → false ≡ true → isSolid t k ≡ true
+clear-none t k e = absurd (let no-way : _≡_ {A = ℕ} 0 1 = cc in omega arith)
+
 -- ---- the next solid sibling
 
 pub solid-found : (t : Tape) (k : ℕ) {s r : Step} → s ≡ nextSibling t k → r ≡ firstWith (sees t Solid) (walkFrom t s) → r ≡ nextSolid t k
@@ -62,6 +79,15 @@ module _ (t : Tape) (k : ℕ) where
   -- a sibling that is not passed over is the next solid one
   pub solid-here : (c : Cursor) → nextSibling t k ≡ At c → isSolid t (c .at) ≡ true → nextSolid t k ≡ At c
   solid-here c e h = solid-walk ∙ first-here t (isSolid t) c e h
+
+  pub solid-clear : {s : Step} {x : Bool} (c : Cursor) → s ≡ nextSibling t k → s ≡ At c → (x ≡ true → isSolid t (c .at) ≡ true) → x ≡ true → At c ≡ nextSolid t k
+  solid-clear c es ec f h = sym (solid-here c (sym es ∙ ec) (f h))
+
+  pub solid-far : {s r : Step} (c : Cursor) → s ≡ nextSibling t k → s ≡ At c → r ≡ firstWith (sees t Solid) (walkFrom t (At c)) → r ≡ nextSolid t k
+  solid-far c es ec er = solid-found t k (sym ec ∙ es) er
+
+  pub solid-none : {s : Step} → s ≡ nextSibling t k → s ≡ Done → Done ≡ nextSolid t k
+  solid-none es ed = sym (solid-end (sym es ∙ ed))
 
   -- a sibling that is passed over has the same next solid one
   pub solid-past : (c : Cursor) → nextSibling t k ≡ At c → isSolid t (c .at) ≡ false → nextSolid t k ≡ nextSolid t (c .at)

@@ -1,5 +1,6 @@
 // What follows a node.
 ghost use mathlib.Core.Path.{_≡_};
+ghost use mathlib.Core.Bool.{true};
 ghost use Rattle.tape.specs.File.{tapeIn};
 ghost use Rattle.lean.specs.Lean.{Solids};
 ghost use Rattle.render.specs.Follow.{isSolid, nextSolid, inlineAt, inlineFollows, followed as isFollowed, Kept};
@@ -31,12 +32,35 @@ pub fn is_solid(file: &[u8], tape: Sections, solids: &[u32], c: Cursor) -> bool
     !words::is_blank(lean_text(file, tape, solids, c), Set::Ascii)
 }
 
+// Whether a look tells that a node is not passed over: by its kind, or by one of the first two bytes of its text.
+fn is_clear(file: &[u8], tape: Sections, c: Cursor) -> bool
+    ensures { λ r. ⌜ (r ≡ true → isSolid (tapeIn tape (now (file .entry))) (c .at) ≡ true) ⌝ }
+{
+    let kind = c.kind(file, tape);
+    if kind.code == Kind::TEXT {
+        let s = c.text(file, tape);
+        return (0x20 < parts::byte_at(s, 0)) | (0x20 < parts::byte_at(s, 1));
+    }
+    if kind.code == Kind::ATTRIBUTE {
+        return false;
+    }
+    kind.code != Kind::ERROR
+}
+
 // The first later sibling that is not passed over.
 pub fn next_solid(file: &[u8], tape: Sections, solids: &[u32], c: Cursor) -> Step
     requires { ⌜ Solids (tapeIn tape (now file)) (now solids) ⌝ }
     ensures { λ r. ⌜ r ≡ nextSolid (tapeIn tape (now (file .entry))) (c .at) ⌝ }
 {
-    find_seen(file, tape, solids, Seen::Solid, c.next_sibling(file, tape))
+    match c.next_sibling(file, tape) {
+        Step::Done => Step::Done,
+        Step::At(d) => {
+            if is_clear(file, tape, d) {
+                return Step::At(d);
+            }
+            find_seen(file, tape, solids, Seen::Solid, Step::At(d))
+        }
+    }
 }
 
 // The next solid sibling of a child, from the one that was kept at the child before it: a run of blanks is passed once.

@@ -1,13 +1,17 @@
 -- What a MarkerOpen is written as, from what was read.
-use mathlib.Core.Path.{_≡_, sym, ap, _∙_}
-use mathlib.Core.Bool.{Bool, true, false, not, and-false}
+use mathlib.Core.Path.{_≡_, refl, sym, ap, _∙_}
+use mathlib.Core.Bool.{Bool, true, false, not, cond, and-false}
+use mathlib.Core.List.{[], _∷_}
 use mathlib.Core.Option.{Option}
-use Prim.Native.Nat.{ℕ}
+use Prim.Native.Nat.{ℕ, _≤_, _<_}
+use native.Mathlib.Omega.{arith}
+use lib.ListN.{length, take, drop, length-take, length-drop}
 use borrow.Author.Tests.{eq-eqb, ne-eqb, not-true, not-false}
-use Rattle.parts.specs.Bytes.{Bytes, b, same}
-use Rattle.tape.specs.File.{Tape, kindAt, infoAt, entryName, isNested}
+use Rattle.parts.specs.Bytes.{Bytes, b, same, begins}
+use Rattle.parts.proofs.Laws.{same-short}
+use Rattle.tape.specs.File.{Tape, kindAt, textAt, infoAt, entryName, isNested}
 use Rattle.tape.specs.Tree.{firstChild, nextSibling, walkFrom, children, found}
-use Rattle.tape.specs.Name.{markerName}
+use Rattle.tape.specs.Name.{strip, bare, nameLen, nameIn, markerName}
 use Rattle.tape.specs.declared.kinds.Kind.{Kind}
 use Rattle.tape.specs.declared.Cursor.{Cursor}
 use Rattle.tape.specs.declared.Entry.{Entry}
@@ -15,6 +19,7 @@ use Rattle.tape.specs.declared.Info.{Info}
 use Rattle.tape.specs.declared.Info.the-variants.{Known, Unknown}
 use Rattle.tape.specs.declared.Step.{Step}
 use Rattle.tape.specs.declared.Step.the-variants.{At, Done}
+use Rattle.tape.proofs.NameRule.{name-of}
 use Rattle.tape.proofs.Walk.{children-walk}
 use Rattle.render.specs.First.{firstWith, any}
 use Rattle.render.specs.Children.{hasContent}
@@ -65,26 +70,66 @@ module _ (code : ℕ) (name : Bytes) where
   unfolding roleOfEntry
   entry-other h er = rw (ne-eqb code 0 h) er
 
+-- ---- names and lengths
+
+-- an entry's name is at most as long as the entry says
+pub entry-short : (t : Tape) (e : Entry) (name : Bytes) {n : ℕ} → n ≡ e .len → n < length name → false ≡ same (entryName t e) name
+unfolding entryName
+entry-short t e name en h =
+    same-short (entryName t e) name (λ q. omega (arith, length-take (e .len) (drop (e .start) (t .names))))
+
+pub entry-same : (t : Tape) (e : Entry) (name : Bytes) {s : Bytes} {x : Bool} → s ≡ entryName t e → x ≡ same s name → x ≡ same (entryName t e) name
+entry-same t e name es ex = ex ∙ rw es
+
+strip-le : (x : ℕ) (s : Bytes) → length (strip x s) ≤ length s
+unfolding strip
+strip-le x s = go (begins (x ∷ []) s)
+  where
+    go : (y : Bool) → length (cond y (drop 1 s) s) ≤ length s
+    go true = omega (arith, length-drop 1 s)
+    go false = omega arith
+
+-- the name in a text is at most as long as the text
+name-le : (s : Bytes) → length (nameIn s) ≤ length s
+unfolding bare
+name-le s =
+    let e : take (nameLen (bare s)) (bare s) ≡ nameIn s = name-of s refl refl refl in
+    omega (arith, ap length e, length-take (nameLen (bare s)) (bare s), strip-le 43 (strip 92 s), strip-le 92 s)
+
+module _ (t : Tape) (k : ℕ) {s : Bytes} (es : s ≡ textAt t k) where
+  pub name-short : length s < 3 → false ≡ same (markerName t k) (b "ref")
+  unfolding markerName
+  name-short h = same-short (markerName t k) (b "ref") (λ q. omega (arith, name-le (textAt t k), ap length es))
+
+  pub name-same : {m : Bytes} {x : Bool} → m ≡ nameIn s → x ≡ same m (b "ref") → x ≡ same (markerName t k) (b "ref")
+  unfolding markerName
+  name-same em ex = ex ∙ rw (em, es)
+
 -- ---- a marker with an entry
 
-module _ (t : Tape) (k : ℕ) (e : Entry) {name : Bytes} (en : name ≡ entryName t e) {u : Bool} (eu : u ≡ same name (b "usfm")) where
+module _ (t : Tape) (k : ℕ) (e : Entry) {u : Bool} (eu : u ≡ same (entryName t e) (b "usfm")) where
   pub known-usfm : u ≡ true → roleIn Unwritten ≡ roleBy t k (Known e)
   unfolding roleIn roleBy
-  known-usfm hu = rw (← en, ← eu, hu)
+  known-usfm hu = rw (← eu, hu)
 
-  module _ (hu : u ≡ false) {f : Bool} (ef : f ≡ same name (b "fig")) where
+  module _ (hu : u ≡ false) {f : Bool} (ef : f ≡ same (entryName t e) (b "fig")) where
     pub known-figure : f ≡ true → roleIn Figure ≡ roleBy t k (Known e)
     unfolding roleIn roleBy
-    known-figure hf = rw (← en, ← eu, hu, ← ef, hf)
+    known-figure hf = rw (← eu, hu, ← ef, hf)
 
     module _ (hf : f ≡ false) {x : Bool} (ex : x ≡ same (markerName t k) (b "ref")) where
       pub known-ref : x ≡ true → roleIn Ref ≡ roleBy t k (Known e)
       unfolding roleIn roleBy
-      known-ref hx = rw (← en, ← eu, hu, ← ef, hf, ← ex, hx)
+      known-ref hx = rw (← eu, hu, ← ef, hf, ← ex, hx)
 
-      pub known-other : {r : Written} → x ≡ false → r ≡ roleOfEntry (e .category .code) name → r ≡ roleBy t k (Known e)
-      unfolding roleBy roleOfEntry
-      known-other hx er = rw (← en, ← eu, hu, ← ef, hf, ← ex, hx) er
+      module _ (hx : x ≡ false) where
+        pub known-char : e .category .code ≡ 4 → roleIn Char ≡ roleBy t k (Known e)
+        unfolding roleIn roleBy roleOfCategory
+        known-char hc = rw (← eu, hu, ← ef, hf, ← ex, hx, hc)
+
+        pub known-other : {name : Bytes} {r : Written} → name ≡ entryName t e → r ≡ roleOfEntry (e .category .code) name → r ≡ roleBy t k (Known e)
+        unfolding roleBy roleOfEntry
+        known-other en er = rw (← eu, hu, ← ef, hf, ← ex, hx, ← en) er
 
 module _ (t : Tape) (k : ℕ) {i : Info} (ei : i ≡ infoAt t k) where
   pub role-known : {e : Entry} {r : Written} → i ≡ Known e → r ≡ roleBy t k (Known e) → r ≡ roleOf t k
@@ -164,3 +209,6 @@ module _ (t : Tape) (k : ℕ) {x : Bool} (ex : x ≡ canLink t k) where
   pub link-none : x ≡ false → soughtOf (t .source) Nowhere ≡ linkOf t k
   unfolding canLink linkOf soughtOf
   link-none hx = rw (← ex, hx)
+
+pub link-flat : (t : Tape) (k : ℕ) {y : Bool} → y ≡ isNested t k → not y ≡ true → soughtOf (t .source) Nowhere ≡ linkOf t k
+link-flat t k ey hy = link-none t k (link-outer t k ey hy) refl

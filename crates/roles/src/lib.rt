@@ -1,6 +1,8 @@
 // The roles of MarkerOpens, and what is linked.
 ghost use mathlib.Core.Path.{_≡_};
-ghost use Rattle.tape.specs.File.{tapeIn};
+ghost use Rattle.parts.specs.Bytes.{b, same};
+ghost use Rattle.tape.specs.File.{tapeIn, entryName};
+ghost use Rattle.tape.specs.Name.{markerName};
 ghost use Rattle.tape.specs.Tree.{children};
 ghost use Rattle.tape.specs.declared.Info.the-variants.{Known};
 ghost use Rattle.lean.specs.Lean.{Solids};
@@ -18,6 +20,7 @@ use tape::Kind;
 use tape::Sections;
 use tape::Step;
 use tape::is_at;
+use tape::short;
 
 // What a MarkerOpen is written as.
 pub enum Role {
@@ -74,21 +77,45 @@ fn role_past_ref(category: Category, name: &[u8]) -> Role
     role_of_category(category)
 }
 
+// Whether an entry has this name; one that is shorter has another.
+fn is_entry(file: &[u8], tape: Sections, e: Entry, name: &[u8]) -> bool
+    ensures { λ r. ⌜ r ≡ same (entryName (tapeIn tape (now (file .entry))) e) (now (name .entry)) ⌝ }
+{
+    if short(e.len) < name.len() {
+        return false;
+    }
+    parts::same(tape::entry_name(file, tape, e), name)
+}
+
+// Whether the marker name is `ref`; in a shorter text it is another.
+fn is_ref_name(file: &[u8], tape: Sections, c: Cursor) -> bool
+    ensures { λ r. ⌜ r ≡ same (markerName (tapeIn tape (now (file .entry))) (c .at)) (b "ref") ⌝ }
+{
+    let text = c.text(file, tape);
+    if text.len() < 3 {
+        return false;
+    }
+    parts::same(tape::name_in(text), b"ref")
+}
+
 // A marker with an entry: by the entry's name, by its own, by category.
 fn role_known(file: &[u8], tape: Sections, c: Cursor, e: Entry) -> Role
     ensures { λ r. ⌜ roleIn r ≡ roleBy (tapeIn tape (now (file .entry))) (c .at) (Known e) ⌝ }
 {
-    let name = tape::entry_name(file, tape, e);
-    if parts::same(name, b"usfm") {
+    if is_entry(file, tape, e, b"usfm") {
         return Role::Unwritten;
     }
-    if parts::same(name, b"fig") {
+    if is_entry(file, tape, e, b"fig") {
         return Role::Figure;
     }
-    if c.is_named(file, tape, b"ref") {
+    if is_ref_name(file, tape, c) {
         return Role::Ref;
     }
-    role_past_ref(e.category, name)
+    // Most markers are of characters.
+    if e.category.code == Category::CHARACTER {
+        return Role::Char;
+    }
+    role_past_ref(e.category, tape::entry_name(file, tape, e))
 }
 
 // By entry, name and category, or by shape.
@@ -184,7 +211,7 @@ fn can_link(file: &[u8], tape: Sections, solids: &[u32], c: Cursor) -> bool
 }
 
 // The first `href` of what is linked.
-pub fn link_of(file: &[u8], tape: Sections, solids: &[u32], c: Cursor) -> Sought
+fn link_nested(file: &[u8], tape: Sections, solids: &[u32], c: Cursor) -> Sought
     requires { ⌜ Solids (tapeIn tape (now file)) (now solids) ⌝ }
     ensures { λ r. ⌜ soughtOf (tapeIn tape (now (file .entry)) .source) r ≡ linkOf (tapeIn tape (now (file .entry))) (c .at) ⌝ }
 {
@@ -193,4 +220,15 @@ pub fn link_of(file: &[u8], tape: Sections, solids: &[u32], c: Cursor) -> Sought
     } else {
         Sought::Nowhere
     }
+}
+
+// The same; most markers are not nested, and are told at once.
+pub fn link_of(file: &[u8], tape: Sections, solids: &[u32], c: Cursor) -> Sought
+    requires { ⌜ Solids (tapeIn tape (now file)) (now solids) ⌝ }
+    ensures { λ r. ⌜ soughtOf (tapeIn tape (now (file .entry)) .source) r ≡ linkOf (tapeIn tape (now (file .entry))) (c .at) ⌝ }
+{
+    if !c.is_nested(file, tape) {
+        return Sought::Nowhere;
+    }
+    link_nested(file, tape, solids, c)
 }

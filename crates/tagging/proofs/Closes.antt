@@ -10,8 +10,10 @@ use Rattle.attrs.specs.declared.Sought.{Sought}
 use Rattle.attrs.specs.declared.Sought.the-variants.{At as Found, Nowhere}
 use Rattle.tags.specs.Items.{close, bytesOf, render}
 use Rattle.tags.specs.Names.{nameOf}
+use Rattle.events.specs.Event.{item}
 use Rattle.events.specs.Walk.{linkOf, char}
 use Rattle.events.specs.Emit.{Desk, emitAll}
+use Rattle.events.proofs.Emits.{back-on}
 use Rattle.sink.specs.Desk.{deskIn, putOn}
 use Rattle.sink.specs.declared.Sink.{Sink}
 use Rattle.roles.specs.declared.Role.{Role}
@@ -50,7 +52,7 @@ module _ (t : Tape) (k : ℕ) {role : Role} where
     pub figure-end : role ≡ Figure → ((source : Bytes) → deskIn source r last ≡ putOn (deskIn source sink out) (b "</figure>"))
         → deskIn (t .source) r last ≡ emitAll (deskIn (t .source) sink out) (markerCloses t k (roleIn role))
     unfolding roleIn markerCloses bytesOf nameOf
-    figure-end e put = rw e (put (t .source) ∙ one-on (deskIn (t .source) sink out) (close 9))
+    figure-end e put = rw e (put (t .source) ∙ one-on (deskIn (t .source) sink out) (close 9) ∙ back-on (deskIn (t .source) sink out) (item (close 9) ∷ []))
 
     pub ref-end : role ≡ Ref → ((source : Bytes) → deskIn source r last ≡ putOn (deskIn source sink out) (b "</ref>"))
         → deskIn (t .source) r last ≡ emitAll (deskIn (t .source) sink out) (markerCloses t k (roleIn role))
@@ -60,7 +62,7 @@ module _ (t : Tape) (k : ℕ) {role : Role} where
     pub note-end : role ≡ Note → ((source : Bytes) → deskIn source r last ≡ putOn (deskIn source sink out) (b "</note>"))
         → deskIn (t .source) r last ≡ emitAll (deskIn (t .source) sink out) (markerCloses t k (roleIn role))
     unfolding roleIn markerCloses bytesOf nameOf
-    note-end e put = rw e (put (t .source) ∙ one-on (deskIn (t .source) sink out) (close 7))
+    note-end e put = rw e (put (t .source) ∙ one-on (deskIn (t .source) sink out) (close 7) ∙ back-on (deskIn (t .source) sink out) (item (close 7) ∷ []))
 
     pub para-end : role ≡ Para → ((source : Bytes) → deskIn source r last ≡ putOn (deskIn source sink out) (b "</para>"))
         → deskIn (t .source) r last ≡ emitAll (deskIn (t .source) sink out) (markerCloses t k (roleIn role))

@@ -18,9 +18,10 @@ use Rattle.attrs.specs.Attr.{attributesOf}
 use Rattle.figure.specs.Figure.{legacyAt, legacyPairs, fieldAt, captionOf}
 use Rattle.tags.specs.Items.{Attr, Item, start, empty, close, text, attrsBytes, bytesOf, render}
 use Rattle.tags.specs.Names.{nameOf}
-use Rattle.events.specs.Event.{rawly, collected, element, book}
+use Rattle.events.specs.Event.{rawly, collected, element, asided, book}
 use Rattle.events.specs.Walk.{style, styled, figure}
 use Rattle.events.specs.Emit.{Desk, emit, emitAll}
+use Rattle.events.proofs.Emits.{aside-on, back-on}
 use Rattle.sink.specs.Desk.{windowIn, overBy, deskIn, putOn}
 use Rattle.sink.specs.declared.Sink.{Sink}
 use Rattle.sink.proofs.Chains.{paint-three}
@@ -67,10 +68,11 @@ module _ (t : Tape) (k : ℕ) {s : Step} (es : s ≡ legacyAt t k) where
       → pageOf v last ≡ paint (pageOf w out) (render (start 9 (styled (b "fig") ++ collected (legacyPairs t k (a .at))) ∷ text (captionOf t (a .at)) ∷ close 9 ∷ []))
       → r ≡ overBy sink v
       → deskIn (t .source) r last ≡ emitAll (deskIn (t .source) sink out) (leafOf t k figure)
-  unfolding leafOf oldFigure element
+  unfolding leafOf oldFigure asided element
   old-written {a} e sink out ew ev er =
       rw (← es, e)
-      (desk-items sink out (start 9 (styled (b "fig") ++ collected (legacyPairs t k (a .at))) ∷ text (captionOf t (a .at)) ∷ close 9 ∷ []) ew ev er (t .source))
+      (desk-items sink out (start 9 (styled (b "fig") ++ collected (legacyPairs t k (a .at))) ∷ text (captionOf t (a .at)) ∷ close 9 ∷ []) ew ev er (t .source)
+      ∙ back-on (deskIn (t .source) sink out) _ ∙ aside-on (deskIn (t .source) sink out) _)
 
 -- ---- by role
 

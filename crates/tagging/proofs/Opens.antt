@@ -21,6 +21,7 @@ use Rattle.tags.specs.Items.{Attr, start, valueOf, attrBytes, attrsBytes, bytes
 use Rattle.events.specs.Event.{item, rawly, escaped, perhaps, collected}
 use Rattle.events.specs.Walk.{style, styled, unclosed, linkOf, char}
 use Rattle.events.specs.Emit.{Desk, emit, emitAll}
+use Rattle.events.proofs.Emits.{aside-on}
 use Rattle.sink.specs.Desk.{windowIn, overBy, deskIn, putOn}
 use Rattle.sink.specs.declared.Sink.{Sink}
 use Rattle.sink.proofs.Chains.{paint-three, paint-four, desk-on, desk-item}
@@ -161,7 +162,7 @@ module _ (t : Tape) (k : ℕ) {role : Role} where
         → pageOf v last ≡ paint (pageOf w out) (bytesOf (start 9 (styled (b "fig") ++ collected (attributesOf t k (b "fig"))))) → r ≡ overBy sink v
         → deskIn (t .source) r last ≡ emitAll (deskIn (t .source) sink out) (markerOpens t k (roleIn role))
     unfolding roleIn markerOpens
-    figure-marker e ew ev er = rw e (desk-one sink out (start 9 (styled (b "fig") ++ collected (attributesOf t k (b "fig")))) ew ev er (t .source))
+    figure-marker e ew ev er = rw e (desk-one sink out (start 9 (styled (b "fig") ++ collected (attributesOf t k (b "fig")))) ew ev er (t .source) ∙ aside-on (deskIn (t .source) sink out) _)
 
     pub ref-marker : role ≡ Ref → w ≡ windowIn sink
         → pageOf v last ≡ paint (pageOf w out) (bytesOf (start 16 (perhaps (b "loc") (firstOf (b "loc") (attributesOf t k (b "ref")))))) → r ≡ overBy sink v
@@ -176,7 +177,8 @@ module _ (t : Tape) (k : ℕ) {role : Role} where
     unfolding roleIn markerOpens style
     note-marker e ew en ev er =
         rw e
-        (desk-one sink out (start 7 (escaped (b "caller") (noteCaller t k) ∷ style t k ∷ perhaps (b "category") (writtenCategory t k))) ew (rw en at ev) er (t .source))
+        (desk-one sink out (start 7 (escaped (b "caller") (noteCaller t k) ∷ style t k ∷ perhaps (b "category") (writtenCategory t k))) ew (rw en at ev) er (t .source)
+        ∙ aside-on (deskIn (t .source) sink out) _)
 
   module _ (d : Desk) where
     pub unwritten-marker : role ≡ Unwritten → d ≡ emitAll d (markerOpens t k (roleIn role))

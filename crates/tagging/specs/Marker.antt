@@ -12,7 +12,7 @@ use Rattle.attrs.specs.Attr.{attributesOf}
 use Rattle.attrs.specs.Walk.{firstOf}
 use Rattle.figure.specs.Figure.{legacyAt, legacyPairs, captionOf}
 use Rattle.tags.specs.Items.{start, empty, close, text}
-use Rattle.events.specs.Event.{Event, item, book, escaped, perhaps, collected, element}
+use Rattle.events.specs.Event.{Event, item, book, aside, back, escaped, perhaps, collected, element, asided}
 use Rattle.events.specs.Walk.{style, styled, unclosed, Role, unknownBlock, unknownInline, unwritten, figure, ref, id, note, ms, char, para, linkOf}
 use Rattle.tags.specs.Element as el
 
@@ -31,10 +31,10 @@ unfoldable pub markerOpens : Tape → ℕ → Role → List Event
 markerOpens t k unknownBlock = item (start el.para (style t k ∷ escaped (b "status") (b "unknown") ∷ [])) ∷ []
 markerOpens t k unknownInline = item (start el.char (style t k ∷ escaped (b "status") (b "unknown") ∷ [])) ∷ []
 markerOpens t k unwritten = []
-markerOpens t k figure = item (start el.figure (styled (b "fig") ++ collected (attributesOf t k (b "fig")))) ∷ []
+markerOpens t k figure = aside ∷ item (start el.figure (styled (b "fig") ++ collected (attributesOf t k (b "fig")))) ∷ []
 markerOpens t k ref = item (start el.ref (perhaps (b "loc") (firstOf (b "loc") (attributesOf t k (b "ref"))))) ∷ []
 markerOpens t k id = []
-markerOpens t k note = item (start el.note (escaped (b "caller") (noteCaller t k) ∷ style t k ∷ perhaps (b "category") (writtenCategory t k))) ∷ []
+markerOpens t k note = aside ∷ item (start el.note (escaped (b "caller") (noteCaller t k) ∷ style t k ∷ perhaps (b "category") (writtenCategory t k))) ∷ []
 markerOpens t k ms = []
 markerOpens t k char = item (start el.char (style t k ∷ (unclosed t k ++ collected (attributesOf t k (markerName t k))))) ∷ linkOpens (linkOf t k)
 markerOpens t k para = item (start el.para (style t k ∷ [])) ∷ []
@@ -44,10 +44,10 @@ unfoldable pub markerCloses : Tape → ℕ → Role → List Event
 markerCloses t k unknownBlock = item (close el.para) ∷ []
 markerCloses t k unknownInline = item (close el.char) ∷ []
 markerCloses t k unwritten = []
-markerCloses t k figure = item (close el.figure) ∷ []
+markerCloses t k figure = item (close el.figure) ∷ back ∷ []
 markerCloses t k ref = item (close el.ref) ∷ []
 markerCloses t k id = []
-markerCloses t k note = item (close el.note) ∷ []
+markerCloses t k note = item (close el.note) ∷ back ∷ []
 markerCloses t k ms = []
 markerCloses t k char = linkCloses (linkOf t k) ++ (item (close el.char) ∷ [])
 markerCloses t k para = item (close el.para) ∷ []
@@ -55,7 +55,7 @@ markerCloses t k para = item (close el.para) ∷ []
 -- a figure of old, by its Attribute
 unfoldable pub oldFigure : Tape → ℕ → Step → List Event
 oldFigure t k Done = []
-oldFigure t k (At a) = element el.figure (styled (b "fig") ++ collected (legacyPairs t k (a .at))) (item (text (captionOf t (a .at))) ∷ [])
+oldFigure t k (At a) = asided (element el.figure (styled (b "fig") ++ collected (legacyPairs t k (a .at))) (item (text (captionOf t (a .at))) ∷ []))
 
 -- what a marker is written as where nothing stands inside
 unfoldable pub leafOf : Tape → ℕ → Role → List Event

@@ -1,16 +1,16 @@
 -- Laws of the tape's records: each field of a node or an entry is what stands in the file.
 use mathlib.Core.Path.{_≡_, refl, sym, ap, _∙_}
-use mathlib.Core.Bool.{Bool, true, false, _||_}
-use mathlib.Core.List.{[]}
-use Prim.Native.Nat.{ℕ, zero, suc, _+_, _*_, _≤_, _<_}
+use mathlib.Core.Bool.{Bool, true, false, cond, _&&_, _||_}
+use mathlib.Core.List.{[], _++_}
+use Prim.Native.Nat.{ℕ, zero, suc, _+_, _-_, _*_, _≤_, _<_}
 use native.Mathlib.Nat.{mul-zero, mul-suc, add-comm}
 use native.Mathlib.Omega.{arith}
-use lib.ListN.{length, getD, drop, List·getD-eq-default}
+use lib.ListN.{length, getD, take, drop, take-append-drop, length-append, length-drop, length-take, List·getD-eq-default, List·getD-append}
 use lib.Seq.{drop-drop, getD-drop}
 use lib.Dec.{eqb, leb, ltb}
-use borrow.Author.Tests.{eq-eqb, ne-eqb, lt-ltb, le-ltb, ltb-true, ltb-false, le-leb, lt-leb}
+use borrow.Author.Tests.{eq-eqb, ne-eqb, lt-ltb, le-ltb, ltb-true, ltb-false, le-leb, lt-leb, leb-true, leb-false}
 use Rattle.parts.specs.Bytes.{Bytes, part}
-use Rattle.tape.specs.File.{le16, le32, nodeOf, entryOf, recordsOf, Tape, tapeIn, entriesAt, namesAt, sourceAt, sectionsOf, nowhere, nameless, nodeAt, entryAt, kindAt, textAt, entryName, isSynthetic, isNested, bearsMarker, infoAt, numberAt, categoryOf, elementOf, baseLen, infoName}
+use Rattle.tape.specs.File.{le16, le32, nodeFields, entryFields, nodeOf, entryOf, bytesAt, entryBytesAt, recordsOf, Tape, tapeIn, entriesAt, namesAt, sourceAt, sectionsOf, nowhere, nameless, nodeAt, entryAt, kindAt, textAt, entryName, isSynthetic, isNested, bearsMarker, infoAt, numberAt, categoryOf, elementOf, baseLen, infoName}
 use Rattle.tape.specs.Tree.{isClose, holds, matchingClose, childBefore, firstChild, lastHeld, siblingPast, nextSibling}
 use Rattle.tape.specs.declared.kinds.Kind.{Kind}
 use Rattle.tape.specs.declared.kinds.Flags.{Flags}
@@ -27,21 +27,6 @@ use Rattle.tape.specs.declared.Step.the-variants.{At, Done}
 use Rattle.tape.specs.Flag as flags
 
 -- ---- numbers
-
-pub le16-made : (s : Bytes) {a z n : ℕ} → a ≡ getD s 0 0 → z ≡ getD s 1 0 → n ≡ a + 256 * z → n ≡ le16 s
-unfolding le16
-le16-made s a z n = rw (n, a, z)
-
-pub le32-made : (s : Bytes) {a z a′ z′ : ℕ} {r : Bytes} → a ≡ le16 s → a′ ≡ a → r ≡ drop 2 s → z ≡ le16 r → z′ ≡ z → a′ + 65536 * z′ ≡ le32 s
-unfolding le32
-le32-made s a a′ r z z′ = rw (a′, a, z′, z, r)
-
--- a number behind a place
-pub le32-from : (s : Bytes) (i : ℕ) {r : Bytes} {x : ℕ} → r ≡ drop i s → x ≡ le32 r → x ≡ le32 (drop i s)
-le32-from s i e h = h ∙ ap le32 e
-
-pub le16-from : (s : Bytes) (i : ℕ) {r : Bytes} {x : ℕ} → r ≡ drop i s → x ≡ le16 r → x ≡ le16 (drop i s)
-le16-from s i e h = h ∙ ap le16 e
 
 -- ---- records
 
@@ -63,55 +48,60 @@ quad-at s k =
     let last : getD s (k + 2 + 1) 0 ≡ getD s (k + 3) 0 = ap (λ (i : ℕ). getD s i 0) (omega arith) in
     rw (two, behind s k 0, behind s k 1, behind s (k + 2) 0, behind s (k + 2) 1, low, high, last)
 
+-- what a constructor of no node or entry makes
+nowhere-of : {z : Kind} {f : Flags} → z .code ≡ 8 → f .bits ≡ 0
+    → _≡_ {A = Node} (record { kind = z; flags = f; marker = 65535; link = 0; start = 0; len = 0 }) nowhere
+nowhere-of {f = f} ez ef = ap (λ (x : ℕ). made x (f .bits)) ez ∙ ap (made 8) ef
+  where
+    made : ℕ → ℕ → Node
+    made x y = record { kind = record { code = x }; flags = record { bits = y }; marker = 65535; link = 0; start = 0; len = 0 }
+
+nameless-of : {g : Category} {z : Element} → g .code ≡ 7 → z .code ≡ 0
+    → _≡_ {A = Entry} (record { start = 0; len = 0; category = g; element = z }) nameless
+nameless-of {z = z} eg ez = ap (λ (x : ℕ). made x (z .code)) eg ∙ ap (made 7) ez
+  where
+    made : ℕ → ℕ → Entry
+    made x y = record { start = 0; len = 0; category = record { code = x }; element = record { code = y } }
+
 -- the node of 16 bytes that are all there
-pub node-read : (s : Bytes) {k : Kind} {f : Flags} {m l a n : ℕ}
+pub node-read : (s : Bytes) {k : Kind} {f : Flags} {m l a n : ℕ} → 16 ≤ length s
     → k .code ≡ getD s 0 0 → f .bits ≡ getD s 1 0 → m ≡ getD s 2 0 + 256 * getD s 3 0
     → l ≡ getD s 4 0 + 256 * getD s 5 0 + 65536 * (getD s 6 0 + 256 * getD s 7 0)
     → a ≡ getD s 8 0 + 256 * getD s 9 0 + 65536 * (getD s 10 0 + 256 * getD s 11 0)
     → n ≡ getD s 12 0 + 256 * getD s 13 0 + 65536 * (getD s 14 0 + 256 * getD s 15 0)
     → _≡_ {A = Node} (record { kind = k; flags = f; marker = m; link = l; start = a; len = n }) (nodeOf s)
-unfolding nodeOf le16
-node-read s ek ef em el ea en =
+unfolding nodeOf nodeFields le16
+node-read s h ek ef em el ea en =
     let kind : _≡_ {A = Kind} _ (record { code = getD s 0 0 }) = ap (λ (z : ℕ). record { code = z }) ek in
     let flag : _≡_ {A = Flags} _ (record { bits = getD s 1 0 }) = ap (λ (z : ℕ). record { bits = z }) ef in
-    rw (kind, flag, em, behind s 2 0, behind s 2 1, el ∙ quad-at s 4, ea ∙ quad-at s 8, en ∙ quad-at s 12)
+    rw (le-leb 16 (length s) h, kind, flag, em, behind s 2 0, behind s 2 1, el ∙ quad-at s 4, ea ∙ quad-at s 8, en ∙ quad-at s 12)
 
-pub node-made : (s : Bytes) {x y : ℕ} {k : Kind} {f : Flags} {m l a n : ℕ} {r₂ r₄ r₈ r₁₂ : Bytes}
-    → x ≡ getD s 0 0 → k .code ≡ x → y ≡ getD s 1 0 → f .bits ≡ y → r₂ ≡ drop 2 s → m ≡ le16 r₂ → r₄ ≡ drop 4 s → l ≡ le32 r₄
-    → r₈ ≡ drop 8 s → a ≡ le32 r₈ → r₁₂ ≡ drop 12 s → n ≡ le32 r₁₂
-    → _≡_ {A = Node} (record { kind = k; flags = f; marker = m; link = l; start = a; len = n }) (nodeOf s)
+-- fewer bytes are no node
+pub node-short : (s : Bytes) {z : Kind} {f : Flags} → length s < 16 → z .code ≡ 8 → f .bits ≡ 0
+    → _≡_ {A = Node} (record { kind = z; flags = f; marker = 65535; link = 0; start = 0; len = 0 }) (nodeOf s)
 unfolding nodeOf
-node-made s ex ek ey ef e₂ em e₄ el e₈ ea e₁₂ en =
-    let kind : _≡_ {A = Kind} _ (record { code = getD s 0 0 }) = ap (λ (z : ℕ). record { code = z }) (ek ∙ ex) in
-    let flag : _≡_ {A = Flags} _ (record { bits = getD s 1 0 }) = ap (λ (z : ℕ). record { bits = z }) (ef ∙ ey) in
-    rw (kind, flag, em, e₂, el, e₄, ea, e₈, en, e₁₂)
+node-short s h ez ef = rw (lt-leb 16 (length s) h) (nowhere-of ez ef)
 
 -- the entry of 8 bytes that are all there
-pub entry-read : (s : Bytes) {l m : ℕ} {k : Category} {e : Element}
+pub entry-read : (s : Bytes) {l m : ℕ} {k : Category} {e : Element} → 8 ≤ length s
     → l ≡ getD s 0 0 + 256 * getD s 1 0 + 65536 * (getD s 2 0 + 256 * getD s 3 0) → m ≡ getD s 4 0 + 256 * getD s 5 0
     → k .code ≡ getD s 6 0 → e .code ≡ getD s 7 0
     → _≡_ {A = Entry} (record { start = l; len = m; category = k; element = e }) (entryOf s)
-unfolding entryOf le16
-entry-read s el em ek ee =
+unfolding entryOf entryFields le16
+entry-read s h el em ek ee =
     let cat : _≡_ {A = Category} _ (record { code = getD s 6 0 }) = ap (λ (z : ℕ). record { code = z }) ek in
     let elt : _≡_ {A = Element} _ (record { code = getD s 7 0 }) = ap (λ (z : ℕ). record { code = z }) ee in
-    rw (el ∙ quad-at s 0, em, behind s 4 0, behind s 4 1, cat, elt)
+    rw (le-leb 8 (length s) h, el ∙ quad-at s 0, em, behind s 4 0, behind s 4 1, cat, elt)
 
-pub le16-read : (s : Bytes) {r : ℕ} → r ≡ getD s 0 0 + 256 * getD s 1 0 → r ≡ le16 s
-unfolding le16
-le16-read s er = er
-
-pub le32-read : (s : Bytes) {r : ℕ} → r ≡ getD s 0 0 + 256 * getD s 1 0 + 65536 * (getD s 2 0 + 256 * getD s 3 0) → r ≡ le32 s
-le32-read s er = er ∙ quad-at s 0
-
-pub entry-made : (s : Bytes) {l m x y : ℕ} {k : Category} {e : Element} {r : Bytes}
-    → l ≡ le32 s → r ≡ drop 4 s → m ≡ le16 r → x ≡ getD s 6 0 → k .code ≡ x → y ≡ getD s 7 0 → e .code ≡ y
-    → _≡_ {A = Entry} (record { start = l; len = m; category = k; element = e }) (entryOf s)
+-- fewer bytes are no entry
+pub entry-short : (s : Bytes) {g : Category} {z : Element} → length s < 8 → g .code ≡ 7 → z .code ≡ 0
+    → _≡_ {A = Entry} (record { start = 0; len = 0; category = g; element = z }) (entryOf s)
 unfolding entryOf
-entry-made s el er em ex ek ey ee =
-    let cat : _≡_ {A = Category} _ (record { code = getD s 6 0 }) = ap (λ (z : ℕ). record { code = z }) (ek ∙ ex) in
-    let elt : _≡_ {A = Element} _ (record { code = getD s 7 0 }) = ap (λ (z : ℕ). record { code = z }) (ee ∙ ey) in
-    rw (el, em, er, cat, elt)
+entry-short s h eg ez = rw (lt-leb 8 (length s) h) (nameless-of eg ez)
+
+-- the number of four bytes, what is missing counting 0
+pub le32-read : (s : Bytes) {a e i o r : ℕ} → a ≡ getD s 0 0 → e ≡ getD s 1 0 → i ≡ getD s 2 0 → o ≡ getD s 3 0 → r ≡ a + 256 * e + 65536 * (i + 256 * o) → r ≡ le32 s
+le32-read s ea ee ei eo er = rw (er, ea, ee, ei, eo) (quad-at s 0)
 
 -- the record at an index is what stands so many records further on
 pub records-at : {A : Type 0} (read : Bytes → A) (size n : ℕ) (s : Bytes) (i : ℕ) (d : A) → i < n
@@ -136,101 +126,111 @@ records-length read size (suc n) s = ap suc (records-length read size n (drop si
 at-of : {s : Cursor} {k : ℕ} → s .at ≡ k → At s ≡ At (record { at = k })
 at-of e = ap (λ (k : ℕ). At (record { at = k })) e
 
-nowhere-of : {z : Kind} {f : Flags} → z .code ≡ 8 → f .bits ≡ 0
-    → _≡_ {A = Node} (record { kind = z; flags = f; marker = 65535; link = 0; start = 0; len = 0 }) nowhere
-nowhere-of {f = f} ez ef = ap (λ (x : ℕ). made x (f .bits)) ez ∙ ap (made 8) ef
-  where
-    made : ℕ → ℕ → Node
-    made x y = record { kind = record { code = x }; flags = record { bits = y }; marker = 65535; link = 0; start = 0; len = 0 }
-
-nameless-of : {g : Category} {z : Element} → g .code ≡ 7 → z .code ≡ 0
-    → _≡_ {A = Entry} (record { start = 0; len = 0; category = g; element = z }) nameless
-nameless-of {z = z} eg ez = ap (λ (x : ℕ). made x (z .code)) eg ∙ ap (made 7) ez
-  where
-    made : ℕ → ℕ → Entry
-    made x y = record { start = 0; len = 0; category = record { code = x }; element = record { code = y } }
-
 -- ---- the record at an index, in the file
 
+-- a byte of the first of two lists, behind a place
+front : (s t : Bytes) (k i : ℕ) → k + i < length s → getD (drop k (s ++ t)) i 0 ≡ getD (drop k s) i 0
+front s t k i h = getD-drop k (s ++ t) i 0 ∙ List·getD-append s t 0 (k + i) h ∙ sym (getD-drop k s i 0)
+
+le16-front : (s t : Bytes) (k : ℕ) → k + 2 ≤ length s → le16 (drop k (s ++ t)) ≡ le16 (drop k s)
+unfolding le16
+le16-front s t k h = rw (front s t k 0 (omega arith), front s t k 1 (omega arith))
+
+le32-front : (s t : Bytes) (k : ℕ) → k + 4 ≤ length s → le32 (drop k (s ++ t)) ≡ le32 (drop k s)
+unfolding le32
+le32-front s t k h = rw (drop-drop 2 k (s ++ t), drop-drop 2 k s, le16-front s t k (omega arith), le16-front s t (k + 2) (omega arith))
+
+-- a record reads its own bytes only
+abbrev pub Local : {A : Type 0} → (Bytes → A) → ℕ → Type 0
+Local read size = (s t : Bytes) → size ≤ length s → read (s ++ t) ≡ read s
+
+pub node-local : Local nodeOf 16
+unfolding nodeOf nodeFields
+node-local s t h =
+    rw (le-leb 16 (length (s ++ t)) (omega (arith, length-append s t)), le-leb 16 (length s) h, front s t 0 0 (omega arith), front s t 0 1 (omega arith), le16-front s t 2 (omega arith), le32-front s t 4 (omega arith), le32-front s t 8 (omega arith), le32-front s t 12 (omega arith))
+
+pub entry-local : Local entryOf 8
+unfolding entryOf entryFields
+entry-local s t h =
+    rw (le-leb 8 (length (s ++ t)) (omega (arith, length-append s t)), le-leb 8 (length s) h, le32-front s t 0 (omega arith), le16-front s t 4 (omega arith), front s t 0 6 (omega arith), front s t 0 7 (omega arith))
+
+no-node : (s : Bytes) → length s < 16 → nodeOf s ≡ nowhere
+unfolding nodeOf
+no-node s h = rw (lt-leb 16 (length s) h)
+
+no-entry : (s : Bytes) → length s < 8 → entryOf s ≡ nameless
+unfolding entryOf
+no-entry s h = rw (lt-leb 8 (length s) h)
+
+-- so many records of a size stand at a place: the bytes of one, all or none, are what it is read from
+module _ {A : Type 0} (read : Bytes → A) (none : A) (size : ℕ) (local : Local read size) (short : (s : Bytes) → length s < size → read s ≡ none) (some : 0 < size) (file : Bytes) (at n k : ℕ) where
+  there : k < n → read (drop (at + size * k) file) ≡ getD (recordsOf read size n (drop at file)) k none
+  there h = ap read (sym (drop-drop (size * k) at file)) ∙ sym (records-at read size n (drop at file) k none h)
+
+  out : n ≤ k → none ≡ getD (recordsOf read size n (drop at file)) k none
+  out h = sym (List·getD-eq-default (recordsOf read size n (drop at file)) none (rw (records-length read size n (drop at file)) h))
+
+  pub record-bytes : read (cond (ltb k n && leb (at + size * k + size) (length file)) (part file (at + size * k) size) []) ≡ getD (recordsOf read size n (drop at file)) k none
+  record-bytes = go (ltb k n) refl (leb (at + size * k + size) (length file)) refl
+    where
+      p : ℕ
+      p = at + size * k
+
+      go : (b : Bool) → ltb k n ≡ b → (d : Bool) → leb (p + size) (length file) ≡ d
+          → read (cond (b && d) (part file p size) []) ≡ getD (recordsOf read size n (drop at file)) k none
+      go true eb true ed =
+          let h : p + size ≤ length file = leb-true (p + size) (length file) ed in
+          let l : size ≤ length (take size (drop p file)) = omega (arith, length-take size (drop p file), length-drop p file) in
+          sym (local (take size (drop p file)) (drop size (drop p file)) l) ∙ ap read (take-append-drop size (drop p file)) ∙ there (ltb-true k n eb)
+      go true eb false ed =
+          let h : length file < p + size = leb-false (p + size) (length file) ed in
+          short [] some ∙ sym (short (drop p file) (omega (arith, length-drop p file))) ∙ there (ltb-true k n eb)
+      go false eb d ed = short [] some ∙ out (ltb-false k n eb)
+
 module _ (c : Sections) (file : Bytes) (k : ℕ) where
-  node-there : k < c .nodes → nodeOf (drop (c .head + 16 * k) file) ≡ nodeAt (tapeIn c file) k
-  unfolding nodeAt tapeIn
-  node-there h = ap nodeOf (sym (drop-drop (16 * k) (c .head) file)) ∙ sym (records-at nodeOf 16 (c .nodes) (drop (c .head) file) k nowhere h)
-
-  pub node-in : {p : ℕ} {r : Bytes} {n : Node} → k < c .nodes → p ≡ c .head + 16 * k → r ≡ drop p file → n ≡ nodeOf r → n ≡ nodeAt (tapeIn c file) k
-  node-in h ep er en = en ∙ ap nodeOf (er ∙ ap (λ (i : ℕ). drop i file) ep) ∙ node-there h
-
-  pub kind-in : {p x : ℕ} {z : Kind} → k < c .nodes → p ≡ c .head + 16 * k → x ≡ getD file p 0 → z .code ≡ x → z .code ≡ kindAt (tapeIn c file) k
-  unfolding nodeOf
-  kind-in {p} h ep ex ez =
-      ez ∙ ex ∙ ap (λ (i : ℕ). getD file i 0) (ep ∙ omega arith) ∙ sym (behind file (c .head + 16 * k) 0) ∙ ap (λ (n : Node). n .kind .code) (node-there h)
+  pub node-in : {s : Bytes} {n : Node} → s ≡ bytesAt c file k → n ≡ nodeOf s → n ≡ nodeAt (tapeIn c file) k
+  unfolding bytesAt nodeAt tapeIn
+  node-in es en = en ∙ ap nodeOf es ∙ record-bytes nodeOf nowhere 16 node-local no-node (omega arith) file (c .head) (c .nodes) k
 
   pub node-out : c .nodes ≤ k → nowhere ≡ nodeAt (tapeIn c file) k
   unfolding nodeAt tapeIn
-  node-out h = sym (List·getD-eq-default (recordsOf nodeOf 16 (c .nodes) (drop (c .head) file)) nowhere (rw (records-length nodeOf 16 (c .nodes) (drop (c .head) file)) h))
+  node-out h = out nodeOf nowhere 16 node-local no-node (omega arith) file (c .head) (c .nodes) k h
 
-  pub node-outside : {z : Kind} {f : Flags} → c .nodes ≤ k → z .code ≡ 8 → f .bits ≡ 0
-      → _≡_ {A = Node} (record { kind = z; flags = f; marker = 65535; link = 0; start = 0; len = 0 }) (nodeAt (tapeIn c file) k)
-  node-outside h ez ef = rw (← node-out h) (nowhere-of ez ef)
+  pub entry-in : {s : Bytes} {e : Entry} → s ≡ entryBytesAt c file k → e ≡ entryOf s → e ≡ entryAt (tapeIn c file) k
+  unfolding entryBytesAt entryAt tapeIn
+  entry-in es en = en ∙ ap entryOf es ∙ record-bytes entryOf nameless 8 entry-local no-entry (omega arith) file (entriesAt c) (c .entries) k
 
-  pub kind-out : {z : Kind} → c .nodes ≤ k → z .code ≡ 8 → z .code ≡ kindAt (tapeIn c file) k
-  unfolding nowhere
-  kind-out h ez = ez ∙ ap (λ (n : Node). n .kind .code) (node-out h)
+  -- the bytes of a node that are all there, and where they are not
+  pub bytes-there : {p e : ℕ} {r : Bytes} → k < c .nodes → p ≡ c .head + 16 * k → e ≡ p + 16 → e ≤ length file → r ≡ take (e - p) (drop p file) → r ≡ bytesAt c file k
+  unfolding bytesAt
+  bytes-there {p} {e} h ep ee l er =
+      let z : e - p ≡ 16 = omega arith in
+      rw (lt-ltb k (c .nodes) h, le-leb (c .head + 16 * k + 16) (length file) (omega arith), er, z, ep)
 
-  -- a number that is read where a node has a field is the field
-  module _ (field : Node → ℕ) (p : ℕ) (is : (s : Bytes) → field (nodeOf s) ≡ le32 (drop p s)) (none : field nowhere ≡ 0) where
-    word-field : {r : ℕ} → (k < c .nodes → r ≡ le32 (drop (c .head + 16 * k + p) file)) → (c .nodes ≤ k → r ≡ 0) → r ≡ field (nodeAt (tapeIn c file) k)
-    word-field {r} f g = go (ltb k (c .nodes)) refl
-      where
-        go : (b : Bool) → ltb k (c .nodes) ≡ b → r ≡ field (nodeAt (tapeIn c file) k)
-        go true e =
-            let h = ltb-true k (c .nodes) e in
-            f h ∙ ap le32 (sym (drop-drop p (c .head + 16 * k) file)) ∙ sym (is (drop (c .head + 16 * k) file)) ∙ ap field (node-there h)
-        go false e = let h = ltb-false k (c .nodes) e in g h ∙ sym none ∙ ap field (node-out h)
+  -- the same of an entry
+  pub entry-there : {a m : ℕ} {r : Bytes} → k < c .entries → a ≡ entriesAt c → m ≡ k → a + 8 * m + 8 ≤ length file
+      → r ≡ take (a + 8 * m + 8 - (a + 8 * m)) (drop (a + 8 * m) file) → r ≡ entryBytesAt c file k
+  unfolding entryBytesAt
+  entry-there {a} {m} h ea em l er =
+      let z : a + 8 * m + 8 - (a + 8 * m) ≡ 8 = omega arith in
+      let y : a + 8 * m ≡ entriesAt c + 8 * k = omega arith in
+      rw (lt-ltb k (c .entries) h, le-leb (entriesAt c + 8 * k + 8) (length file) (omega arith), er, z, y)
 
-  pub link-read : {r : ℕ} → (k < c .nodes → r ≡ le32 (drop (c .head + 16 * k + 4) file)) → (c .nodes ≤ k → r ≡ 0) → r ≡ nodeAt (tapeIn c file) k .link
-  unfolding nodeOf
-  link-read = word-field (λ (n : Node). n .link) 4 (λ s. refl) refl
+  pub entry-cut : {a m : ℕ} {r : Bytes} → k < c .entries → a ≡ entriesAt c → m ≡ k → length file < a + 8 * m + 8 → r ≡ [] → r ≡ entryBytesAt c file k
+  unfolding entryBytesAt
+  entry-cut h ea em l er = rw (lt-ltb k (c .entries) h, lt-leb (entriesAt c + 8 * k + 8) (length file) (omega arith), er)
 
-  pub start-read : {r : ℕ} → (k < c .nodes → r ≡ le32 (drop (c .head + 16 * k + 8) file)) → (c .nodes ≤ k → r ≡ 0) → r ≡ nodeAt (tapeIn c file) k .start
-  unfolding nodeOf
-  start-read = word-field (λ (n : Node). n .start) 8 (λ s. refl) refl
+  pub entry-out : {r : Bytes} → c .entries ≤ k → r ≡ [] → r ≡ entryBytesAt c file k
+  unfolding entryBytesAt
+  entry-out h er = rw (le-ltb k (c .entries) h, er)
 
-  pub len-read : {r : ℕ} → (k < c .nodes → r ≡ le32 (drop (c .head + 16 * k + 12) file)) → (c .nodes ≤ k → r ≡ 0) → r ≡ nodeAt (tapeIn c file) k .len
-  unfolding nodeOf
-  len-read = word-field (λ (n : Node). n .len) 12 (λ s. refl) refl
+  pub bytes-cut : {p e : ℕ} {r : Bytes} → k < c .nodes → p ≡ c .head + 16 * k → e ≡ p + 16 → length file < e → r ≡ [] → r ≡ bytesAt c file k
+  unfolding bytesAt
+  bytes-cut h ep ee l er = rw (lt-ltb k (c .nodes) h, lt-leb (c .head + 16 * k + 16) (length file) (omega arith), er)
 
-  pub word-in : {p q a r : ℕ} {s : Bytes} → k < c .nodes → p ≡ c .head + 16 * k → a ≡ q → s ≡ drop (p + a) file → r ≡ le32 s → k < c .nodes → r ≡ le32 (drop (c .head + 16 * k + q) file)
-  word-in h ep ea es er l = er ∙ ap le32 (es ∙ rw (ep, ea))
-
-  pub word-here : k < c .nodes → (r : ℕ) → c .nodes ≤ k → r ≡ 0
-  word-here h r l = absurd (omega arith)
-
-  pub marker-in : {p r : ℕ} {s : Bytes} → k < c .nodes → p ≡ c .head + 16 * k → s ≡ drop (p + 2) file → r ≡ le16 s → r ≡ nodeAt (tapeIn c file) k .marker
-  unfolding nodeOf
-  marker-in {p} h ep es er =
-      er ∙ ap le16 (es ∙ ap (λ (i : ℕ). drop (i + 2) file) ep ∙ sym (drop-drop 2 (c .head + 16 * k) file)) ∙ ap (λ (n : Node). n .marker) (node-there h)
-
-  pub marker-out : c .nodes ≤ k → 65535 ≡ nodeAt (tapeIn c file) k .marker
-  marker-out h = ap (λ (n : Node). n .marker) (node-out h)
-
-  pub flags-in : {p x : ℕ} {z : Flags} → k < c .nodes → p ≡ c .head + 16 * k → x ≡ getD file (p + 1) 0 → z .bits ≡ x → z .bits ≡ nodeAt (tapeIn c file) k .flags .bits
-  unfolding nodeOf
-  flags-in {p} h ep ex ez =
-      ez ∙ ex ∙ ap (λ (i : ℕ). getD file (i + 1) 0) ep ∙ sym (behind file (c .head + 16 * k) 1) ∙ ap (λ (n : Node). n .flags .bits) (node-there h)
-
-  pub flags-out : {z : Flags} → c .nodes ≤ k → z .bits ≡ 0 → z .bits ≡ nodeAt (tapeIn c file) k .flags .bits
-  flags-out h ez = ez ∙ ap (λ (n : Node). n .flags .bits) (node-out h)
-
-  pub entry-in : {e a : ℕ} {r : Bytes} {n : Entry} → k < c .entries → e ≡ entriesAt c → a ≡ k → r ≡ drop (e + 8 * a) file → n ≡ entryOf r → n ≡ entryAt (tapeIn c file) k
-  unfolding entryAt tapeIn
-  entry-in h ee ea er en =
-      en ∙ ap entryOf (er ∙ rw (ee, ea) (sym (drop-drop (8 * k) (entriesAt c) file))) ∙ sym (records-at entryOf 8 (c .entries) (drop (entriesAt c) file) k nameless h)
-
-  pub entry-out : {g : Category} {z : Element} → c .entries ≤ k → g .code ≡ 7 → z .code ≡ 0
-      → _≡_ {A = Entry} (record { start = 0; len = 0; category = g; element = z }) (entryAt (tapeIn c file) k)
-  unfolding entryAt tapeIn
-  entry-out h eg ez = nameless-of eg ez ∙ sym (List·getD-eq-default (recordsOf entryOf 8 (c .entries) (drop (entriesAt c) file)) nameless (rw (records-length entryOf 8 (c .entries) (drop (entriesAt c) file)) h))
+  pub bytes-out : {r : Bytes} → c .nodes ≤ k → r ≡ [] → r ≡ bytesAt c file k
+  unfolding bytesAt
+  bytes-out h er = rw (le-ltb k (c .nodes) h, er)
 
 pub node-count : (c : Sections) (file : Bytes) → length (tapeIn c file .nodes) ≡ c .nodes
 unfolding tapeIn
@@ -292,6 +292,18 @@ module _ (t : Tape) (k : ℕ) {n : Node} (e : n ≡ nodeAt t k) where
 
   pub link-of : n .link ≡ nodeAt t k .link
   link-of = ap (λ (m : Node). m .link) e
+
+  pub start-of : n .start ≡ nodeAt t k .start
+  start-of = ap (λ (m : Node). m .start) e
+
+  pub len-of : n .len ≡ nodeAt t k .len
+  len-of = ap (λ (m : Node). m .len) e
+
+  pub marker-of : n .marker ≡ nodeAt t k .marker
+  marker-of = ap (λ (m : Node). m .marker) e
+
+  pub flags-of : n .flags .bits ≡ nodeAt t k .flags .bits
+  flags-of = ap (λ (m : Node). m .flags .bits) e
 
   pub number-chapter : n .kind .code ≡ 6 → n .link ≡ numberAt t k
   unfolding numberAt
@@ -409,9 +421,6 @@ next-of t k el es = es ∙ ap (siblingPast t k) el
 
 -- ---- the entry of a node, taken apart
 
-pub flags-of : (t : Tape) (k : ℕ) {n : Node} → n ≡ nodeAt t k → n .flags .bits ≡ nodeAt t k .flags .bits
-flags-of t k e = ap (λ (m : Node). m .flags .bits) e
-
 module _ {i j : Info} (ei : i ≡ j) where
   pub category-known : (e : Entry) → i ≡ Known e → e .category .code ≡ categoryOf j
   unfolding categoryOf
@@ -447,30 +456,33 @@ module _ {i j : Info} (ei : i ≡ j) where
 
 -- ---- where each field stands in the file
 
-module _ (c : Sections) (file : Bytes) (k : ℕ) (h : k < c .nodes) where
-  node-bytes : nodeAt (tapeIn c file) k ≡ nodeOf (drop (c .head + 16 * k) file)
-  node-bytes = sym (node-there c file k h)
+module _ (c : Sections) (file : Bytes) (k : ℕ) (h : k < c .nodes) (l : c .head + 16 * k + 16 ≤ length file) where
+  node-bytes : nodeAt (tapeIn c file) k ≡ nodeFields (drop (c .head + 16 * k) file)
+  unfolding nodeOf nodeAt tapeIn
+  node-bytes =
+      sym (there nodeOf nowhere 16 node-local no-node (omega arith) file (c .head) (c .nodes) k h)
+      ∙ rw (le-leb 16 (length (drop (c .head + 16 * k) file)) (omega (arith, length-drop (c .head + 16 * k) file)))
 
   pub kind-bytes : nodeAt (tapeIn c file) k .kind .code ≡ getD (drop (c .head + 16 * k) file) 0 0
-  unfolding nodeOf
+  unfolding nodeFields
   kind-bytes = ap (λ (n : Node). n .kind .code) node-bytes
 
   pub flags-bytes : nodeAt (tapeIn c file) k .flags .bits ≡ getD (drop (c .head + 16 * k) file) 1 0
-  unfolding nodeOf
+  unfolding nodeFields
   flags-bytes = ap (λ (n : Node). n .flags .bits) node-bytes
 
   pub marker-bytes : nodeAt (tapeIn c file) k .marker ≡ le16 (drop 2 (drop (c .head + 16 * k) file))
-  unfolding nodeOf
+  unfolding nodeFields
   marker-bytes = ap (λ (n : Node). n .marker) node-bytes
 
   pub link-bytes : nodeAt (tapeIn c file) k .link ≡ le32 (drop 4 (drop (c .head + 16 * k) file))
-  unfolding nodeOf
+  unfolding nodeFields
   link-bytes = ap (λ (n : Node). n .link) node-bytes
 
   pub start-bytes : nodeAt (tapeIn c file) k .start ≡ le32 (drop 8 (drop (c .head + 16 * k) file))
-  unfolding nodeOf
+  unfolding nodeFields
   start-bytes = ap (λ (n : Node). n .start) node-bytes
 
   pub len-bytes : nodeAt (tapeIn c file) k .len ≡ le32 (drop 12 (drop (c .head + 16 * k) file))
-  unfolding nodeOf
+  unfolding nodeFields
   len-bytes = ap (λ (n : Node). n .len) node-bytes

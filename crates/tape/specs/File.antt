@@ -27,9 +27,25 @@ le32 s = le16 s + 65536 * le16 (drop 2 s)
 
 -- ---- nodes and entries
 
+-- what stands outside the tape, or not wholly in the file: an Error with no text and no entry
+abbrev pub nowhere : Node
+nowhere =
+    record {
+      kind = record { code = kinds.error };
+      flags = record { bits = 0 };
+      marker = 65535;
+      link = 0;
+      start = 0;
+      len = 0;
+    }
+
+-- what stands outside the entries, or not wholly in the file: no name, category Other
+abbrev pub nameless : Entry
+nameless = record { start = 0; len = 0; category = record { code = categories.other }; element = record { code = elements.other } }
+
 -- node, 16 bytes: kind u8, flags u8, marker u16, link u32, start u32, length u32
-unfoldable pub nodeOf : Bytes → Node
-nodeOf s =
+unfoldable pub nodeFields : Bytes → Node
+nodeFields s =
     record {
       kind = record { code = getD s 0 0 };
       flags = record { bits = getD s 1 0 };
@@ -39,15 +55,23 @@ nodeOf s =
       len = le32 (drop 12 s);
     }
 
+-- the node of the first 16 bytes, where there are so many
+unfoldable pub nodeOf : Bytes → Node
+nodeOf s = cond (leb 16 (length s)) (nodeFields s) nowhere
+
 -- entry, 8 bytes: name start u32, name length u16, category u8, element u8
-unfoldable pub entryOf : Bytes → Entry
-entryOf s =
+unfoldable pub entryFields : Bytes → Entry
+entryFields s =
     record {
       start = le32 s;
       len = le16 (drop 4 s);
       category = record { code = getD s 6 0 };
       element = record { code = getD s 7 0 };
     }
+
+-- the entry of the first 8 bytes, where there are so many
+unfoldable pub entryOf : Bytes → Entry
+entryOf s = cond (leb 8 (length s)) (entryFields s) nameless
 
 -- so many records, one behind the other
 unfoldable pub recordsOf : {A : Type 0} → (Bytes → A) → ℕ → ℕ → Bytes → List A
@@ -104,23 +128,15 @@ sectionsOf file =
 unfoldable pub tapeOf : Bytes → Tape
 tapeOf file = tapeIn (sectionsOf file) file
 
+-- where a node's 16 bytes stand, if they all do and it is on the tape; nothing else
+unfoldable pub bytesAt : Sections → Bytes → ℕ → Bytes
+bytesAt c file k = cond (ltb k (c .nodes) && leb (c .head + 16 * k + 16) (length file)) (part file (c .head + 16 * k) 16) []
+
+-- the same of an entry's 8 bytes
+unfoldable pub entryBytesAt : Sections → Bytes → ℕ → Bytes
+entryBytesAt c file i = cond (ltb i (c .entries) && leb (entriesAt c + 8 * i + 8) (length file)) (part file (entriesAt c + 8 * i) 8) []
+
 -- ---- fields of a node
-
--- what stands outside the tape: an Error with no text and no entry
-abbrev pub nowhere : Node
-nowhere =
-    record {
-      kind = record { code = kinds.error };
-      flags = record { bits = 0 };
-      marker = 65535;
-      link = 0;
-      start = 0;
-      len = 0;
-    }
-
--- what stands outside the entries: no name, category Other
-abbrev pub nameless : Entry
-nameless = record { start = 0; len = 0; category = record { code = categories.other }; element = record { code = elements.other } }
 
 -- the node at an index
 unfoldable pub nodeAt : Tape → ℕ → Node

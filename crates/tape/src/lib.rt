@@ -17,7 +17,7 @@ ghost use Prim.Native.Nat.{_+_, _*_, _≤_, _<_, _^_};
 ghost use lib.ListN.{length, drop};
 ghost use Rattle.parts.specs.Bytes.{part, same};
 ghost use Rattle.parts.specs.Place.{VeryPart};
-ghost use Rattle.tape.specs.File.{le32 as le32Of, nodeOf, entryOf, sectionsOf, entriesAt, namesAt, sourceAt, tapeIn, nodeAt, entryAt, kindAt, textAt, textStart, entryName, entryStart, isSynthetic, isNested, bearsMarker, infoAt, numberAt, categoryOf, elementOf, baseLen, infoName, nameOfStart};
+ghost use Rattle.tape.specs.File.{le32 as le32Of, nodeOf, entryOf, sectionsOf, entriesAt, namesAt, sourceAt, tapeIn, nodeAt, entryAt, kindAt, textAt, textStart, entryName, entryStart, bytesAt, entryBytesAt, isSynthetic, isNested, bearsMarker, infoAt, numberAt, categoryOf, elementOf, baseLen, infoName, nameOfStart};
 ghost use Rattle.tape.specs.Name.{markerName, markerStart, markerLen, entryIs};
 ghost use Rattle.tape.specs.Tree.{isClose, holds, matchingClose, childBefore, firstChild, lastHeld, siblingPast, nextSibling, found};
 
@@ -123,8 +123,8 @@ impl Sections {
 }
 
 impl Node {
-    // The node of the first 16 bytes.
-    pub fn of(s: &[u8]) -> Self
+    // The node of the first 16 bytes, where there are so many.
+    fn of(s: &[u8]) -> Self
         ensures { λ r. ⌜ r ≡ nodeOf (now (s .entry)) ⌝ }
     {
         if 16 <= s.len() {
@@ -138,18 +138,18 @@ impl Node {
             };
         }
         Node {
-            kind: Kind::new(parts::byte_at(s, 0)),
-            flags: Flags::new(parts::byte_at(s, 1)),
-            marker: number::le16(parts::from(s, 2)),
-            link: number::le32(parts::from(s, 4)),
-            start: number::le32(parts::from(s, 8)),
-            len: number::le32(parts::from(s, 12)),
+            kind: Kind::new(Kind::ERROR),
+            flags: Flags::new(0),
+            marker: 65535,
+            link: 0,
+            start: 0,
+            len: 0,
         }
     }
 }
 
 impl Entry {
-    // The entry of the first 8 bytes.
+    // The entry of the first 8 bytes, where there are so many.
     pub fn of(s: &[u8]) -> Self
         ensures { λ r. ⌜ r ≡ entryOf (now (s .entry)) ⌝ }
     {
@@ -162,10 +162,10 @@ impl Entry {
             };
         }
         Entry {
-            start: number::le32(s),
-            len: number::le16(parts::from(s, 4)),
-            category: Category::new(parts::byte_at(s, 6)),
-            element: Element::new(parts::byte_at(s, 7)),
+            start: 0,
+            len: 0,
+            category: Category::new(Category::OTHER),
+            element: Element::new(Element::OTHER),
         }
     }
 }
@@ -177,39 +177,48 @@ fn node_place(tape: Sections, at: u32) -> usize
     long(tape.head) + 16 * long(at)
 }
 
+// The bytes of a node: all 16, or none.
+fn bytes_at(file: &[u8], tape: Sections, at: u32) -> &[u8]
+    ensures { λ r. ⌜ now r ≡ bytesAt tape (now (file .entry)) at ⌝ }
+{
+    if at < tape.nodes {
+        let place = node_place(tape, at);
+        let end = place + 16;
+        if end <= file.len() {
+            return &file[place..end];
+        }
+        return &file[..0];
+    }
+    &file[..0]
+}
+
 // The node at an index.
 pub fn node_at(file: &[u8], tape: Sections, at: u32) -> Node
     ensures { λ r. ⌜ r ≡ nodeAt (tapeIn tape (now (file .entry))) at ⌝ }
 {
-    if at < tape.nodes {
-        Node::of(parts::from(file, node_place(tape, at)))
-    } else {
-        Node {
-            kind: Kind::new(Kind::ERROR),
-            flags: Flags::new(0),
-            marker: 65535,
-            link: 0,
-            start: 0,
-            len: 0,
+    Node::of(bytes_at(file, tape, at))
+}
+
+// The bytes of an entry: all 8, or none.
+fn entry_bytes(file: &[u8], tape: Sections, at: u32) -> &[u8]
+    ensures { λ r. ⌜ now r ≡ entryBytesAt tape (now (file .entry)) at ⌝ }
+{
+    if at < tape.entries {
+        let place = tape.entries_at() + 8 * long(at);
+        let end = place + 8;
+        if end <= file.len() {
+            return &file[place..end];
         }
+        return &file[..0];
     }
+    &file[..0]
 }
 
 // The entry at an index.
 pub fn entry_at(file: &[u8], tape: Sections, at: u32) -> Entry
     ensures { λ r. ⌜ r ≡ entryAt (tapeIn tape (now (file .entry))) at ⌝ }
 {
-    if at < tape.entries {
-        let place = tape.entries_at() + 8 * long(at);
-        Entry::of(parts::from(file, place))
-    } else {
-        Entry {
-            start: 0,
-            len: 0,
-            category: Category::new(Category::OTHER),
-            element: Element::new(Element::OTHER),
-        }
-    }
+    Entry::of(entry_bytes(file, tape, at))
 }
 
 // The name bytes of a file.
@@ -284,54 +293,34 @@ impl Cursor {
     pub fn kind(self, file: &[u8], tape: Sections) -> Kind
         ensures { λ r. ⌜ r .code ≡ kindAt (tapeIn tape (now (file .entry))) (self .at) ⌝ }
     {
-        if self.at < tape.nodes {
-            Kind::new(parts::byte_at(file, node_place(tape, self.at)))
-        } else {
-            Kind::new(Kind::ERROR)
-        }
+        self.node(file, tape).kind
     }
 
     pub fn link(self, file: &[u8], tape: Sections) -> u32
         ensures { λ r. ⌜ r ≡ nodeAt (tapeIn tape (now (file .entry))) (self .at) .link ⌝ }
     {
-        self.word(file, tape, 4)
-    }
-
-    // The number at a place of the node; 0 where there is none.
-    fn word(self, file: &[u8], tape: Sections, place: u32) -> u32
-        ensures { λ r. ⌜ (self .at < tape .nodes → r ≡ le32Of (drop (tape .head + 16 * self .at + place) (now (file .entry)))) ⌝ }
-        ensures { λ r. ⌜ (tape .nodes ≤ self .at → r ≡ 0) ⌝ }
-    {
-        if self.at < tape.nodes {
-            number::le32(parts::from(file, node_place(tape, self.at) + long(place)))
-        } else {
-            0
-        }
+        self.node(file, tape).link
     }
 
     // Where the node's span starts.
     pub fn start(self, file: &[u8], tape: Sections) -> u32
         ensures { λ r. ⌜ r ≡ nodeAt (tapeIn tape (now (file .entry))) (self .at) .start ⌝ }
     {
-        self.word(file, tape, 8)
+        self.node(file, tape).start
     }
 
     // How long the node's span is.
     fn len(self, file: &[u8], tape: Sections) -> u32
         ensures { λ r. ⌜ r ≡ nodeAt (tapeIn tape (now (file .entry))) (self .at) .len ⌝ }
     {
-        self.word(file, tape, 12)
+        self.node(file, tape).len
     }
 
     // The index of the node's entry.
     fn marker(self, file: &[u8], tape: Sections) -> u16
         ensures { λ r. ⌜ r ≡ nodeAt (tapeIn tape (now (file .entry))) (self .at) .marker ⌝ }
     {
-        if self.at < tape.nodes {
-            number::le16(parts::from(file, node_place(tape, self.at) + 2))
-        } else {
-            65535
-        }
+        self.node(file, tape).marker
     }
 
     pub fn is_synthetic(self, file: &[u8], tape: Sections) -> bool
@@ -379,11 +368,7 @@ impl Cursor {
     pub fn flags(self, file: &[u8], tape: Sections) -> Flags
         ensures { λ r. ⌜ r .bits ≡ nodeAt (tapeIn tape (now (file .entry))) (self .at) .flags .bits ⌝ }
     {
-        if self.at < tape.nodes {
-            Flags::new(parts::byte_at(file, node_place(tape, self.at) + 1))
-        } else {
-            Flags::new(0)
-        }
+        self.node(file, tape).flags
     }
 
     // The category of the node's entry; Other where it is unknown.

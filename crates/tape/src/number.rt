@@ -1,7 +1,7 @@
 // Numbers of the tape file, little-endian. What is missing at a file's end counts 0.
 ghost use mathlib.Core.Path.{_≡_};
 ghost use Prim.Native.Nat.{_+_, _*_, _<_, _^_};
-ghost use Rattle.tape.specs.File.{le16 as le16Of, le32 as le32Of};
+ghost use Rattle.tape.specs.File.{le32 as le32Of};
 
 fn wide(x: u8) -> u16
     ensures { λ r. ⌜ r ≡ x ⌝ }
@@ -39,22 +39,16 @@ pub fn quad(a: u8, e: u8, i: u8, o: u8) -> u32
     wider(pair(a, e)) + 65536 * wider(pair(i, o))
 }
 
-pub fn le16(s: &[u8]) -> u16
-    ensures { λ r. ⌜ r ≡ le16Of (now (s .entry)) ⌝ }
-{
-    if 2 <= s.len() {
-        return pair(s[0], s[1]);
-    }
-    pair(parts::byte_at(s, 0), parts::byte_at(s, 1))
-}
-
+// The number of the first four bytes, where there are so many.
 pub fn le32(s: &[u8]) -> u32
     ensures { λ r. ⌜ r ≡ le32Of (now (s .entry)) ⌝ }
 {
-    if 4 <= s.len() {
-        return quad(s[0], s[1], s[2], s[3]);
-    }
-    wider(le16(s)) + 65536 * wider(le16(parts::from(s, 2)))
+    quad(
+        parts::byte_at(s, 0),
+        parts::byte_at(s, 1),
+        parts::byte_at(s, 2),
+        parts::byte_at(s, 3),
+    )
 }
 
 // A u16 as a length.

@@ -12,10 +12,9 @@ use Rattle.parts.proofs.Laws.{and-true as both-hold}
 use Rattle.chars.specs.Range.{inAny, within}
 use Rattle.chars.specs.Space.{isAsciiWhite}
 use Rattle.chars.specs.Utf8.{every, cutAt}
-use Rattle.words.specs.Words.{stepOf, charsOf, white, solid, onto, pieces, nonempty, words, joined}
+use Rattle.words.specs.Words.{charsOf, white, solid, onto, pieces, nonempty, words, joined}
 use Rattle.words.specs.declared.Set.the-variants.{Ascii}
-use Rattle.chars.proofs.Characters.{cut-first}
-use Rattle.words.proofs.Steps.{size-some}
+use Rattle.words.proofs.Bytes.{ascii-chars}
 use Rattle.words.proofs.Runs.{pieces-some}
 use Rattle.words.proofs.Joins.{IsWord, Each, words-are, words-joined}
 use Rattle.texts.specs.Text.{hardSpaces, bodyOf, hasBreak}
@@ -64,16 +63,6 @@ break-pair (x ∷ s) = rw (slash-pair x s, firstAt) (go (eqb x 47 && isSlash s) 
         → ltb (elim y as (λ z. ℕ) [ true ↦ 0 | false ↦ suc (find (b "//") s) ]) (suc (length s)) ≡ y || pairIn s
     go true e = lt-ltb 0 (suc (length s)) (omega arith)
     go false e = ltb-suc (find (b "//") s) (length s) ∙ e
-
--- ---- the bytes of a text are its characters
-
-step-one : (x : ℕ) (s : Bytes) → stepOf Ascii (x ∷ s) ≡ 1
-unfolding stepOf
-step-one x s = omega arith
-
-pub ascii-chars : (x : ℕ) (s : Bytes) → charsOf Ascii (x ∷ s) ≡ (x ∷ []) ∷ charsOf Ascii s
-unfolding charsOf
-ascii-chars x s = let one : stepOf Ascii (x ∷ s) ≡ 1 = step-one x s in cut-first (size-some Ascii) (x ∷ s) (omega arith) ∙ rw one
 
 white-not-slash : (x : ℕ) → isAsciiWhite x ≡ true → eqb x 47 ≡ false
 unfolding isAsciiWhite inAny within

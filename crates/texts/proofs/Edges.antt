@@ -1,26 +1,21 @@
 -- Texts by their first byte, and a text that does not end with white space: it is the same whatever stands behind it.
 use mathlib.Core.Path.{_≡_, refl, sym, _∙_}
-use mathlib.Core.Bool.{Bool, true, false, _&&_}
-use mathlib.Core.List.{[], _∷_, flatten}
-use Prim.Native.Nat.{ℕ, suc, _-_}
+use mathlib.Core.Bool.{Bool, true, false, _&&_, _||_, and-false}
+use mathlib.Core.List.{[], _∷_}
+use Prim.Native.Nat.{ℕ, suc, _-_, _<_}
 use native.Mathlib.Omega.{arith}
 use lib.ListN.{length, getD}
+use lib.Dec.{leb, ltb}
+use borrow.Author.Tests.{ltb-true, lt-leb}
 use Rattle.parts.specs.Bytes.{Bytes}
 use Rattle.parts.proofs.Laws.{and-true as both-hold}
+use Rattle.chars.specs.Range.{inAny, within}
 use Rattle.chars.specs.Space.{isAsciiWhite}
 use Rattle.chars.specs.Utf8.{every, cutAt}
-use Rattle.words.specs.Words.{charsOf, white, takeWhile, whiteLen, isBlank as blank}
+use Rattle.words.specs.Words.{charsOf, white, isBlank as blank}
 use Rattle.words.specs.declared.Set.the-variants.{Ascii}
+use Rattle.words.proofs.Bytes.{ascii-chars}
 use Rattle.texts.specs.Text.{endsWhite, blankLead, normalizeText}
-use Rattle.texts.proofs.Breaks.{ascii-chars}
-
-pub white-more : (x : ℕ) (s : Bytes) → isAsciiWhite x ≡ true → whiteLen Ascii (x ∷ s) ≡ suc (whiteLen Ascii s)
-unfolding whiteLen takeWhile white flatten
-white-more x s e = rw (ascii-chars x s, e)
-
-pub white-ends : (x : ℕ) (s : Bytes) → isAsciiWhite x ≡ false → whiteLen Ascii (x ∷ s) ≡ 0
-unfolding whiteLen takeWhile white flatten
-white-ends x s e = rw (ascii-chars x s, e)
 
 pub blank-step : (x : ℕ) (s : Bytes) → blank Ascii (x ∷ s) ≡ isAsciiWhite x && blank Ascii s
 unfolding blank every white
@@ -29,6 +24,24 @@ blank-step x s = rw (ascii-chars x s)
 blank-nil : blank Ascii [] ≡ true
 unfolding blank every charsOf cutAt
 blank-nil = refl
+
+-- no byte above the space is white space
+pub solid-above : (x : ℕ) → 32 < x → isAsciiWhite x ≡ false
+unfolding isAsciiWhite inAny within
+solid-above x h = rw (lt-leb x 10 (omega arith), lt-leb x 13 (omega arith), lt-leb x 32 (omega arith), and-false (leb 9 x), and-false (leb 12 x), and-false (leb 32 x))
+
+first-shows : (s : Bytes) → ltb 32 (getD s 0 0) ≡ true → blank Ascii s ≡ false
+first-shows [] h = absurd (omega (arith, ltb-true 32 0 h))
+first-shows (x ∷ s) h = blank-step x s ∙ rw (solid-above x (ltb-true 32 x h))
+
+-- a text with such a byte among its first two is not blank
+pub soon-shows : (s : Bytes) → ltb 32 (getD s 0 0) || ltb 32 (getD s 1 0) ≡ true → blank Ascii s ≡ false
+soon-shows [] h = absurd (omega (arith, ltb-true 32 0 h))
+soon-shows (x ∷ s) h = go (ltb 32 x) refl h
+  where
+    go : (y : Bool) → ltb 32 x ≡ y → y || ltb 32 (getD s 0 0) ≡ true → blank Ascii (x ∷ s) ≡ false
+    go true e h = first-shows (x ∷ s) e
+    go false e h = blank-step x s ∙ rw (first-shows s h) (and-false (isAsciiWhite x))
 
 -- a blank text that has a byte ends with white space
 blank-ends : (x : ℕ) (s : Bytes) → blank Ascii (x ∷ s) ≡ true → isAsciiWhite (getD (x ∷ s) (length (x ∷ s) - 1) 0) ≡ true

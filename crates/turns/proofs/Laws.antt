@@ -20,7 +20,7 @@ use Rattle.tape.specs.declared.Step.the-variants.{At, Done}
 use Rattle.tape.proofs.Walk.{left-turn}
 use Rattle.lean.specs.Lean.{lean}
 use Rattle.lean.proofs.Leans.{normalize-lean, body-lean, ends-lean}
-use Rattle.render.specs.Follow.{nextSolid, inlineAt, inlineFollows, Kept}
+use Rattle.render.specs.Follow.{nextSolid, inlineAt, inlineFollows, followed, Kept}
 use Rattle.render.specs.Label.{labelOf}
 use Rattle.render.specs.Note.{remainder}
 use Rattle.render.proofs.Follows.{kept-on, kept-first, behind-far, behind-done, follows-of}
@@ -34,7 +34,9 @@ use Rattle.events.specs.Emit.{Desk, emit, emitAll}
 use Rattle.events.proofs.Emits.{emit-append}
 use Rattle.sink.specs.Desk.{deskIn}
 use Rattle.sink.specs.declared.Sink.{Sink}
-use Rattle.turns.specs.Turn.{plainFrom, notePlain, nextBy, trimBy, noteTrimBy, KeptAt, keptPast, keptBehind, keptBy, noteKeptBy}
+use Rattle.turns.specs.Turn.{plainFrom, notePlain, nextBy, trimBy, noteTrimBy, KeptAt, keptPast, keptBehind, keptBy, noteKeptBy, behindOf, learnt, followsBy, behindText, behindBy, noteBehindBy}
+use Rattle.turns.specs.declared.Behind.{Behind}
+use Rattle.turns.specs.declared.Behind.the-variants.{Unasked, Follows, Ends}
 use Rattle.turns.specs.declared.Child.{Child}
 use Rattle.turns.specs.declared.Going.{Going}
 use Rattle.turns.specs.declared.Child.the-variants.{Skipped, Anchor, Words, Passed}
@@ -54,9 +56,6 @@ module _ (t : Tape) (c : Cursor) where
 
   pub kept-solid : {kept : Step} (next : Step) {solid : Step} → (Kept t c kept → solid ≡ nextSolid t (c .at)) → Kept t c kept → next ≡ nextSibling t (c .at) → KeptAt t next solid
   kept-solid next es h en = solid-on next (es h) en
-
-pub kept-next : (t : Tape) (c : Cursor) (kept next : Step) → Kept t c kept → next ≡ nextSibling t (c .at) → KeptAt t next next
-kept-next t c kept next h en = kept-here t next
 
 module _ (c : Cursor) {kept : Step} (next : Step) where
   pub past-done : kept ≡ Done → (t : Tape) → Kept t c kept → next ≡ nextSibling t (c .at) → KeptAt t next Done
@@ -84,36 +83,116 @@ module _ (k : ℕ) (next : Step) {kept : Step} where
     unfolding keptPast
     past-other n = rw (h, ne-eqb (d .at) k n)
 
-module _ (t : Tape) (c : Cursor) (s : Bytes) {behind : Bool} (kept next : Step) where
-  pub behind-next : behind ≡ true → Kept t c kept → next ≡ keptBehind t behind s kept (c .at) next
+module _ (t : Tape) (c : Cursor) (s : Bytes) (kept next : Step) {x : Bool} (ex : x ≡ endsWhite s) where
+  pub behind-solid : x ≡ true → {solid : Step} → (Kept t c kept → solid ≡ nextSolid t (c .at)) → Kept t c kept → solid ≡ keptBehind t s kept (c .at) next
   unfolding keptBehind
-  behind-next h k = rw h
+  behind-solid h es k = rw (sym ex ∙ h) (es k)
 
-  module _ (nb : behind ≡ false) {x : Bool} (ex : x ≡ endsWhite s) where
-    pub behind-solid : x ≡ true → {solid : Step} → (Kept t c kept → solid ≡ nextSolid t (c .at)) → Kept t c kept → solid ≡ keptBehind t behind s kept (c .at) next
-    unfolding keptBehind
-    behind-solid h es k = rw (nb, sym ex ∙ h) (es k)
+  pub behind-past : x ≡ false → {r : Step} → r ≡ keptPast kept (c .at) next → Kept t c kept → r ≡ keptBehind t s kept (c .at) next
+  unfolding keptBehind
+  behind-past h er k = rw (sym ex ∙ h) er
 
-    pub behind-past : x ≡ false → {r : Step} → r ≡ keptPast kept (c .at) next → Kept t c kept → r ≡ keptBehind t behind s kept (c .at) next
-    unfolding keptBehind
-    behind-past h er k = rw (nb, sym ex ∙ h) er
+-- ---- whether inline content follows the parent
+
+module _ (t : Tape) (parent : Cursor) (outer : Bool) {behind : Behind} where
+  pub ask-follows : behind ≡ Follows → Follows ≡ learnt (behindOf t parent outer behind)
+  unfolding learnt behindOf
+  ask-follows h = rw h
+
+  pub ask-ends : behind ≡ Ends → Ends ≡ learnt (behindOf t parent outer behind)
+  unfolding learnt behindOf
+  ask-ends h = rw h
+
+  module _ (h : behind ≡ Unasked) {x : Bool} (ex : x ≡ followed t (parent .at) outer) where
+    pub ask-yes : x ≡ true → Follows ≡ learnt (behindOf t parent outer behind)
+    unfolding learnt behindOf
+    ask-yes e = rw (h, sym ex ∙ e)
+
+    pub ask-no : x ≡ false → Ends ≡ learnt (behindOf t parent outer behind)
+    unfolding learnt behindOf
+    ask-no e = rw (h, sym ex ∙ e)
+
+module _ {behind : Behind} where
+  pub follows-yes : behind ≡ Follows → true ≡ followsBy behind
+  unfolding followsBy
+  follows-yes h = rw h
+
+  pub follows-no : behind ≡ Ends → false ≡ followsBy behind
+  unfolding followsBy
+  follows-no h = rw h
+
+  pub follows-unasked : behind ≡ Unasked → false ≡ followsBy behind
+  unfolding followsBy
+  follows-unasked h = rw h
+
+-- what was learnt, read back
+learnt-back : (b : Bool) → followsBy (learnt b) ≡ b
+unfolding learnt followsBy
+learnt-back true = refl
+learnt-back false = refl
+
+pub follows-learnt : (b : Bool) {behind : Behind} {r : Bool} → behind ≡ learnt b → r ≡ followsBy behind → r ≡ b
+follows-learnt b e er = er ∙ ap followsBy e ∙ learnt-back b
+
+-- asking changes nothing of the truth
+pub asked-same : (t : Tape) (parent : Cursor) (outer : Bool) (b : Bool) → behindOf t parent outer (learnt b) ≡ b
+unfolding behindOf learnt
+asked-same t parent outer true = refl
+asked-same t parent outer false = refl
+
+module _ (t : Tape) (parent : Cursor) (outer : Bool) (known : Behind) (k : ℕ) where
+  text-same : (s : Bytes) → behindOf t parent outer (behindText t parent outer known k s) ≡ behindOf t parent outer known
+  unfolding behindText
+  text-same s = go (endsWhite s && not (inlineFollows t k))
+    where
+      go : (x : Bool) → behindOf t parent outer (cond x (learnt (behindOf t parent outer known)) known) ≡ behindOf t parent outer known
+      go true = asked-same t parent outer (behindOf t parent outer known)
+      go false = refl
+
+  pub turn-same : (child : Child) → behindOf t parent outer (behindBy t parent outer known k child) ≡ behindOf t parent outer known
+  unfolding behindBy
+  turn-same Skipped = refl
+  turn-same Anchor = refl
+  turn-same Words = text-same (textAt t k)
+  turn-same Passed = refl
+
+  pub note-turn-same : (first : ℕ) (child : Child) → behindOf t parent outer (noteBehindBy t first parent outer known k child) ≡ behindOf t parent outer known
+  unfolding noteBehindBy
+  note-turn-same first Skipped = refl
+  note-turn-same first Anchor = refl
+  note-turn-same first Words = text-same (noteText t first k)
+  note-turn-same first Passed = refl
+
+-- what a look learns
+module _ (t : Tape) (parent c : Cursor) (outer : Bool) (known : Behind) (s : Bytes) (kept : Step) {x : Bool} (ex : x ≡ endsWhite s) where
+  pub text-solid : x ≡ false → Kept t c kept → known ≡ behindText t parent outer known (c .at) s
+  unfolding behindText
+  text-solid h k = rw (sym ex ∙ h)
+
+  module _ (h : x ≡ true) {solid : Step} (es : Kept t c kept → solid ≡ nextSolid t (c .at)) {y : Bool} (ey : y ≡ inlineAt t solid) where
+    pub text-inline : y ≡ true → Kept t c kept → known ≡ behindText t parent outer known (c .at) s
+    unfolding behindText
+    text-inline e k = rw (sym ex ∙ h, sym (follows-of t (c .at) (es k) ey) ∙ e)
+
+    pub text-asked : y ≡ false → {r : Behind} → r ≡ learnt (behindOf t parent outer known) → Kept t c kept → r ≡ behindText t parent outer known (c .at) s
+    unfolding behindText
+    text-asked e er k = rw (sym ex ∙ h, sym (follows-of t (c .at) (es k) ey) ∙ e) er
 
 -- ---- a text as it is normalized
 
-module _ (t : Tape) (c : Cursor) (s : Bytes) (trim behind : Bool) (kept : Step) {n : Normalized} where
-  pub look-behind : behind ≡ true → n ≡ normalizeText s (not trim) true → Kept t c kept → n ≡ normalized t (c .at) s trim behind
+module _ (t : Tape) (c : Cursor) (s : Bytes) (trim : Bool) (kept : Step) {n : Normalized} where
+  pub look-unasked : (b : Bool) {x : Bool} → x ≡ endsWhite s → x ≡ false → n ≡ normalizeText s (not trim) false → Kept t c kept → n ≡ normalized t (c .at) s trim b
   unfolding normalized
-  look-behind h en k = rw (h, or-true (inlineFollows t (c .at))) en
+  look-unasked b ex h en k = en ∙ trail-unasked s (not trim) false (inlineFollows t (c .at) || b) (sym ex ∙ h)
 
-  pub look-solid : behind ≡ false → {solid : Step} → (Kept t c kept → solid ≡ nextSolid t (c .at)) → {x : Bool} → x ≡ inlineAt t solid → n ≡ normalizeText s (not trim) x
-      → Kept t c kept → n ≡ normalized t (c .at) s trim behind
-  unfolding normalized
-  look-solid h {solid} es {x} ex en k =
-      rw (h, or-false (inlineFollows t (c .at))) (en ∙ ap (normalizeText s (not trim)) (follows-of t (c .at) (es k) ex))
+  module _ {solid : Step} (es : Kept t c kept → solid ≡ nextSolid t (c .at)) {x : Bool} (ex : x ≡ inlineAt t solid) where
+    pub look-inline : (b : Bool) → x ≡ true → n ≡ normalizeText s (not trim) true → Kept t c kept → n ≡ normalized t (c .at) s trim b
+    unfolding normalized
+    look-inline b h en k = rw (sym (follows-of t (c .at) (es k) ex) ∙ h) en
 
-  pub look-unasked : {x : Bool} → x ≡ endsWhite s → x ≡ false → n ≡ normalizeText s (not trim) false → Kept t c kept → n ≡ normalized t (c .at) s trim behind
-  unfolding normalized
-  look-unasked ex h en k = en ∙ trail-unasked s (not trim) false (inlineFollows t (c .at) || behind) (sym ex ∙ h)
+    pub look-asked : (b : Bool) → x ≡ false → {y : Bool} → y ≡ b → n ≡ normalizeText s (not trim) y → Kept t c kept → n ≡ normalized t (c .at) s trim b
+    unfolding normalized
+    look-asked b h ey en k = rw (sym (follows-of t (c .at) (es k) ex) ∙ h) (en ∙ ap (normalizeText s (not trim)) ey)
 
 -- ---- a text
 
@@ -364,46 +443,91 @@ module _ (t : Tape) (c : Cursor) (trim behind : Bool) (kept : Step) {x : Bool} w
 
 -- ---- what a turn keeps
 
-module _ (t : Tape) (c : Cursor) (behind : Bool) (kept : Step) {r : Step} where
+module _ (t : Tape) (c : Cursor) (kept : Step) {r : Step} where
   -- behind a text, by what its lean form is
-  pub words-keeps : (u : Bytes) {s : Bytes} → s ≡ lean u → (next : Step) → (Kept t c kept → r ≡ keptBehind t behind s kept (c .at) next) → Kept t c kept
-      → r ≡ keptBehind t behind u kept (c .at) next
+  pub words-keeps : (u : Bytes) {s : Bytes} → s ≡ lean u → (next : Step) → (Kept t c kept → r ≡ keptBehind t s kept (c .at) next) → Kept t c kept
+      → r ≡ keptBehind t u kept (c .at) next
   unfolding keptBehind
   words-keeps u es next er h =
-      er h ∙ ap (λ (x : Bool). cond behind next (cond x (nextSolid t (c .at)) (keptPast kept (c .at) next))) (ap endsWhite es ∙ ends-lean u)
+      er h ∙ ap (λ (x : Bool). cond x (nextSolid t (c .at)) (keptPast kept (c .at) next)) (ap endsWhite es ∙ ends-lean u)
 
   module _ (span : Span) {child : Child} {next : Step} where
-    pub keeps-anchor : child ≡ Anchor → next ≡ nextBy t span (c .at) Anchor → r ≡ next → Kept t c kept → r ≡ keptBy t span behind kept (c .at) child
+    pub keeps-anchor : child ≡ Anchor → next ≡ nextBy t span (c .at) Anchor → r ≡ next → Kept t c kept → r ≡ keptBy t span kept (c .at) child
     unfolding keptBy
     keeps-anchor ec en er h = rw ec (er ∙ en)
 
     module _ (en : next ≡ nextSibling t (c .at)) where
-      pub keeps-words : child ≡ Words → (Kept t c kept → r ≡ keptBehind t behind (textAt t (c .at)) kept (c .at) next) → Kept t c kept → r ≡ keptBy t span behind kept (c .at) child
+      pub keeps-words : child ≡ Words → (Kept t c kept → r ≡ keptBehind t (textAt t (c .at)) kept (c .at) next) → Kept t c kept → r ≡ keptBy t span kept (c .at) child
       unfolding keptBy
       keeps-words ec er h = rw (ec, ← en) (er h)
 
-      pub keeps-passed : child ≡ Passed → r ≡ keptPast kept (c .at) next → Kept t c kept → r ≡ keptBy t span behind kept (c .at) child
+      pub keeps-passed : child ≡ Passed → r ≡ keptPast kept (c .at) next → Kept t c kept → r ≡ keptBy t span kept (c .at) child
       unfolding keptBy
       keeps-passed ec er h = rw (ec, ← en) er
 
-      pub keeps-skipped : child ≡ Skipped → r ≡ keptPast kept (c .at) next → Kept t c kept → r ≡ keptBy t span behind kept (c .at) child
+      pub keeps-skipped : child ≡ Skipped → r ≡ keptPast kept (c .at) next → Kept t c kept → r ≡ keptBy t span kept (c .at) child
       unfolding keptBy
       keeps-skipped ec er h = rw (ec, ← en) er
 
   module _ (first : ℕ) {child : Child} {next : Step} (en : next ≡ nextSibling t (c .at)) where
-    pub note-keeps-words : child ≡ Words → (Kept t c kept → r ≡ keptBehind t behind (noteText t first (c .at)) kept (c .at) next) → Kept t c kept
-        → r ≡ noteKeptBy t first behind kept (c .at) child
+    pub note-keeps-words : child ≡ Words → (Kept t c kept → r ≡ keptBehind t (noteText t first (c .at)) kept (c .at) next) → Kept t c kept
+        → r ≡ noteKeptBy t first kept (c .at) child
     unfolding noteKeptBy
     note-keeps-words ec er h = rw (ec, ← en) (er h)
 
-    pub note-keeps-passed : child ≡ Passed → r ≡ keptPast kept (c .at) next → Kept t c kept → r ≡ noteKeptBy t first behind kept (c .at) child
+    pub note-keeps-passed : child ≡ Passed → r ≡ keptPast kept (c .at) next → Kept t c kept → r ≡ noteKeptBy t first kept (c .at) child
     unfolding noteKeptBy
     note-keeps-passed ec er h = rw (ec, ← en) er
 
-    pub note-keeps-anchor : child ≡ Anchor → r ≡ keptPast kept (c .at) next → Kept t c kept → r ≡ noteKeptBy t first behind kept (c .at) child
+    pub note-keeps-anchor : child ≡ Anchor → r ≡ keptPast kept (c .at) next → Kept t c kept → r ≡ noteKeptBy t first kept (c .at) child
     unfolding noteKeptBy
     note-keeps-anchor ec er h = rw (ec, ← en) er
 
-    pub note-keeps-skipped : child ≡ Skipped → r ≡ keptPast kept (c .at) next → Kept t c kept → r ≡ noteKeptBy t first behind kept (c .at) child
+    pub note-keeps-skipped : child ≡ Skipped → r ≡ keptPast kept (c .at) next → Kept t c kept → r ≡ noteKeptBy t first kept (c .at) child
     unfolding noteKeptBy
     note-keeps-skipped ec er h = rw (ec, ← en) er
+
+-- ---- what a turn learns of the parent
+
+module _ (t : Tape) (parent c : Cursor) (outer : Bool) (known : Behind) (kept : Step) {r : Behind} where
+  -- behind a text, by what its lean form is
+  pub words-learnt : (u : Bytes) {s : Bytes} → s ≡ lean u → (Kept t c kept → r ≡ behindText t parent outer known (c .at) s) → Kept t c kept
+      → r ≡ behindText t parent outer known (c .at) u
+  unfolding behindText
+  words-learnt u es er h =
+      er h ∙ ap (λ (x : Bool). cond (x && not (inlineFollows t (c .at))) (learnt (behindOf t parent outer known)) known) (ap endsWhite es ∙ ends-lean u)
+
+  module _ {child : Child} where
+    pub learnt-words : child ≡ Words → (Kept t c kept → r ≡ behindText t parent outer known (c .at) (textAt t (c .at))) → Kept t c kept → r ≡ behindBy t parent outer known (c .at) child
+    unfolding behindBy
+    learnt-words ec er h = rw ec (er h)
+
+    pub note-learnt-words : (first : ℕ) → child ≡ Words → (Kept t c kept → r ≡ behindText t parent outer known (c .at) (noteText t first (c .at))) → Kept t c kept
+        → r ≡ noteBehindBy t first parent outer known (c .at) child
+    unfolding noteBehindBy
+    note-learnt-words first ec er h = rw ec (er h)
+
+    module _ (er : r ≡ known) where
+      pub learnt-anchor : child ≡ Anchor → Kept t c kept → r ≡ behindBy t parent outer known (c .at) child
+      unfolding behindBy
+      learnt-anchor ec h = rw ec er
+
+      pub learnt-passed : child ≡ Passed → Kept t c kept → r ≡ behindBy t parent outer known (c .at) child
+      unfolding behindBy
+      learnt-passed ec h = rw ec er
+
+      pub learnt-skipped : child ≡ Skipped → Kept t c kept → r ≡ behindBy t parent outer known (c .at) child
+      unfolding behindBy
+      learnt-skipped ec h = rw ec er
+
+      pub note-learnt-passed : (first : ℕ) → child ≡ Passed → Kept t c kept → r ≡ noteBehindBy t first parent outer known (c .at) child
+      unfolding noteBehindBy
+      note-learnt-passed first ec h = rw ec er
+
+      pub note-learnt-anchor : (first : ℕ) → child ≡ Anchor → Kept t c kept → r ≡ noteBehindBy t first parent outer known (c .at) child
+      unfolding noteBehindBy
+      note-learnt-anchor first ec h = rw ec er
+
+      pub note-learnt-skipped : (first : ℕ) → child ≡ Skipped → Kept t c kept → r ≡ noteBehindBy t first parent outer known (c .at) child
+      unfolding noteBehindBy
+      note-learnt-skipped first ec h = rw ec er

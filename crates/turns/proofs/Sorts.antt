@@ -1,10 +1,11 @@
 -- What a child is to its list, and the list from it on.
 use mathlib.Core.Path.{_≡_, refl, sym, ap, _∙_}
-use mathlib.Core.Bool.{Bool, true, false, cond, _||_}
+use mathlib.Core.Bool.{Bool, true, false, cond, not, _&&_, _||_}
 use mathlib.Core.List.{List, _∷_, _++_}
 use Prim.Native.Nat.{ℕ}
+use native.Mathlib.Omega.{arith}
 use lib.Dec.{eqb}
-use borrow.Author.Tests.{eq-eqb, ne-eqb}
+use borrow.Author.Tests.{eq-eqb, ne-eqb, not-true}
 use Rattle.tape.specs.File.{Tape, kindAt}
 use Rattle.tape.specs.Tree.{nextSibling, walkFrom}
 use Rattle.tape.specs.declared.kinds.Kind.{Kind}
@@ -12,7 +13,7 @@ use Rattle.tape.specs.declared.Cursor.{Cursor}
 use Rattle.tape.specs.declared.Step.{Step}
 use Rattle.tape.specs.declared.Step.the-variants.{At}
 use Rattle.tape.proofs.Walk.{walk-turn}
-use Rattle.render.specs.Shape.{isCategoryMarker}
+use Rattle.render.specs.Shape.{isCategoryMarker, isTopLevelBlock}
 use Rattle.lists.specs.Span.{nodesIn, memberOf, listedBy}
 use Rattle.lists.specs.declared.Span.{Span}
 use Rattle.lists.specs.declared.Member.{Member}
@@ -53,6 +54,23 @@ module _ (kind : Kind) where
         sort-enter n₈ = rw (ne-eqb (kind .code) 7 n₇, ne-eqb (kind .code) 1 n₁, ne-eqb (kind .code) 2 n₂, ne-eqb (kind .code) 8 n₈)
 
 -- ---- to a list that may be cut or filtered
+
+clash : true ≡ false → ⊥
+clash e = let no-way : _≡_ {A = ℕ} 0 1 = cc in omega arith
+
+-- one that is neither has every node
+all-listed : (t : Tape) (span : Span) (k : ℕ) → (span .cut || span .sifted) ≡ false → memberOf t span k ≡ Listed
+unfolding memberOf
+all-listed t span k h = go (span .cut) (span .sifted) h
+  where
+    go : (x y : Bool) → (x || y) ≡ false → cond (y && isCategoryMarker t k) SkippedMember (cond (x && isTopLevelBlock t k) EndMember Listed) ≡ Listed
+    go true y e = absurd (clash e)
+    go false true e = absurd (clash e)
+    go false false e = refl
+
+pub in-all : (t : Tape) (span : Span) (k : ℕ) → not (span .cut || span .sifted) ≡ true → {kind : Kind} → kind .code ≡ kindAt t k → {r : Sort} → r ≡ sortOf (kind .code) → r ≡ sortIn t span k
+unfolding sortIn sortBy
+in-all t span k h ek er = rw (all-listed t span k (not-true (span .cut || span .sifted) h)) (er ∙ ap sortOf ek)
 
 module _ (t : Tape) (span : Span) (k : ℕ) {m : Member} (em : m ≡ memberOf t span k) where
   pub in-end : m ≡ EndMember → End ≡ sortIn t span k

@@ -1,7 +1,7 @@
 -- Turns along a list of inline children, by what a child is to it.
 use Prim.Native.Nat.{ℕ}
 use mathlib.Core.List.{List, [], _++_}
-use mathlib.Core.Bool.{Bool, true, cond, not, _&&_, _||_}
+use mathlib.Core.Bool.{Bool, true, false, cond, not, _&&_, _||_}
 use lib.Dec.{eqb}
 use Rattle.parts.specs.Bytes.{Bytes}
 use Rattle.texts.specs.Text.{endsWhite}
@@ -10,13 +10,16 @@ use Rattle.tape.specs.Tree.{nextSibling}
 use Rattle.tape.specs.declared.Step.{Step}
 use Rattle.tape.specs.declared.Step.the-variants.{At, Done}
 use Rattle.render.specs.Shape.{isCategoryMarker, trimsAfter}
-use Rattle.render.specs.Follow.{Kept, nextSolid}
+use Rattle.render.specs.Follow.{Kept, nextSolid, inlineFollows, followed}
+use Rattle.tape.specs.declared.Cursor.{Cursor}
 use Rattle.lists.specs.Span.{memberOf, foldsAt}
 use Rattle.lists.specs.declared.Span.{Span}
 use Rattle.lists.specs.declared.Member.{Member}
 use Rattle.lists.specs.declared.Member.the-variants.{End as EndMember, Skipped as SkippedMember, Listed}
 use Rattle.events.specs.Event.{Event}
 use Rattle.events.specs.Walk.{anchor, words, normalized, inlineAll, inlineOn, noteText, noteTurn, noteAll, direct}
+use Rattle.turns.specs.declared.Behind.{Behind}
+use Rattle.turns.specs.declared.Behind.the-variants.{Unasked, Follows, Ends}
 use Rattle.turns.specs.declared.Child.{Child}
 use Rattle.turns.specs.declared.Child.the-variants.{Skipped, Anchor, Words, Passed}
 use Rattle.turns.specs.declared.Sort.{Sort}
@@ -109,20 +112,57 @@ unfoldable pub keptPast : Step → ℕ → Step → Step
 keptPast Done k next = Done
 keptPast (At d) k next = cond (eqb (d .at) k) next (At d)
 
--- what is kept behind a text: the solid sibling where it was looked for, which is where the text ends with white space and nothing follows the parent
-unfoldable pub keptBehind : Tape → Bool → Bytes → Step → ℕ → Step → Step
-keptBehind t behind s kept k next = cond behind next (cond (endsWhite s) (nextSolid t k) (keptPast kept k next))
+-- what is kept behind a text: the solid sibling where it was looked for, which is where the text ends with white space
+unfoldable pub keptBehind : Tape → Bytes → Step → ℕ → Step → Step
+keptBehind t s kept k next = cond (endsWhite s) (nextSolid t k) (keptPast kept k next)
 
 -- what is kept behind a child that no marker is entered for: behind a verse it is the step that the turn leads to
-unfoldable pub keptBy : Tape → Span → Bool → Step → ℕ → Child → Step
-keptBy t span behind kept k Skipped = keptPast kept k (nextSibling t k)
-keptBy t span behind kept k Anchor = nextBy t span k Anchor
-keptBy t span behind kept k Words = keptBehind t behind (textAt t k) kept k (nextSibling t k)
-keptBy t span behind kept k Passed = keptPast kept k (nextSibling t k)
+unfoldable pub keptBy : Tape → Span → Step → ℕ → Child → Step
+keptBy t span kept k Skipped = keptPast kept k (nextSibling t k)
+keptBy t span kept k Anchor = nextBy t span k Anchor
+keptBy t span kept k Words = keptBehind t (textAt t k) kept k (nextSibling t k)
+keptBy t span kept k Passed = keptPast kept k (nextSibling t k)
 
 -- what is kept behind such a child of a note whose first child has this index
-unfoldable pub noteKeptBy : Tape → ℕ → Bool → Step → ℕ → Child → Step
-noteKeptBy t first behind kept k Skipped = keptPast kept k (nextSibling t k)
-noteKeptBy t first behind kept k Anchor = keptPast kept k (nextSibling t k)
-noteKeptBy t first behind kept k Words = keptBehind t behind (noteText t first k) kept k (nextSibling t k)
-noteKeptBy t first behind kept k Passed = keptPast kept k (nextSibling t k)
+unfoldable pub noteKeptBy : Tape → ℕ → Step → ℕ → Child → Step
+noteKeptBy t first kept k Skipped = keptPast kept k (nextSibling t k)
+noteKeptBy t first kept k Anchor = keptPast kept k (nextSibling t k)
+noteKeptBy t first kept k Words = keptBehind t (noteText t first k) kept k (nextSibling t k)
+noteKeptBy t first kept k Passed = keptPast kept k (nextSibling t k)
+
+-- ---- whether inline content follows the parent
+
+-- what was learnt of it, or the truth where it was not asked yet; `outer` says whether inline content follows the parent's own parent
+unfoldable pub behindOf : Tape → Cursor → Bool → Behind → Bool
+behindOf t parent outer Unasked = followed t (parent .at) outer
+behindOf t parent outer Follows = true
+behindOf t parent outer Ends = false
+
+-- the truth, learnt
+unfoldable pub learnt : Bool → Behind
+learnt b = cond b Follows Ends
+
+-- what was learnt says
+unfoldable pub followsBy : Behind → Bool
+followsBy Unasked = false
+followsBy Follows = true
+followsBy Ends = false
+
+-- what is known behind a text: it is asked where the text ends with white space and nothing inline follows the text itself
+unfoldable pub behindText : Tape → Cursor → Bool → Behind → ℕ → Bytes → Behind
+behindText t parent outer known k s =
+    cond (endsWhite s && not (inlineFollows t k)) (learnt (behindOf t parent outer known)) known
+
+-- what is known behind a child that no marker is entered for
+unfoldable pub behindBy : Tape → Cursor → Bool → Behind → ℕ → Child → Behind
+behindBy t parent outer known k Skipped = known
+behindBy t parent outer known k Anchor = known
+behindBy t parent outer known k Words = behindText t parent outer known k (textAt t k)
+behindBy t parent outer known k Passed = known
+
+-- the same in a note whose first child has this index
+unfoldable pub noteBehindBy : Tape → ℕ → Cursor → Bool → Behind → ℕ → Child → Behind
+noteBehindBy t first parent outer known k Skipped = known
+noteBehindBy t first parent outer known k Anchor = known
+noteBehindBy t first parent outer known k Words = behindText t parent outer known k (noteText t first k)
+noteBehindBy t first parent outer known k Passed = known

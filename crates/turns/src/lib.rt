@@ -14,7 +14,7 @@ ghost use Rattle.events.specs.Walk.{normalized, inlineAll, noteText, noteAll};
 ghost use Rattle.events.specs.Emit.{emitAll};
 ghost use Rattle.sink.specs.Desk.{deskIn};
 ghost use Rattle.lists.specs.Span.{nodesIn};
-ghost use Rattle.turns.specs.Turn.{sortOf, sortIn, noteSort, plainFrom, notePlain, nextBy, trimBy, noteTrimBy, KeptAt, keptPast, keptBehind, keptBy, noteKeptBy};
+ghost use Rattle.turns.specs.Turn.{sortOf, sortIn, noteSort, plainFrom, notePlain, nextBy, trimBy, noteTrimBy, KeptAt, keptPast, keptBehind, keptBy, noteKeptBy, behindOf, learnt, followsBy, behindText, behindBy, noteBehindBy};
 ghost use Rattle.turns.specs.declared.Child.the-variants.{Anchor, Words};
 use lean::lean_of;
 use lean::lean_text;
@@ -44,17 +44,26 @@ pub enum Sort {
     Plain(Child),
 }
 
-// Where a walk along a list stands: the sink, whether a text loses its leading space, the solid sibling that was kept, the next node.
+// Whether inline content follows the parent of a list: asked where it is needed, and kept for the list.
+pub enum Behind {
+    Unasked,
+    Follows,
+    Ends,
+}
+
+// Where a walk along a list stands: the sink, whether a text loses its leading space, what is known of the parent, the solid sibling that was kept, the next node.
 pub struct Going {
     pub sink: Sink,
     pub trim: bool,
+    pub behind: Behind,
     pub kept: Step,
     pub next: Step,
 }
 
-// A text as it is normalized, and the solid sibling to keep.
+// A text as it is normalized, what is known of the parent, and the solid sibling to keep.
 struct Looked {
     text: Normalized,
+    behind: Behind,
     kept: Step,
 }
 
@@ -81,6 +90,10 @@ fn sort_of(kind: Kind) -> Sort
 pub fn sort_in(file: &[u8], tape: Sections, span: Span, c: Cursor) -> Sort
     ensures { λ r. ⌜ r ≡ sortIn (tapeIn tape (now (file .entry))) span (c .at) ⌝ }
 {
+    // Most lists are neither cut nor filtered.
+    if !(span.cut | span.sifted) {
+        return sort_of(c.kind(file, tape));
+    }
     match member_of(file, tape, span, c) {
         Member::End => Sort::End,
         Member::Skipped => Sort::Plain(Child::Skipped),
@@ -124,38 +137,81 @@ fn past(kept: Step, c: Cursor, next: Step) -> Step
     }
 }
 
-// Normalizes a text; what follows it is looked for only where its trailing space hangs on it.
+// Whether inline content follows the parent, asked unless it is known.
+pub fn ask(
+    file: &[u8],
+    tape: Sections,
+    solids: &[u32],
+    parent: Cursor,
+    outer: bool,
+    behind: Behind,
+) -> Behind
+    requires { ⌜ Solids (tapeIn tape (now file)) (now solids) ⌝ }
+    ensures { λ r. ⌜ r ≡ learnt (behindOf (tapeIn tape (now (file .entry))) parent outer behind) ⌝ }
+{
+    match behind {
+        Behind::Follows => Behind::Follows,
+        Behind::Ends => Behind::Ends,
+        Behind::Unasked => {
+            if render::followed(file, tape, solids, parent, outer) {
+                Behind::Follows
+            } else {
+                Behind::Ends
+            }
+        }
+    }
+}
+
+// What was learnt.
+pub fn follows(behind: Behind) -> bool
+    ensures { λ r. ⌜ r ≡ followsBy behind ⌝ }
+{
+    match behind {
+        Behind::Follows => true,
+        Behind::Ends => false,
+        Behind::Unasked => false,
+    }
+}
+
+// Normalizes a text; what follows it, and then what follows the parent, is looked for only where its trailing space hangs on it.
 fn look(
     file: &[u8],
     tape: Sections,
     solids: &[u32],
+    parent: Cursor,
+    outer: bool,
     c: Cursor,
     s: &[u8],
     trim: bool,
-    behind: bool,
+    behind: Behind,
     kept: Step,
     next: Step,
 ) -> Looked
     requires { ⌜ Solids (tapeIn tape (now file)) (now solids) ⌝ }
-    ensures { λ r. ⌜ (Kept (tapeIn tape (now (file .entry))) c kept → r .text ≡ normalized (tapeIn tape (now (file .entry))) (c .at) (now (s .entry)) trim behind) ⌝ }
+    ensures { λ r. ⌜ (Kept (tapeIn tape (now (file .entry))) c kept → r .text ≡ normalized (tapeIn tape (now (file .entry))) (c .at) (now (s .entry)) trim (behindOf (tapeIn tape (now (file .entry))) parent outer behind)) ⌝ }
     ensures { λ r. ⌜ (Kept (tapeIn tape (now (file .entry))) c kept → next ≡ nextSibling (tapeIn tape (now (file .entry))) (c .at) → KeptAt (tapeIn tape (now (file .entry))) next (r .kept)) ⌝ }
-    ensures { λ r. ⌜ (Kept (tapeIn tape (now (file .entry))) c kept → r .kept ≡ keptBehind (tapeIn tape (now (file .entry))) behind (now (s .entry)) kept (c .at) next) ⌝ }
+    ensures { λ r. ⌜ (Kept (tapeIn tape (now (file .entry))) c kept → r .kept ≡ keptBehind (tapeIn tape (now (file .entry))) (now (s .entry)) kept (c .at) next) ⌝ }
+    ensures { λ r. ⌜ (Kept (tapeIn tape (now (file .entry))) c kept → r .behind ≡ behindText (tapeIn tape (now (file .entry))) parent outer behind (c .at) (now (s .entry))) ⌝ }
 {
-    if behind {
-        return Looked {
-            text: texts::normalize_text(s, !trim, true),
-            kept: next,
-        };
-    }
     if texts::ends_white(s) {
         let solid = render::solid_behind(file, tape, solids, c, kept);
+        if render::inline_at(file, tape, solid) {
+            return Looked {
+                text: texts::normalize_text(s, !trim, true),
+                behind,
+                kept: solid,
+            };
+        }
+        let asked = ask(file, tape, solids, parent, outer, behind);
         return Looked {
-            text: texts::normalize_text(s, !trim, render::inline_at(file, tape, solid)),
+            text: texts::normalize_text(s, !trim, follows(asked)),
+            behind: asked,
             kept: solid,
         };
     }
     Looked {
         text: texts::normalize_text(s, !trim, false),
+        behind,
         kept: past(kept, c, next),
     }
 }
@@ -175,29 +231,46 @@ fn words_turn(
     file: &[u8],
     tape: Sections,
     solids: &[u32],
+    parent: Cursor,
+    outer: bool,
     c: Cursor,
     trim: bool,
-    behind: bool,
+    behind: Behind,
     kept: Step,
     sink: Sink,
     out: &mut [u8],
 ) -> Going
     requires { ⌜ Solids (tapeIn tape (now file)) (now solids) ⌝ }
-    ensures { λ r. ⌜ (Kept (tapeIn tape (now (file .entry))) c kept → (node : ℕ → Bool → List Event) (ks : List ℕ) → emitAll (deskIn (tapeIn tape (now (file .entry)) .source) (r .sink) (now (out .exit))) (inlineAll node (tapeIn tape (now (file .entry))) behind (r .trim) ks) ≡ emitAll (deskIn (tapeIn tape (now (file .entry)) .source) sink (now (out .entry))) (plainFrom node (tapeIn tape (now (file .entry))) behind trim (c .at) ks Words)) ⌝ }
+    ensures { λ r. ⌜ (Kept (tapeIn tape (now (file .entry))) c kept → (node : ℕ → Bool → List Event) (ks : List ℕ) → emitAll (deskIn (tapeIn tape (now (file .entry)) .source) (r .sink) (now (out .exit))) (inlineAll node (tapeIn tape (now (file .entry))) (behindOf (tapeIn tape (now (file .entry))) parent outer behind) (r .trim) ks) ≡ emitAll (deskIn (tapeIn tape (now (file .entry)) .source) sink (now (out .entry))) (plainFrom node (tapeIn tape (now (file .entry))) (behindOf (tapeIn tape (now (file .entry))) parent outer behind) trim (c .at) ks Words)) ⌝ }
     ensures { λ r. ⌜ (Kept (tapeIn tape (now (file .entry))) c kept → KeptAt (tapeIn tape (now (file .entry))) (r .next) (r .kept)) ⌝ }
     ensures { λ r. ⌜ r .next ≡ nextSibling (tapeIn tape (now (file .entry))) (c .at) ⌝ }
-    ensures { λ r. ⌜ (Kept (tapeIn tape (now (file .entry))) c kept → r .trim ≡ trimBy (tapeIn tape (now (file .entry))) behind trim (c .at) Words) ⌝ }
-    ensures { λ r. ⌜ (Kept (tapeIn tape (now (file .entry))) c kept → r .kept ≡ keptBehind (tapeIn tape (now (file .entry))) behind (textAt (tapeIn tape (now (file .entry))) (c .at)) kept (c .at) (r .next)) ⌝ }
+    ensures { λ r. ⌜ (Kept (tapeIn tape (now (file .entry))) c kept → r .trim ≡ trimBy (tapeIn tape (now (file .entry))) (behindOf (tapeIn tape (now (file .entry))) parent outer behind) trim (c .at) Words) ⌝ }
+    ensures { λ r. ⌜ (Kept (tapeIn tape (now (file .entry))) c kept → r .kept ≡ keptBehind (tapeIn tape (now (file .entry))) (textAt (tapeIn tape (now (file .entry))) (c .at)) kept (c .at) (r .next)) ⌝ }
+    ensures { λ r. ⌜ (Kept (tapeIn tape (now (file .entry))) c kept → r .behind ≡ behindText (tapeIn tape (now (file .entry))) parent outer behind (c .at) (textAt (tapeIn tape (now (file .entry))) (c .at))) ⌝ }
 {
     let next = c.next_sibling(file, tape);
     let s = lean_text(file, tape, solids, c);
-    let l = look(file, tape, solids, c, s, trim, behind, kept, next);
+    let l = look(
+        file,
+        tape,
+        solids,
+        parent,
+        outer,
+        c,
+        s,
+        trim,
+        behind,
+        kept,
+        next,
+    );
     let n = l.text;
+    let known = l.behind;
     let solid = l.kept;
     let r = breaks::put_broken(s, n, sink, out);
     Going {
         sink: r,
         trim: still(trim, n),
+        behind: known,
         kept: solid,
         next,
     }
@@ -210,16 +283,18 @@ fn anchor_turn(
     solids: &[u32],
     span: Span,
     c: Cursor,
+    behind: Behind,
     sink: Sink,
     out: &mut [u8],
 ) -> Going
     requires { ⌜ Solids (tapeIn tape (now file)) (now solids) ⌝ }
-    ensures { λ r. ⌜ ((node : ℕ → Bool → List Event) (behind trim : Bool) → emitAll (deskIn (tapeIn tape (now (file .entry)) .source) (r .sink) (now (out .exit))) (inlineAll node (tapeIn tape (now (file .entry))) behind (r .trim) (nodesIn (tapeIn tape (now (file .entry))) span (r .next))) ≡ emitAll (deskIn (tapeIn tape (now (file .entry)) .source) sink (now (out .entry))) (plainFrom node (tapeIn tape (now (file .entry))) behind trim (c .at) (nodesIn (tapeIn tape (now (file .entry))) span (nextSibling (tapeIn tape (now (file .entry))) (c .at))) Anchor)) ⌝ }
+    ensures { λ r. ⌜ ((node : ℕ → Bool → List Event) (follows trim : Bool) → emitAll (deskIn (tapeIn tape (now (file .entry)) .source) (r .sink) (now (out .exit))) (inlineAll node (tapeIn tape (now (file .entry))) follows (r .trim) (nodesIn (tapeIn tape (now (file .entry))) span (r .next))) ≡ emitAll (deskIn (tapeIn tape (now (file .entry)) .source) sink (now (out .entry))) (plainFrom node (tapeIn tape (now (file .entry))) follows trim (c .at) (nodesIn (tapeIn tape (now (file .entry))) span (nextSibling (tapeIn tape (now (file .entry))) (c .at))) Anchor)) ⌝ }
     ensures { λ r. ⌜ KeptAt (tapeIn tape (now (file .entry))) (r .next) (r .kept) ⌝ }
     ensures { λ r. ⌜ left (tapeIn tape (now (file .entry))) (r .next) < left (tapeIn tape (now (file .entry))) (At c) ⌝ }
     ensures { λ r. ⌜ r .next ≡ nextBy (tapeIn tape (now (file .entry))) span (c .at) Anchor ⌝ }
     ensures { λ r. ⌜ r .trim ≡ true ⌝ }
     ensures { λ r. ⌜ r .kept ≡ r .next ⌝ }
+    ensures { λ r. ⌜ r .behind ≡ behind ⌝ }
 {
     let f = fold_in(
         file,
@@ -236,15 +311,25 @@ fn anchor_turn(
     Going {
         sink: r,
         trim: true,
+        behind,
         kept: next,
         next,
     }
 }
 
 // A child that writes nothing.
-fn passed_turn(file: &[u8], tape: Sections, c: Cursor, trim: bool, kept: Step, sink: Sink) -> Going
+fn passed_turn(
+    file: &[u8],
+    tape: Sections,
+    c: Cursor,
+    trim: bool,
+    behind: Behind,
+    kept: Step,
+    sink: Sink,
+) -> Going
     ensures { λ r. ⌜ r .sink ≡ sink ⌝ }
     ensures { λ r. ⌜ r .trim ≡ trim ⌝ }
+    ensures { λ r. ⌜ r .behind ≡ behind ⌝ }
     ensures { λ r. ⌜ (Kept (tapeIn tape (now (file .entry))) c kept → KeptAt (tapeIn tape (now (file .entry))) (r .next) (r .kept)) ⌝ }
     ensures { λ r. ⌜ r .next ≡ nextSibling (tapeIn tape (now (file .entry))) (c .at) ⌝ }
     ensures { λ r. ⌜ r .kept ≡ keptPast kept (c .at) (r .next) ⌝ }
@@ -253,6 +338,7 @@ fn passed_turn(file: &[u8], tape: Sections, c: Cursor, trim: bool, kept: Step, s
     Going {
         sink,
         trim,
+        behind,
         kept: past(kept, c, next),
         next,
     }
@@ -264,27 +350,42 @@ pub fn plain_turn(
     tape: Sections,
     solids: &[u32],
     span: Span,
+    parent: Cursor,
+    outer: bool,
     c: Cursor,
     child: Child,
     trim: bool,
-    behind: bool,
+    behind: Behind,
     kept: Step,
     sink: Sink,
     out: &mut [u8],
 ) -> Going
     requires { ⌜ Solids (tapeIn tape (now file)) (now solids) ⌝ }
-    ensures { λ r. ⌜ (Kept (tapeIn tape (now (file .entry))) c kept → (node : ℕ → Bool → List Event) → emitAll (deskIn (tapeIn tape (now (file .entry)) .source) (r .sink) (now (out .exit))) (inlineAll node (tapeIn tape (now (file .entry))) behind (r .trim) (nodesIn (tapeIn tape (now (file .entry))) span (r .next))) ≡ emitAll (deskIn (tapeIn tape (now (file .entry)) .source) sink (now (out .entry))) (plainFrom node (tapeIn tape (now (file .entry))) behind trim (c .at) (nodesIn (tapeIn tape (now (file .entry))) span (nextSibling (tapeIn tape (now (file .entry))) (c .at))) child)) ⌝ }
+    ensures { λ r. ⌜ (Kept (tapeIn tape (now (file .entry))) c kept → (node : ℕ → Bool → List Event) → emitAll (deskIn (tapeIn tape (now (file .entry)) .source) (r .sink) (now (out .exit))) (inlineAll node (tapeIn tape (now (file .entry))) (behindOf (tapeIn tape (now (file .entry))) parent outer behind) (r .trim) (nodesIn (tapeIn tape (now (file .entry))) span (r .next))) ≡ emitAll (deskIn (tapeIn tape (now (file .entry)) .source) sink (now (out .entry))) (plainFrom node (tapeIn tape (now (file .entry))) (behindOf (tapeIn tape (now (file .entry))) parent outer behind) trim (c .at) (nodesIn (tapeIn tape (now (file .entry))) span (nextSibling (tapeIn tape (now (file .entry))) (c .at))) child)) ⌝ }
     ensures { λ r. ⌜ (Kept (tapeIn tape (now (file .entry))) c kept → KeptAt (tapeIn tape (now (file .entry))) (r .next) (r .kept)) ⌝ }
     ensures { λ r. ⌜ left (tapeIn tape (now (file .entry))) (r .next) < left (tapeIn tape (now (file .entry))) (At c) ⌝ }
     ensures { λ r. ⌜ r .next ≡ nextBy (tapeIn tape (now (file .entry))) span (c .at) child ⌝ }
-    ensures { λ r. ⌜ (Kept (tapeIn tape (now (file .entry))) c kept → r .trim ≡ trimBy (tapeIn tape (now (file .entry))) behind trim (c .at) child) ⌝ }
-    ensures { λ r. ⌜ (Kept (tapeIn tape (now (file .entry))) c kept → r .kept ≡ keptBy (tapeIn tape (now (file .entry))) span behind kept (c .at) child) ⌝ }
+    ensures { λ r. ⌜ (Kept (tapeIn tape (now (file .entry))) c kept → r .trim ≡ trimBy (tapeIn tape (now (file .entry))) (behindOf (tapeIn tape (now (file .entry))) parent outer behind) trim (c .at) child) ⌝ }
+    ensures { λ r. ⌜ (Kept (tapeIn tape (now (file .entry))) c kept → r .kept ≡ keptBy (tapeIn tape (now (file .entry))) span kept (c .at) child) ⌝ }
+    ensures { λ r. ⌜ (Kept (tapeIn tape (now (file .entry))) c kept → r .behind ≡ behindBy (tapeIn tape (now (file .entry))) parent outer behind (c .at) child) ⌝ }
 {
     match child {
-        Child::Anchor => anchor_turn(file, tape, solids, span, c, sink, out),
-        Child::Words => words_turn(file, tape, solids, c, trim, behind, kept, sink, out),
-        Child::Passed => passed_turn(file, tape, c, trim, kept, sink),
-        Child::Skipped => passed_turn(file, tape, c, trim, kept, sink),
+        Child::Anchor => anchor_turn(file, tape, solids, span, c, behind, sink, out),
+        Child::Words => words_turn(
+            file,
+            tape,
+            solids,
+            parent,
+            outer,
+            c,
+            trim,
+            behind,
+            kept,
+            sink,
+            out,
+        ),
+        Child::Passed => passed_turn(file, tape, c, trim, behind, kept, sink),
+        Child::Skipped => passed_turn(file, tape, c, trim, behind, kept, sink),
     }
 }
 
@@ -323,29 +424,45 @@ fn note_words(
     tape: Sections,
     solids: &[u32],
     parent: Cursor,
+    outer: bool,
     c: Cursor,
     trim: bool,
-    behind: bool,
+    behind: Behind,
     kept: Step,
     sink: Sink,
     out: &mut [u8],
 ) -> Going
     requires { ⌜ Solids (tapeIn tape (now file)) (now solids) ⌝ }
-    ensures { λ r. ⌜ (Kept (tapeIn tape (now (file .entry))) c kept → (node : ℕ → Bool → List Event) (ks : List ℕ) → emitAll (deskIn (tapeIn tape (now (file .entry)) .source) (r .sink) (now (out .exit))) (noteAll node (tapeIn tape (now (file .entry))) (parent .at + 1) behind (r .trim) ks) ≡ emitAll (deskIn (tapeIn tape (now (file .entry)) .source) sink (now (out .entry))) (notePlain node (tapeIn tape (now (file .entry))) behind trim (parent .at + 1) (c .at) ks Words)) ⌝ }
+    ensures { λ r. ⌜ (Kept (tapeIn tape (now (file .entry))) c kept → (node : ℕ → Bool → List Event) (ks : List ℕ) → emitAll (deskIn (tapeIn tape (now (file .entry)) .source) (r .sink) (now (out .exit))) (noteAll node (tapeIn tape (now (file .entry))) (parent .at + 1) (behindOf (tapeIn tape (now (file .entry))) parent outer behind) (r .trim) ks) ≡ emitAll (deskIn (tapeIn tape (now (file .entry)) .source) sink (now (out .entry))) (notePlain node (tapeIn tape (now (file .entry))) (behindOf (tapeIn tape (now (file .entry))) parent outer behind) trim (parent .at + 1) (c .at) ks Words)) ⌝ }
     ensures { λ r. ⌜ (Kept (tapeIn tape (now (file .entry))) c kept → KeptAt (tapeIn tape (now (file .entry))) (r .next) (r .kept)) ⌝ }
     ensures { λ r. ⌜ r .next ≡ nextSibling (tapeIn tape (now (file .entry))) (c .at) ⌝ }
-    ensures { λ r. ⌜ (Kept (tapeIn tape (now (file .entry))) c kept → r .trim ≡ noteTrimBy (tapeIn tape (now (file .entry))) (parent .at + 1) behind trim (c .at) Words) ⌝ }
-    ensures { λ r. ⌜ (Kept (tapeIn tape (now (file .entry))) c kept → r .kept ≡ keptBehind (tapeIn tape (now (file .entry))) behind (noteText (tapeIn tape (now (file .entry))) (parent .at + 1) (c .at)) kept (c .at) (r .next)) ⌝ }
+    ensures { λ r. ⌜ (Kept (tapeIn tape (now (file .entry))) c kept → r .trim ≡ noteTrimBy (tapeIn tape (now (file .entry))) (parent .at + 1) (behindOf (tapeIn tape (now (file .entry))) parent outer behind) trim (c .at) Words) ⌝ }
+    ensures { λ r. ⌜ (Kept (tapeIn tape (now (file .entry))) c kept → r .kept ≡ keptBehind (tapeIn tape (now (file .entry))) (noteText (tapeIn tape (now (file .entry))) (parent .at + 1) (c .at)) kept (c .at) (r .next)) ⌝ }
+    ensures { λ r. ⌜ (Kept (tapeIn tape (now (file .entry))) c kept → r .behind ≡ behindText (tapeIn tape (now (file .entry))) parent outer behind (c .at) (noteText (tapeIn tape (now (file .entry))) (parent .at + 1) (c .at))) ⌝ }
 {
     let next = c.next_sibling(file, tape);
     let s = note_text(file, tape, solids, parent, c);
-    let l = look(file, tape, solids, c, s, trim, behind, kept, next);
+    let l = look(
+        file,
+        tape,
+        solids,
+        parent,
+        outer,
+        c,
+        s,
+        trim,
+        behind,
+        kept,
+        next,
+    );
     let n = l.text;
+    let known = l.behind;
     let solid = l.kept;
     let r = breaks::put_unbroken(s, n, sink, out);
     Going {
         sink: r,
         trim: still(trim, n),
+        behind: known,
         kept: solid,
         next,
     }
@@ -357,26 +474,40 @@ pub fn note_turn(
     tape: Sections,
     solids: &[u32],
     parent: Cursor,
+    outer: bool,
     c: Cursor,
     child: Child,
     trim: bool,
-    behind: bool,
+    behind: Behind,
     kept: Step,
     sink: Sink,
     out: &mut [u8],
 ) -> Going
     requires { ⌜ Solids (tapeIn tape (now file)) (now solids) ⌝ }
-    ensures { λ r. ⌜ (Kept (tapeIn tape (now (file .entry))) c kept → (node : ℕ → Bool → List Event) → emitAll (deskIn (tapeIn tape (now (file .entry)) .source) (r .sink) (now (out .exit))) (noteAll node (tapeIn tape (now (file .entry))) (parent .at + 1) behind (r .trim) (walkFrom (tapeIn tape (now (file .entry))) (r .next))) ≡ emitAll (deskIn (tapeIn tape (now (file .entry)) .source) sink (now (out .entry))) (notePlain node (tapeIn tape (now (file .entry))) behind trim (parent .at + 1) (c .at) (walkFrom (tapeIn tape (now (file .entry))) (nextSibling (tapeIn tape (now (file .entry))) (c .at))) child)) ⌝ }
+    ensures { λ r. ⌜ (Kept (tapeIn tape (now (file .entry))) c kept → (node : ℕ → Bool → List Event) → emitAll (deskIn (tapeIn tape (now (file .entry)) .source) (r .sink) (now (out .exit))) (noteAll node (tapeIn tape (now (file .entry))) (parent .at + 1) (behindOf (tapeIn tape (now (file .entry))) parent outer behind) (r .trim) (walkFrom (tapeIn tape (now (file .entry))) (r .next))) ≡ emitAll (deskIn (tapeIn tape (now (file .entry)) .source) sink (now (out .entry))) (notePlain node (tapeIn tape (now (file .entry))) (behindOf (tapeIn tape (now (file .entry))) parent outer behind) trim (parent .at + 1) (c .at) (walkFrom (tapeIn tape (now (file .entry))) (nextSibling (tapeIn tape (now (file .entry))) (c .at))) child)) ⌝ }
     ensures { λ r. ⌜ (Kept (tapeIn tape (now (file .entry))) c kept → KeptAt (tapeIn tape (now (file .entry))) (r .next) (r .kept)) ⌝ }
     ensures { λ r. ⌜ left (tapeIn tape (now (file .entry))) (r .next) < left (tapeIn tape (now (file .entry))) (At c) ⌝ }
     ensures { λ r. ⌜ r .next ≡ nextSibling (tapeIn tape (now (file .entry))) (c .at) ⌝ }
-    ensures { λ r. ⌜ (Kept (tapeIn tape (now (file .entry))) c kept → r .trim ≡ noteTrimBy (tapeIn tape (now (file .entry))) (parent .at + 1) behind trim (c .at) child) ⌝ }
-    ensures { λ r. ⌜ (Kept (tapeIn tape (now (file .entry))) c kept → r .kept ≡ noteKeptBy (tapeIn tape (now (file .entry))) (parent .at + 1) behind kept (c .at) child) ⌝ }
+    ensures { λ r. ⌜ (Kept (tapeIn tape (now (file .entry))) c kept → r .trim ≡ noteTrimBy (tapeIn tape (now (file .entry))) (parent .at + 1) (behindOf (tapeIn tape (now (file .entry))) parent outer behind) trim (c .at) child) ⌝ }
+    ensures { λ r. ⌜ (Kept (tapeIn tape (now (file .entry))) c kept → r .kept ≡ noteKeptBy (tapeIn tape (now (file .entry))) (parent .at + 1) kept (c .at) child) ⌝ }
+    ensures { λ r. ⌜ (Kept (tapeIn tape (now (file .entry))) c kept → r .behind ≡ noteBehindBy (tapeIn tape (now (file .entry))) (parent .at + 1) parent outer behind (c .at) child) ⌝ }
 {
     match child {
-        Child::Words => note_words(file, tape, solids, parent, c, trim, behind, kept, sink, out),
-        Child::Passed => passed_turn(file, tape, c, trim, kept, sink),
-        Child::Anchor => passed_turn(file, tape, c, trim, kept, sink),
-        Child::Skipped => passed_turn(file, tape, c, trim, kept, sink),
+        Child::Words => note_words(
+            file,
+            tape,
+            solids,
+            parent,
+            outer,
+            c,
+            trim,
+            behind,
+            kept,
+            sink,
+            out,
+        ),
+        Child::Passed => passed_turn(file, tape, c, trim, behind, kept, sink),
+        Child::Anchor => passed_turn(file, tape, c, trim, behind, kept, sink),
+        Child::Skipped => passed_turn(file, tape, c, trim, behind, kept, sink),
     }
 }

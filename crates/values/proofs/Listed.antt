@@ -13,11 +13,12 @@ use Rattle.words.specs.declared.Part.{Part}
 use Rattle.window.specs.Page.{Page, paint}
 use Rattle.window.proofs.Paint.{paint-two}
 use Rattle.tape.specs.File.{Tape, textAt}
+use Rattle.tape.specs.Tree.{walkFrom}
 use Rattle.tape.specs.declared.Cursor.{Cursor}
 use Rattle.tape.specs.declared.Step.{Step}
 use Rattle.tape.specs.declared.Step.the-variants.{At, Done}
 use Rattle.render.specs.Note.{categoryText, trimmedAt, writtenCategory}
-use Rattle.attrs.specs.Attr.{Pair, attributesOf}
+use Rattle.attrs.specs.Attr.{Pair, pairsAlong}
 use Rattle.attrs.specs.Walk.{fixedKeys, valueOf, keyOf, remaining, nextList, soughtOf}
 use Rattle.attrs.specs.declared.Value.{Value}
 use Rattle.attrs.specs.declared.Key.{Key}
@@ -26,6 +27,7 @@ use Rattle.attrs.specs.declared.Next.{Next}
 use Rattle.attrs.specs.declared.Next.the-variants.{Pair as NextPair, Done as NextDone}
 use Rattle.attrs.specs.declared.Sought.{Sought}
 use Rattle.attrs.specs.declared.Sought.the-variants.{At as Found, Nowhere}
+use Rattle.attrs.proofs.Pairs.{pairs-nil}
 use Rattle.attrs.proofs.Walks.{next-end, next-listed}
 use Rattle.fold.specs.Fold.{numberIn, foldedNumber}
 use Rattle.fold.specs.Number.{gapSpace, toCome, pieceList}
@@ -53,21 +55,18 @@ collected-append (p ∷ ps) qs =
     ap (λ (z : Bytes). first ++ z) (collected-append ps qs)
     ∙ sym (append-assoc first (attrsBytes (collected ps)) (attrsBytes (collected qs)))
 
-pairs-two : (p : Page) {q r : Page} (ps qs : List Pair) → q ≡ paint p (attrsBytes (collected ps)) → r ≡ paint q (attrsBytes (collected qs))
+pub pairs-two : (p : Page) {q r : Page} (ps qs : List Pair) → q ≡ paint p (attrsBytes (collected ps)) → r ≡ paint q (attrsBytes (collected qs))
     → r ≡ paint p (attrsBytes (collected (ps ++ qs)))
 pairs-two p ps qs eq er = paint-two p (attrsBytes (collected ps)) (attrsBytes (collected qs)) eq er ∙ ap (paint p) (sym (collected-append ps qs))
 
 -- ---- the walk over the attributes of a node
 
 module _ (t : Tape) (m : Bytes) (a : Attrs) {n : Next} (en : remaining t m a ≡ nextList t m n) where
-  pub collected-end : n ≡ NextDone → (k : ℕ) (a₀ : Attrs) → ((m : Bytes) → remaining t m a₀ ≡ attributesOf t k m) → (p z : Page)
-      → paint p (attrsBytes (collected (remaining t m a))) ≡ paint z (attrsBytes (collected (remaining t m a₀)))
-      → p ≡ paint z (attrsBytes (collected (attributesOf t k m)))
-  unfolding attrsBytes collected paint
-  collected-end e k a₀ all p z inv =
-      sym (ap (λ (ps : List Pair). paint p (attrsBytes (collected ps))) (next-end t m a en e))
-      ∙ inv
-      ∙ ap (λ (ps : List Pair). paint z (attrsBytes (collected ps))) (all m)
+  pub collected-end : n ≡ NextDone → (from : Step) (p z : Page)
+      → paint p (attrsBytes (collected (remaining t m a))) ≡ paint z (attrsBytes (collected (remaining t m (record { rest = record { start = 0; len = 0 }; next = from }))))
+      → p ≡ paint z (attrsBytes (collected (pairsAlong t m (walkFrom t from))))
+  unfolding attrsBytes collected paint remaining
+  collected-end e from p z inv = sym (ap (λ (ps : List Pair). paint p (attrsBytes (collected ps))) (next-end t m a en e)) ∙ inv ∙ rw pairs-nil
 
   pub collected-turn : {k : Key} {v : Value} {left : Attrs} → n ≡ NextPair k v left → {s : Bytes} → s ≡ t .source → (p : Page) {q z : Page}
       → q ≡ paint p (attrBytes (escaped (keyOf s fixedKeys k) (valueOf s v))) → paint p (attrsBytes (collected (remaining t m a))) ≡ z

@@ -7,18 +7,22 @@ use attrs::Value;
 use fold::Number;
 use fold::Piece;
 use tape::Cursor;
+use tape::Kind;
 use tape::Sections;
 use tape::Step;
 use window::Window;
+use words::Part;
 ghost use mathlib.Core.Path.{_≡_};
 ghost use mathlib.Core.Bool.{true};
 ghost use mathlib.Core.List.{[], _∷_, _++_};
+ghost use lib.ListN.{drop};
 ghost use Rattle.parts.specs.Bytes.{b};
 ghost use Rattle.chars.specs.Escape.{escape};
 ghost use Rattle.window.specs.Page.{pageOf, paint};
 ghost use Rattle.tape.specs.File.{tapeIn};
+ghost use Rattle.tape.specs.Tree.{walkFrom};
 ghost use Rattle.render.specs.Note.{writtenCategory};
-ghost use Rattle.attrs.specs.Attr.{unquoted, attributesOf};
+ghost use Rattle.attrs.specs.Attr.{unquoted, pairsAlong, attributesOf};
 ghost use Rattle.attrs.specs.Walk.{fixedKeys, valueOf, keyOf, soughtOf};
 ghost use Rattle.fold.specs.Fold.{numberIn, foldedNumber};
 ghost use Rattle.fold.specs.Number.{gapSpace};
@@ -102,19 +106,22 @@ fn put_next(w: Window, out: &mut [u8], source: &[u8], k: Key, v: Value) -> Windo
     put_pair(w, out, key, source, v)
 }
 
-// The attributes of a node, whose marker goes by this name.
-pub fn put_collected(
+// The attributes of the nodes from a step on, pair by pair.
+fn put_pairs(
     w: Window,
     out: &mut [u8],
     file: &[u8],
     tape: Sections,
-    c: Cursor,
+    from: Step,
     marker: &[u8],
 ) -> Window
-    ensures { λ r. ⌜ pageOf r (now (out .exit)) ≡ paint (pageOf w (now (out .entry))) (attrsBytes (collected (attributesOf (tapeIn tape (now (file .entry))) (c .at) (now (marker .entry))))) ⌝ }
+    ensures { λ r. ⌜ pageOf r (now (out .exit)) ≡ paint (pageOf w (now (out .entry))) (attrsBytes (collected (pairsAlong (tapeIn tape (now (file .entry))) (now (marker .entry)) (walkFrom (tapeIn tape (now (file .entry))) from)))) ⌝ }
 {
     let mut v = w;
-    let mut left = Attrs::of(file, tape, c);
+    let mut left = Attrs {
+        rest: Part { start: 0, len: 0 },
+        next: from,
+    };
     loop {
         match left.next(file, tape, marker) {
             Next::Done => return v,
@@ -126,6 +133,45 @@ pub fn put_collected(
                 v = put_next(v, out, tape::source(file, tape), key, value);
                 left = after;
             }
+        }
+    }
+}
+
+// A space, and what stands behind the `|` of an attribute.
+fn put_barred(w: Window, out: &mut [u8], s: &[u8]) -> Window
+    ensures { λ r. ⌜ pageOf r (now (out .exit)) ≡ paint (pageOf w (now (out .entry))) (b " " ++ drop 1 (now (s .entry))) ⌝ }
+{
+    let v = window::put_run(w, out, b" ");
+    window::put_run(v, out, parts::from(s, 1))
+}
+
+// The attributes of a node, whose marker goes by this name: each is written as it stands, up to the first that cannot be.
+pub fn put_collected(
+    w: Window,
+    out: &mut [u8],
+    file: &[u8],
+    tape: Sections,
+    c: Cursor,
+    marker: &[u8],
+) -> Window
+    ensures { λ r. ⌜ pageOf r (now (out .exit)) ≡ paint (pageOf w (now (out .entry))) (attrsBytes (collected (attributesOf (tapeIn tape (now (file .entry))) (c .at) (now (marker .entry))))) ⌝ }
+{
+    let mut v = w;
+    let mut step = c.first_child(file, tape);
+    if parts::same(marker, b"fig") {
+        return put_pairs(v, out, file, tape, step, marker);
+    }
+    loop {
+        let Step::At(d) = step else {
+            return v;
+        };
+        step = d.next_sibling(file, tape);
+        if d.kind(file, tape).code == Kind::ATTRIBUTE {
+            let s = d.text(file, tape);
+            if !barred::is_barred(s) {
+                return put_pairs(v, out, file, tape, Step::At(d), marker);
+            }
+            v = put_barred(v, out, s);
         }
     }
 }

@@ -2,6 +2,7 @@ pub mod Rows
 pub mod Runs
 pub mod Steps
 pub mod Texts
+pub mod Bytes
 pub mod Places
 pub mod Blank
 pub mod Twice

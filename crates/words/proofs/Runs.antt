@@ -96,6 +96,12 @@ module _ (p : Bytes → Bool) where
       go [] = refl
       go (b ∷ ds) = refl
 
+  -- where it passes, it is left out
+  pub end-passes : (cs : List Bytes) (c : Bytes) → p c ≡ true → dropEnd p (cs ++ (c ∷ [])) ≡ dropEnd p cs
+  unfolding dropEnd keep
+  end-passes [] c e = rw e
+  end-passes (d ∷ cs) c e = rw (end-passes cs c e)
+
   pub end-twice : (cs : List Bytes) → dropEnd p (dropEnd p cs) ≡ dropEnd p cs
   unfolding dropEnd keep
   end-twice [] = refl

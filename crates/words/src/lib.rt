@@ -99,11 +99,28 @@ fn run_len(s: &[u8], set: Set, white: bool) -> usize
     at
 }
 
+// The bytes of ASCII white space that a text begins with, one by one.
+fn white_bytes(s: &[u8]) -> usize
+    ensures { λ r. ⌜ r ≡ whiteLen Set.Ascii (now (s .entry)) ⌝ }
+{
+    let mut at = 0;
+    while at < s.len() {
+        if !chars::is_ascii_white(s[at]) {
+            return at;
+        }
+        at += 1;
+    }
+    at
+}
+
 // The bytes of white space that a text begins with.
 pub fn white_len(s: &[u8], set: Set) -> usize
     ensures { λ r. ⌜ r ≡ whiteLen set (now (s .entry)) ⌝ }
 {
-    run_len(s, set, true)
+    match set {
+        Set::Ascii => white_bytes(s),
+        Set::Unicode => run_len(s, Set::Unicode, true),
+    }
 }
 
 // The bytes before its first white space.
@@ -123,9 +140,23 @@ fn ends_visible(s: &[u8]) -> bool
     is_visible(s[s.len() - 1])
 }
 
-// Where the last character that is not white space ends.
-pub fn solid_len(s: &[u8], set: Set) -> usize
-    ensures { λ r. ⌜ r ≡ length (trimEnd set (now (s .entry))) ⌝ }
+// Where the last byte that is not ASCII white space ends, one by one from the end.
+fn solid_bytes(s: &[u8]) -> usize
+    ensures { λ r. ⌜ r ≡ length (trimEnd Set.Ascii (now (s .entry))) ⌝ }
+{
+    let mut end = s.len();
+    while 0 < end {
+        if !chars::is_ascii_white(s[end - 1]) {
+            return end;
+        }
+        end -= 1;
+    }
+    end
+}
+
+// Where the last character that is not white space ends, one by one from the front.
+fn solid_chars(s: &[u8]) -> usize
+    ensures { λ r. ⌜ r ≡ length (trimEnd Set.Unicode (now (s .entry))) ⌝ }
 {
     // Most texts: no character reaches into the last byte, and it is not white space.
     if ends_visible(s) {
@@ -134,7 +165,7 @@ pub fn solid_len(s: &[u8], set: Set) -> usize
     let mut at = 0;
     let mut end = 0;
     while at < s.len() {
-        let c = front_at(s, at, set);
+        let c = front_at(s, at, Set::Unicode);
         let next = at + c.width;
         if !c.white {
             end = next;
@@ -142,6 +173,16 @@ pub fn solid_len(s: &[u8], set: Set) -> usize
         at = next;
     }
     end
+}
+
+// Where the last character that is not white space ends.
+pub fn solid_len(s: &[u8], set: Set) -> usize
+    ensures { λ r. ⌜ r ≡ length (trimEnd set (now (s .entry))) ⌝ }
+{
+    match set {
+        Set::Ascii => solid_bytes(s),
+        Set::Unicode => solid_chars(s),
+    }
 }
 
 pub fn trim_start(s: &[u8], set: Set) -> &[u8]

@@ -39,20 +39,20 @@ good-nodes-requires c κs = search needs
 returns-5 : tie.Need-returns-5
 returns-5 c = gives-5 _ (c .before .before .before .before .before .before .before .before .before .before .before .laid-out .ensures) (c .before .before .before .before .before .before .before .before .before .before .if1 .left) (c .before .before .before .before .before .before .before .before .before .small .ensures) (c .before .before .before .before .before .before .before .before .if2 .left) (c .before .before .before .before .before .before .before .of .ensures) (c .before .before .before .before .before .before .source .ensures .0) (c .before .before .before .before .before .is-utf8 .ensures) (c .before .before .before .before .if3 .left) (c .before .before .before .good-names .ensures) (c .before .before .if4 .left) (c .before .good-nodes .ensures) (c .if5 .taken)
 
-too-deep-requires : tie.Need-too-deep-requires
-too-deep-requires c κs = search needs
-
-returns-6 : tie.Need-returns-6
-returns-6 c = gives-6 _ (c .before .before .before .before .before .before .before .before .before .before .before .before .before .laid-out .ensures) (c .before .before .before .before .before .before .before .before .before .before .before .before .if1 .left) (c .before .before .before .before .before .before .before .before .before .before .before .small .ensures) (c .before .before .before .before .before .before .before .before .before .before .if2 .left) (c .before .before .before .before .before .before .before .before .before .of .ensures) (c .before .before .before .before .before .before .before .before .source .ensures .0) (c .before .before .before .before .before .before .before .is-utf8 .ensures) (c .before .before .before .before .before .before .if3 .left) (c .before .before .before .before .before .good-names .ensures) (c .before .before .before .before .if4 .left) (c .before .before .before .good-nodes .ensures) (c .before .before .if5 .left) (c .before .too-deep .ensures) (c .if6 .taken)
-
 nests-requires : tie.Need-nests-requires
 nests-requires c κs = search needs
 
+returns-6 : tie.Need-returns-6
+returns-6 c = gives-0 _ (c .before .before .before .before .before .before .before .before .before .before .before .before .before .laid-out .ensures) (c .before .before .before .before .before .before .before .before .before .before .before .before .if1 .left) (c .before .before .before .before .before .before .before .before .before .before .before .small .ensures) (c .before .before .before .before .before .before .before .before .before .before .if2 .left) (c .before .before .before .before .before .before .before .before .before .of .ensures) (c .before .before .before .before .before .before .before .before .source .ensures .0) (c .before .before .before .before .before .before .before .is-utf8 .ensures) (c .before .before .before .before .before .before .if3 .left) (c .before .before .before .before .before .good-names .ensures) (c .before .before .before .before .if4 .left) (c .before .before .before .good-nodes .ensures) (c .before .before .if5 .left) (c .before .nests .ensures) (c .if6 .taken)
+
+too-deep-requires : tie.Need-too-deep-requires
+too-deep-requires c κs = search needs
+
 returns-7 : tie.Need-returns-7
-returns-7 c = gives-7 _ (c .before .before .before .before .before .before .before .before .before .before .before .before .before .before .before .laid-out .ensures) (c .before .before .before .before .before .before .before .before .before .before .before .before .before .before .if1 .left) (c .before .before .before .before .before .before .before .before .before .before .before .before .before .small .ensures) (c .before .before .before .before .before .before .before .before .before .before .before .before .if2 .left) (c .before .before .before .before .before .before .before .before .before .before .before .of .ensures) (c .before .before .before .before .before .before .before .before .before .before .source .ensures .0) (c .before .before .before .before .before .before .before .before .before .is-utf8 .ensures) (c .before .before .before .before .before .before .before .before .if3 .left) (c .before .before .before .before .before .before .before .good-names .ensures) (c .before .before .before .before .before .before .if4 .left) (c .before .before .before .before .before .good-nodes .ensures) (c .before .before .before .before .if5 .left) (c .before .before .before .too-deep .ensures) (c .before .before .if6 .left) (c .before .nests .ensures) (c .if7 .taken)
+returns-7 c = gives-6 _ (c .before .before .before .before .before .before .before .before .before .before .before .before .before .before .before .laid-out .ensures) (c .before .before .before .before .before .before .before .before .before .before .before .before .before .before .if1 .left) (c .before .before .before .before .before .before .before .before .before .before .before .before .before .small .ensures) (c .before .before .before .before .before .before .before .before .before .before .before .before .if2 .left) (c .before .before .before .before .before .before .before .before .before .before .before .of .ensures) (c .before .before .before .before .before .before .before .before .before .before .source .ensures .0) (c .before .before .before .before .before .before .before .before .before .is-utf8 .ensures) (c .before .before .before .before .before .before .before .before .if3 .left) (c .before .before .before .before .before .before .before .good-names .ensures) (c .before .before .before .before .before .before .if4 .left) (c .before .before .before .before .before .good-nodes .ensures) (c .before .before .before .before .if5 .left) (c .before .before .before .nests .ensures) (c .before .before .if6 .left) (c .before .too-deep .ensures) (c .if7 .taken)
 
 returns-8 : tie.Need-returns-8
-returns-8 c = gives-0 _ (c .before .before .before .before .before .before .before .before .before .before .before .before .before .before .before .laid-out .ensures) (c .before .before .before .before .before .before .before .before .before .before .before .before .before .before .if1 .left) (c .before .before .before .before .before .before .before .before .before .before .before .before .before .small .ensures) (c .before .before .before .before .before .before .before .before .before .before .before .before .if2 .left) (c .before .before .before .before .before .before .before .before .before .before .before .of .ensures) (c .before .before .before .before .before .before .before .before .before .before .source .ensures .0) (c .before .before .before .before .before .before .before .before .before .is-utf8 .ensures) (c .before .before .before .before .before .before .before .before .if3 .left) (c .before .before .before .before .before .before .before .good-names .ensures) (c .before .before .before .before .before .before .if4 .left) (c .before .before .before .before .before .good-nodes .ensures) (c .before .before .before .before .if5 .left) (c .before .before .before .too-deep .ensures) (c .before .before .if6 .left) (c .before .nests .ensures) (c .if7 .left)
+returns-8 c = gives-7 _ (c .before .before .before .before .before .before .before .before .before .before .before .before .before .before .before .laid-out .ensures) (c .before .before .before .before .before .before .before .before .before .before .before .before .before .before .if1 .left) (c .before .before .before .before .before .before .before .before .before .before .before .before .before .small .ensures) (c .before .before .before .before .before .before .before .before .before .before .before .before .if2 .left) (c .before .before .before .before .before .before .before .before .before .before .before .of .ensures) (c .before .before .before .before .before .before .before .before .before .before .source .ensures .0) (c .before .before .before .before .before .before .before .before .before .is-utf8 .ensures) (c .before .before .before .before .before .before .before .before .if3 .left) (c .before .before .before .before .before .before .before .good-names .ensures) (c .before .before .before .before .before .before .if4 .left) (c .before .before .before .before .before .good-nodes .ensures) (c .before .before .before .before .if5 .left) (c .before .before .before .nests .ensures) (c .before .before .if6 .left) (c .before .too-deep .ensures) (c .if7 .left)
 
 pub admit-spec : {M : Type 1} → statement M
 admit-spec =
@@ -70,8 +70,8 @@ admit-spec =
     returns-4
     good-nodes-requires
     returns-5
-    too-deep-requires
-    returns-6
     nests-requires
+    returns-6
+    too-deep-requires
     returns-7
     returns-8)

@@ -1,36 +1,40 @@
-use Rattle.breaks.proofs.Written.{broken-split, broken-whole}
+use Rattle.breaks.proofs.Written.{broken-easy}
 use borrow.Author.Needs.{needs}
 use Rattle.breaks.proofs.put_broken.Statement.{statement}
 use Rattle.breaks.proofs.put_broken.Tie as tie
 
-has-break-requires : tie.Need-has-break-requires
-has-break-requires c κs = search needs
+inner-requires : tie.Need-inner-requires
+inner-requires c κs = search needs
 
-put-segments-requires : tie.Need-put-segments-requires
-put-segments-requires c κs = search needs
+is-easy-requires : tie.Need-is-easy-requires
+is-easy-requires c κs = search needs
 
-put-unbroken-requires : tie.Need-put-unbroken-requires
-put-unbroken-requires c κs = search needs
+put-easy-requires : tie.Need-put-easy-requires
+put-easy-requires c κs = search needs
+
+put-hard-requires : tie.Need-put-hard-requires
+put-hard-requires c κs = search needs
 
 same-length : tie.Need-same-length
 same-length c = search needs
 
 returns : tie.Need-returns
-returns c = search broken-split
+returns c = search broken-easy
 
 same-length-2 : tie.Need-same-length-2
 same-length-2 c = search needs
 
 returns-2 : tie.Need-returns-2
-returns-2 c = search broken-whole
+returns-2 c = search needs
 
 pub put-broken-spec : {M : Type 1} → statement M
 put-broken-spec =
     tie.close
     (tie.spec
-    has-break-requires
-    put-segments-requires
-    put-unbroken-requires
+    inner-requires
+    is-easy-requires
+    put-easy-requires
+    put-hard-requires
     same-length
     returns
     same-length-2

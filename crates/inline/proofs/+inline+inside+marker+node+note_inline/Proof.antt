@@ -9,7 +9,7 @@ use Rattle.lists.specs.Span.{nodesIn}
 use Rattle.events.specs.Walk.{nodeIn, inside as insideOf, inlineAll, noteAll}
 use Rattle.events.specs.Emit.{emitAll}
 use Rattle.sink.specs.Desk.{deskIn}
-use Rattle.turns.specs.Turn.{KeptAt}
+use Rattle.turns.specs.Turn.{KeptAt, behindOf}
 use Rattle.inline.proofs.Steps.{marker-whole, marker-leaf, node-chapter, node-verse, node-marker, node-other, inside-zero, inside-inline, inside-note, inline-done, inline-ended, inline-entered, inline-plain, note-done, note-ended, note-entered, note-plain, kept-plain}
 use Rattle.turns.proofs.Laws.{kept-here}
 use borrow.Fn.Kinds.{In}
@@ -31,18 +31,19 @@ use Rattle.inline.proofs.note_inline.Kinds as note-inline-kinds
 use Rattle.inline.proofs.+inline+inside+marker+node+note_inline.Lts-note_inline as note-inline-lts
 use Rattle.milestone.proofs.chapter.Reads as chapter-reads
 use Rattle.milestone.proofs.verse.Reads as verse-reads
-use Rattle.render.proofs.followed.Reads as followed-reads
 use Rattle.render.proofs.trims_after.Reads as trims-after-reads
-use Rattle.tagging.proofs.close_marker.Reads as close-marker-reads
-use Rattle.tagging.proofs.write_leaf.Reads as write-leaf-reads
-use Rattle.tagging.proofs.open_marker.Reads as open-marker-reads
 use Rattle.roles.proofs.is_note.Reads as is-note-reads
 use Rattle.roles.proofs.is_whole.Reads as is-whole-reads
 use Rattle.roles.proofs.role_of.Reads as role-of-reads
+use Rattle.tagging.proofs.close_marker.Reads as close-marker-reads
+use Rattle.tagging.proofs.write_leaf.Reads as write-leaf-reads
+use Rattle.tagging.proofs.open_marker.Reads as open-marker-reads
 use Rattle.tape.proofs.Cursor.first_child.Reads as first-child-reads
 use Rattle.tape.proofs.Cursor.kind.Reads as kind-reads
 use Rattle.tape.proofs.Cursor.next_sibling.Reads as next-sibling-reads
 use Rattle.tape.proofs.Cursor.number.Reads as number-reads
+use Rattle.turns.proofs.ask.Reads as ask-reads
+use Rattle.turns.proofs.follows.Reads as follows-reads
 use Rattle.turns.proofs.note_sort.Reads as note-sort-reads
 use Rattle.turns.proofs.note_turn.Reads as note-turn-reads
 use Rattle.turns.proofs.plain_turn.Reads as plain-turn-reads
@@ -51,7 +52,7 @@ use Rattle.inline.proofs.+inline+inside+marker+node+note_inline.{statem
 use Rattle.inline.proofs.+inline+inside+marker+node+note_inline.Tie.{close}
 
 abbrev μ-inline : Measures 3 inline-kinds.ps ℕ
-μ-inline κs a = 4 * a .1 .1 .1 .1 .1 .0 + 3
+μ-inline κs a = 4 * a .1 .1 .1 .1 .1 .1 .0 + 3
 
 abbrev μ-inside : Measures 3 inside-kinds.ps ℕ
 μ-inside κs a = 4 * a .1 .1 .1 .1 .0 + 0
@@ -96,10 +97,10 @@ abbrev note-inline-below : ℕ → In 3 note-inline-kinds.ps
 note-inline-below t = and 3 note-inline-kinds.ps (falls 3 note-inline-kinds.ps _<_ μ-note-inline t) note-inline.Pre
 
 abbrev inline-calls : ℕ → inline-lts.Claims
-inline-calls t = (sort-in-reads.Asked, sort-in-reads.Learnt, node-below t, node.Post, trims-after-reads.Asked, trims-after-reads.Learnt, next-sibling-reads.Asked, next-sibling-reads.Learnt, plain-turn-reads.Asked, plain-turn-reads.Learnt)
+inline-calls t = (sort-in-reads.Asked, sort-in-reads.Learnt, ask-reads.Asked, ask-reads.Learnt, follows-reads.Asked, follows-reads.Learnt, node-below t, node.Post, trims-after-reads.Asked, trims-after-reads.Learnt, next-sibling-reads.Asked, next-sibling-reads.Learnt, plain-turn-reads.Asked, plain-turn-reads.Learnt)
 
 abbrev inside-calls : ℕ → inside-lts.Claims
-inside-calls t = (followed-reads.Asked, followed-reads.Learnt, first-child-reads.Asked, first-child-reads.Learnt, note-inline-below t, note-inline.Post, inline-below t, inline.Post)
+inside-calls t = (first-child-reads.Asked, first-child-reads.Learnt, note-inline-below t, note-inline.Post, inline-below t, inline.Post)
 
 abbrev marker-calls : ℕ → marker-lts.Claims
 marker-calls t = (role-of-reads.Asked, role-of-reads.Learnt, is-whole-reads.Asked, is-whole-reads.Learnt, open-marker-reads.Asked, open-marker-reads.Learnt, is-note-reads.Asked, is-note-reads.Learnt, inside-below t, inside.Post, close-marker-reads.Asked, close-marker-reads.Learnt, write-leaf-reads.Asked, write-leaf-reads.Learnt)
@@ -108,15 +109,15 @@ abbrev node-calls : ℕ → node-lts.Claims
 node-calls t = (kind-reads.Asked, kind-reads.Learnt, number-reads.Asked, number-reads.Learnt, chapter-reads.Asked, chapter-reads.Learnt, verse-reads.Asked, verse-reads.Learnt, marker-below t, marker.Post)
 
 abbrev note-inline-calls : ℕ → note-inline-lts.Claims
-note-inline-calls t = (note-sort-reads.Asked, note-sort-reads.Learnt, node-below t, node.Post, trims-after-reads.Asked, trims-after-reads.Learnt, next-sibling-reads.Asked, next-sibling-reads.Learnt, note-turn-reads.Asked, note-turn-reads.Learnt)
+note-inline-calls t = (note-sort-reads.Asked, note-sort-reads.Learnt, ask-reads.Asked, ask-reads.Learnt, follows-reads.Asked, follows-reads.Learnt, node-below t, node.Post, trims-after-reads.Asked, trims-after-reads.Learnt, next-sibling-reads.Asked, next-sibling-reads.Learnt, note-turn-reads.Asked, note-turn-reads.Learnt)
 
 -- ---- inline
 
 abbrev inline-Inv-loop : inline-lts.InvT-loop
-inline-Inv-loop file tape solids span depth behind out₀ s₀ step₀ kept₀ trim₀ out s step kept trim = (emitAll (deskIn (tapeIn tape file .source) s out) (inlineAll (nodeIn (insideOf (tapeIn tape file) depth) (tapeIn tape file)) (tapeIn tape file) behind trim (nodesIn (tapeIn tape file) span step)) ≡ emitAll (deskIn (tapeIn tape file .source) s₀ out₀) (inlineAll (nodeIn (insideOf (tapeIn tape file) depth) (tapeIn tape file)) (tapeIn tape file) behind trim₀ (nodesIn (tapeIn tape file) span step₀))) × (KeptAt (tapeIn tape file) step kept × (length out ≡ length out₀))
+inline-Inv-loop file tape solids span parent depth outer out₀ s₀ step₀ kept₀ trim₀ known₀ out s step kept trim known = (emitAll (deskIn (tapeIn tape file .source) s out) (inlineAll (nodeIn (insideOf (tapeIn tape file) depth) (tapeIn tape file)) (tapeIn tape file) (behindOf (tapeIn tape file) parent outer known) trim (nodesIn (tapeIn tape file) span step)) ≡ emitAll (deskIn (tapeIn tape file .source) s₀ out₀) (inlineAll (nodeIn (insideOf (tapeIn tape file) depth) (tapeIn tape file)) (tapeIn tape file) (behindOf (tapeIn tape file) parent outer known₀) trim₀ (nodesIn (tapeIn tape file) span step₀))) × (KeptAt (tapeIn tape file) step kept × (length out ≡ length out₀))
 
 abbrev inline-μ-loop : inline-lts.MeasureT-loop
-inline-μ-loop file tape solids span depth behind out₀ s₀ step₀ kept₀ trim₀ out s step kept trim = left (tapeIn tape file) step
+inline-μ-loop file tape solids span parent depth outer out₀ s₀ step₀ kept₀ trim₀ known₀ out s step kept trim known = left (tapeIn tape file) step
 
 inline-loop-holds : (t : ℕ) → inline-lts.Need-loop-holds (inline-calls t) (inline-at t) inline.Post inline-Inv-loop inline-μ-loop
 inline-loop-holds t c = (refl, (search kept-here, refl))
@@ -148,6 +149,12 @@ inline-returns-2 t c = search inline-ended
 inline-enum-told-3 : (t : ℕ) → inline-lts.Need-enum-told-3 (inline-calls t) (inline-at t) inline.Post inline-Inv-loop inline-μ-loop
 inline-enum-told-3 t c = search needs
 
+inline-ask-requires : (t : ℕ) → inline-lts.Need-ask-requires (inline-calls t) (inline-at t) inline.Post inline-Inv-loop inline-μ-loop
+inline-ask-requires t c κs = search needs
+
+inline-follows-requires : (t : ℕ) → inline-lts.Need-follows-requires (inline-calls t) (inline-at t) inline.Post inline-Inv-loop inline-μ-loop
+inline-follows-requires t c κs = search needs
+
 inline-node-requires : (t : ℕ) → inline-lts.Need-node-requires (inline-calls t) (inline-at t) inline.Post inline-Inv-loop inline-μ-loop
 inline-node-requires t c κs = search needs
 
@@ -161,7 +168,7 @@ inline-loop-less : (t : ℕ) → inline-lts.Need-loop-less (inline-calls t) (inl
 inline-loop-less t c = search left-turn
 
 inline-loop-again : (t : ℕ) → inline-lts.Need-loop-again (inline-calls t) (inline-at t) inline.Post inline-Inv-loop inline-μ-loop
-inline-loop-again t c = (search inline-entered, (search kept-here, search needs))
+inline-loop-again t c = (search (inline-entered _ _ _ _ _ _ _ _ (c .before .before .before .before .before .before .before .before .before .before .before .before .before .before .loop .inv .0)), (search kept-here, search (needs, c .before .before .before .before .before .before .before .before .before .before .before .before .before .before .loop .inv, c .before .before .before .before .before .before .before .before .before .before .before .before .before .before .before .slice-known)))
 
 inline-enum-known-child : (t : ℕ) → inline-lts.Need-enum-known-child (inline-calls t) (inline-at t) inline.Post inline-Inv-loop inline-μ-loop
 inline-enum-known-child t c = search needs
@@ -179,9 +186,6 @@ inline-loop-again-2 t c = (search inline-plain, (search kept-plain, search needs
 
 inside-returns : (t : ℕ) → inside-lts.Need-returns (inside-calls t) (inside-at t) inside.Post
 inside-returns t c = search inside-zero
-
-inside-followed-requires : (t : ℕ) → inside-lts.Need-followed-requires (inside-calls t) (inside-at t) inside.Post
-inside-followed-requires t c κs = search needs
 
 inside-first-child-requires : (t : ℕ) → inside-lts.Need-first-child-requires (inside-calls t) (inside-at t) inside.Post
 inside-first-child-requires t c κs = search needs
@@ -286,10 +290,10 @@ node-returns-4 t c = search node-other
 -- ---- note-inline
 
 abbrev note-inline-Inv-loop : note-inline-lts.InvT-loop
-note-inline-Inv-loop file tape solids parent depth behind out₀ s₀ step₀ kept₀ trim₀ out s step kept trim = (emitAll (deskIn (tapeIn tape file .source) s out) (noteAll (nodeIn (insideOf (tapeIn tape file) depth) (tapeIn tape file)) (tapeIn tape file) (parent .at + 1) behind trim (walkFrom (tapeIn tape file) step)) ≡ emitAll (deskIn (tapeIn tape file .source) s₀ out₀) (noteAll (nodeIn (insideOf (tapeIn tape file) depth) (tapeIn tape file)) (tapeIn tape file) (parent .at + 1) behind trim₀ (walkFrom (tapeIn tape file) step₀))) × (KeptAt (tapeIn tape file) step kept × (length out ≡ length out₀))
+note-inline-Inv-loop file tape solids parent depth outer out₀ s₀ step₀ kept₀ trim₀ known₀ out s step kept trim known = (emitAll (deskIn (tapeIn tape file .source) s out) (noteAll (nodeIn (insideOf (tapeIn tape file) depth) (tapeIn tape file)) (tapeIn tape file) (parent .at + 1) (behindOf (tapeIn tape file) parent outer known) trim (walkFrom (tapeIn tape file) step)) ≡ emitAll (deskIn (tapeIn tape file .source) s₀ out₀) (noteAll (nodeIn (insideOf (tapeIn tape file) depth) (tapeIn tape file)) (tapeIn tape file) (parent .at + 1) (behindOf (tapeIn tape file) parent outer known₀) trim₀ (walkFrom (tapeIn tape file) step₀))) × (KeptAt (tapeIn tape file) step kept × (length out ≡ length out₀))
 
 abbrev note-inline-μ-loop : note-inline-lts.MeasureT-loop
-note-inline-μ-loop file tape solids parent depth behind out₀ s₀ step₀ kept₀ trim₀ out s step kept trim = left (tapeIn tape file) step
+note-inline-μ-loop file tape solids parent depth outer out₀ s₀ step₀ kept₀ trim₀ known₀ out s step kept trim known = left (tapeIn tape file) step
 
 note-inline-loop-holds : (t : ℕ) → note-inline-lts.Need-loop-holds (note-inline-calls t) (note-inline-at t) note-inline.Post note-inline-Inv-loop note-inline-μ-loop
 note-inline-loop-holds t c = (refl, (search kept-here, refl))
@@ -321,6 +325,12 @@ note-inline-returns-2 t c = search note-ended
 note-inline-enum-told-3 : (t : ℕ) → note-inline-lts.Need-enum-told-3 (note-inline-calls t) (note-inline-at t) note-inline.Post note-inline-Inv-loop note-inline-μ-loop
 note-inline-enum-told-3 t c = search needs
 
+note-inline-ask-requires : (t : ℕ) → note-inline-lts.Need-ask-requires (note-inline-calls t) (note-inline-at t) note-inline.Post note-inline-Inv-loop note-inline-μ-loop
+note-inline-ask-requires t c κs = search needs
+
+note-inline-follows-requires : (t : ℕ) → note-inline-lts.Need-follows-requires (note-inline-calls t) (note-inline-at t) note-inline.Post note-inline-Inv-loop note-inline-μ-loop
+note-inline-follows-requires t c κs = search needs
+
 note-inline-node-requires : (t : ℕ) → note-inline-lts.Need-node-requires (note-inline-calls t) (note-inline-at t) note-inline.Post note-inline-Inv-loop note-inline-μ-loop
 note-inline-node-requires t c κs = search needs
 
@@ -334,7 +344,7 @@ note-inline-loop-less : (t : ℕ) → note-inline-lts.Need-loop-less (note-inlin
 note-inline-loop-less t c = search left-turn
 
 note-inline-loop-again : (t : ℕ) → note-inline-lts.Need-loop-again (note-inline-calls t) (note-inline-at t) note-inline.Post note-inline-Inv-loop note-inline-μ-loop
-note-inline-loop-again t c = (search note-entered, (search kept-here, search needs))
+note-inline-loop-again t c = (search (note-entered _ _ _ _ _ _ _ _ (c .before .before .before .before .before .before .before .before .before .before .before .before .before .before .loop .inv .0)), (search kept-here, search (needs, c .before .before .before .before .before .before .before .before .before .before .before .before .before .before .loop .inv, c .before .before .before .before .before .before .before .before .before .before .before .before .before .before .before .slice-known)))
 
 note-inline-enum-known-child : (t : ℕ) → note-inline-lts.Need-enum-known-child (note-inline-calls t) (note-inline-at t) note-inline.Post note-inline-Inv-loop note-inline-μ-loop
 note-inline-enum-known-child t c = search needs
@@ -352,12 +362,12 @@ pub +inline+inside+marker+node+note-inline-spec : {M : Type 1} → statement M
 +inline+inside+marker+node+note-inline-spec =
     close μ-inline μ-inside μ-marker μ-node μ-note-inline
     (λ t. inline-lts.spec (inline-calls t) (inline-at t) inline.Post inline-Inv-loop inline-μ-loop
-    (inline-loop-holds t) (inline-enum-told t) (inline-same-length t) (inline-returns t) (inline-enum-known-step t) (inline-sort-in-requires t) (inline-enum-told-2 t) (inline-same-length-2 t) (inline-returns-2 t) (inline-enum-told-3 t) (inline-node-requires t) (inline-trims-after-requires t) (inline-next-sibling-requires t) (inline-loop-less t) (inline-loop-again t) (inline-enum-known-child t) (inline-plain-turn-requires t) (inline-loop-less-2 t) (inline-loop-again-2 t))
+    (inline-loop-holds t) (inline-enum-told t) (inline-same-length t) (inline-returns t) (inline-enum-known-step t) (inline-sort-in-requires t) (inline-enum-told-2 t) (inline-same-length-2 t) (inline-returns-2 t) (inline-enum-told-3 t) (inline-ask-requires t) (inline-follows-requires t) (inline-node-requires t) (inline-trims-after-requires t) (inline-next-sibling-requires t) (inline-loop-less t) (inline-loop-again t) (inline-enum-known-child t) (inline-plain-turn-requires t) (inline-loop-less-2 t) (inline-loop-again-2 t))
     (λ t. inside-lts.spec (inside-calls t) (inside-at t) inside.Post
-    (inside-returns t) (inside-followed-requires t) (inside-first-child-requires t) (inside-sub-note-inline t) (inside-note-inline-requires t) (inside-sub-inline t) (inside-inline-requires t) (inside-same-length t) (inside-returns-2 t) (inside-same-length-2 t) (inside-returns-3 t))
+    (inside-returns t) (inside-first-child-requires t) (inside-sub-note-inline t) (inside-note-inline-requires t) (inside-sub-inline t) (inside-inline-requires t) (inside-same-length t) (inside-returns-2 t) (inside-same-length-2 t) (inside-returns-3 t))
     (λ t. marker-lts.spec (marker-calls t) (marker-at t) marker.Post
     (marker-role-of-requires t) (marker-is-whole-requires t) (marker-open-marker-requires t) (marker-is-note-requires t) (marker-inside-requires t) (marker-close-marker-requires t) (marker-write-leaf-requires t) (marker-same-length t) (marker-returns t) (marker-same-length-2 t) (marker-returns-2 t))
     (λ t. node-lts.spec (node-calls t) (node-at t) node.Post
     (node-kind-requires t) (node-number-requires t) (node-chapter-requires t) (node-same-length t) (node-returns t) (node-verse-requires t) (node-same-length-2 t) (node-returns-2 t) (node-marker-requires t) (node-same-length-3 t) (node-returns-3 t) (node-returns-4 t))
     (λ t. note-inline-lts.spec (note-inline-calls t) (note-inline-at t) note-inline.Post note-inline-Inv-loop note-inline-μ-loop
-    (note-inline-loop-holds t) (note-inline-enum-told t) (note-inline-same-length t) (note-inline-returns t) (note-inline-enum-known-step t) (note-inline-note-sort-requires t) (note-inline-enum-told-2 t) (note-inline-same-length-2 t) (note-inline-returns-2 t) (note-inline-enum-told-3 t) (note-inline-node-requires t) (note-inline-trims-after-requires t) (note-inline-next-sibling-requires t) (note-inline-loop-less t) (note-inline-loop-again t) (note-inline-enum-known-child t) (note-inline-note-turn-requires t) (note-inline-loop-less-2 t) (note-inline-loop-again-2 t))
+    (note-inline-loop-holds t) (note-inline-enum-told t) (note-inline-same-length t) (note-inline-returns t) (note-inline-enum-known-step t) (note-inline-note-sort-requires t) (note-inline-enum-told-2 t) (note-inline-same-length-2 t) (note-inline-returns-2 t) (note-inline-enum-told-3 t) (note-inline-ask-requires t) (note-inline-follows-requires t) (note-inline-node-requires t) (note-inline-trims-after-requires t) (note-inline-next-sibling-requires t) (note-inline-loop-less t) (note-inline-loop-again t) (note-inline-enum-known-child t) (note-inline-note-turn-requires t) (note-inline-loop-less-2 t) (note-inline-loop-again-2 t))

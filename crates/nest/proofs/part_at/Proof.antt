@@ -3,8 +3,14 @@ use borrow.Author.Needs.{needs}
 use Rattle.nest.proofs.part_at.Statement.{statement}
 use Rattle.nest.proofs.part_at.Tie as tie
 
-node-at-requires : tie.Need-node-at-requires
-node-at-requires c κs = search needs
+new-requires : tie.Need-new-requires
+new-requires c κs = search needs
+
+kind-requires : tie.Need-kind-requires
+kind-requires c κs = search needs
+
+link-requires : tie.Need-link-requires
+link-requires c κs = search needs
 
 returns : tie.Need-returns
 returns c = search node-self
@@ -23,4 +29,13 @@ returns-4 c = search node-leaf
 
 pub part-at-spec : {M : Type 1} → statement M
 part-at-spec =
-    tie.close (tie.spec node-at-requires returns returns-2 is-close-requires returns-3 returns-4)
+    tie.close
+    (tie.spec
+    new-requires
+    kind-requires
+    link-requires
+    returns
+    returns-2
+    is-close-requires
+    returns-3
+    returns-4)

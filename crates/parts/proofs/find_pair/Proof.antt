@@ -1,59 +1,38 @@
-use Prim.Native.Nat.{_+_, _≤_, _-_}
-use mathlib.Core.Path.{_≡_}
-use mathlib.Core.List.{[], _∷_}
 use native.Mathlib.Omega.{arith}
 use borrow.Author.Needs.{needs}
-use lib.ListN.{length, drop}
-use Rattle.parts.specs.Bytes.{find}
-use Rattle.parts.proofs.Laws.{first-turn, first-stop, first-end}
+use Rattle.parts.proofs.Pairs.{pair-on, pair-fits}
 use Rattle.parts.proofs.find_pair.Statement.{statement}
 use Rattle.parts.proofs.find_pair.Tie as tie
 
-abbrev Inv-loop : tie.InvT-loop
-Inv-loop s x i₀ i = (i ≤ length s) × (i + find (x ∷ x ∷ []) (drop i s) ≡ find (x ∷ x ∷ []) s)
+pairless-blocks-requires : tie.Need-pairless-blocks-requires
+pairless-blocks-requires c κs = search needs
 
-abbrev μ-loop : tie.MeasureT-loop
-μ-loop s x i₀ i = length s - i
+sub-pair-each : tie.Need-sub-pair-each
+sub-pair-each c = search needs
 
-loop-holds : tie.Need-loop-holds Inv-loop μ-loop
-loop-holds c = omega arith
+part-pair-each-start : tie.Need-part-pair-each-start
+part-pair-each-start c = search needs
 
-from-requires : tie.Need-from-requires Inv-loop μ-loop
-from-requires c κs = search needs
+part-pair-each-end : tie.Need-part-pair-each-end
+part-pair-each-end c = search needs
 
-slice-aggregate-begins-with : tie.Need-slice-aggregate-begins-with Inv-loop μ-loop
-slice-aggregate-begins-with c = search needs
+pair-each-requires : tie.Need-pair-each-requires
+pair-each-requires c κs = search needs
 
-begins-with-requires : tie.Need-begins-with-requires Inv-loop μ-loop
-begins-with-requires c κs = search needs
+add-result : tie.Need-add-result
+add-result c = omega (arith, pair-fits (c .before .before .pairless-blocks .ensures) (c .pair-each .ensures))
 
-returns : tie.Need-returns Inv-loop μ-loop
-returns c = search first-stop
-
-add-i : tie.Need-add-i Inv-loop μ-loop
-add-i c = omega arith
-
-loop-less : tie.Need-loop-less Inv-loop μ-loop
-loop-less c = omega arith
-
-loop-again : tie.Need-loop-again Inv-loop μ-loop
-loop-again c = (omega arith, search first-turn)
-
-returns-2 : tie.Need-returns-2 Inv-loop μ-loop
-returns-2 c = search first-end
+returns : tie.Need-returns
+returns c = pair-on (c .before .before .pairless-blocks .ensures) (c .pair-each .ensures)
 
 pub find-pair-spec : {M : Type 1} → statement M
 find-pair-spec =
     tie.close
     (tie.spec
-    Inv-loop
-    μ-loop
-    loop-holds
-    from-requires
-    slice-aggregate-begins-with
-    begins-with-requires
-    returns
-    add-i
-    loop-less
-    loop-again
-    returns-2)
+    pairless-blocks-requires
+    sub-pair-each
+    part-pair-each-start
+    part-pair-each-end
+    pair-each-requires
+    add-result
+    returns)

@@ -5,7 +5,7 @@ use native.Mathlib.Omega.{arith}
 use borrow.Author.Needs.{needs}
 use lib.ListN.{length, drop}
 use Rattle.prose.specs.Body.{anyOdd}
-use Rattle.prose.proofs.Blocks.{any-turn, any-end}
+use Rattle.parts.proofs.Pairs.{any-turn, any-end}
 use Rattle.prose.proofs.any_odd.Statement.{statement}
 use Rattle.prose.proofs.any_odd.Tie as tie
 

@@ -1,33 +1,19 @@
-use Rattle.roles.proofs.Roles.{link-some, link-none}
+use Rattle.roles.proofs.Roles.{link-flat}
 use borrow.Author.Needs.{needs}
 use Rattle.roles.proofs.link_of.Statement.{statement}
 use Rattle.roles.proofs.link_of.Tie as tie
 
-can-link-requires : tie.Need-can-link-requires
-can-link-requires c κs = search needs
-
-marker-name-requires : tie.Need-marker-name-requires
-marker-name-requires c κs = search needs
-
-slice-aggregate-first-with : tie.Need-slice-aggregate-first-with
-slice-aggregate-first-with c = search needs
-
-first-with-requires : tie.Need-first-with-requires
-first-with-requires c κs = search needs
+is-nested-requires : tie.Need-is-nested-requires
+is-nested-requires c κs = search needs
 
 returns : tie.Need-returns
-returns c = search link-some
+returns c = search link-flat
+
+link-nested-requires : tie.Need-link-nested-requires
+link-nested-requires c κs = search needs
 
 returns-2 : tie.Need-returns-2
-returns-2 c = search link-none
+returns-2 c = search needs
 
 pub link-of-spec : {M : Type 1} → statement M
-link-of-spec =
-    tie.close
-    (tie.spec
-    can-link-requires
-    marker-name-requires
-    slice-aggregate-first-with
-    first-with-requires
-    returns
-    returns-2)
+link-of-spec = tie.close (tie.spec is-nested-requires returns link-nested-requires returns-2)

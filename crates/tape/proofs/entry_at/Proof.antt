@@ -1,49 +1,23 @@
-use Rattle.tape.proofs.Laws.{entry-in, entry-out}
+use Rattle.tape.proofs.Laws.{entry-in}
 use borrow.Author.Needs.{needs}
 use Rattle.tape.proofs.entry_at.Statement.{statement}
 use Rattle.tape.proofs.entry_at.Tie as tie
+use Rattle.tape.proofs.entry_at.Reads as reads
+use Rattle.tape.proofs.entry_at.Lts as lts
+use Rattle.tape.proofs.Entry.of.Reads as of-reads
+use Rattle.tape.proofs.entry_bytes.Reads as entry-bytes-reads
 
-entries-at-requires : tie.Need-entries-at-requires
-entries-at-requires c κs = search needs
+-- src/lib.rt:219:15
+entry-bytes-requires : tie.Need-entry-bytes-requires
+entry-bytes-requires c κs = search needs
 
-long-requires : tie.Need-long-requires
-long-requires c κs = search needs
-
-mul-place : tie.Need-mul-place
-mul-place c = search needs
-
-add-place : tie.Need-add-place
-add-place c = search needs
-
-from-requires : tie.Need-from-requires
-from-requires c κs = search needs
-
+-- src/lib.rt:219:5
 of-requires : tie.Need-of-requires
 of-requires c κs = search needs
 
-new-requires : tie.Need-new-requires
-new-requires c κs = search needs
-
-new-requires-2 : tie.Need-new-requires-2
-new-requires-2 c κs = search needs
-
+-- src/lib.rt:216:1
 returns : tie.Need-returns
 returns c = search entry-in
 
-returns-2 : tie.Need-returns-2
-returns-2 c = search entry-out
-
 pub entry-at-spec : {M : Type 1} → statement M
-entry-at-spec =
-    tie.close
-    (tie.spec
-    entries-at-requires
-    long-requires
-    mul-place
-    add-place
-    from-requires
-    of-requires
-    new-requires
-    new-requires-2
-    returns
-    returns-2)
+entry-at-spec = tie.close (tie.spec entry-bytes-requires of-requires returns)

@@ -1,37 +1,23 @@
-use Rattle.tape.proofs.Laws.{node-in, node-outside}
+use Rattle.tape.proofs.Laws.{node-in}
 use borrow.Author.Needs.{needs}
 use Rattle.tape.proofs.node_at.Statement.{statement}
 use Rattle.tape.proofs.node_at.Tie as tie
+use Rattle.tape.proofs.node_at.Reads as reads
+use Rattle.tape.proofs.node_at.Lts as lts
+use Rattle.tape.proofs.Node.of.Reads as of-reads
+use Rattle.tape.proofs.bytes_at.Reads as bytes-at-reads
 
-node-place-requires : tie.Need-node-place-requires
-node-place-requires c κs = search needs
+-- src/lib.rt:198:14
+bytes-at-requires : tie.Need-bytes-at-requires
+bytes-at-requires c κs = search needs
 
-from-requires : tie.Need-from-requires
-from-requires c κs = search needs
-
+-- src/lib.rt:198:5
 of-requires : tie.Need-of-requires
 of-requires c κs = search needs
 
-new-requires : tie.Need-new-requires
-new-requires c κs = search needs
-
-new-requires-2 : tie.Need-new-requires-2
-new-requires-2 c κs = search needs
-
+-- src/lib.rt:195:1
 returns : tie.Need-returns
 returns c = search node-in
 
-returns-2 : tie.Need-returns-2
-returns-2 c = search node-outside
-
 pub node-at-spec : {M : Type 1} → statement M
-node-at-spec =
-    tie.close
-    (tie.spec
-    node-place-requires
-    from-requires
-    of-requires
-    new-requires
-    new-requires-2
-    returns
-    returns-2)
+node-at-spec = tie.close (tie.spec bytes-at-requires of-requires returns)

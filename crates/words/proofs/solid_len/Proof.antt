@@ -1,63 +1,27 @@
-use Prim.Native.Nat.{_≤_, _-_}
-use mathlib.Core.Path.{_≡_, refl}
-use native.Mathlib.Omega.{arith}
 use borrow.Author.Needs.{needs}
-use lib.ListN.{length}
-use Rattle.words.specs.Words.{trimEnd}
-use Rattle.words.proofs.Ends.{visible-whole}
-use Rattle.words.proofs.Turns.{solidEnd, front-fits, front-less, solid-turn, white-turn, solid-start, solid-end}
+use Rattle.words.proofs.Bytes.{solid-by}
 use Rattle.words.proofs.solid_len.Statement.{statement}
 use Rattle.words.proofs.solid_len.Tie as tie
 
-abbrev Inv-loop : tie.InvT-loop
-Inv-loop s set at₀ end₀ at end = (at ≤ length s) × (solidEnd set s at end ≡ length (trimEnd set s))
+enum-told : tie.Need-enum-told
+enum-told c = search needs
 
-abbrev μ-loop : tie.MeasureT-loop
-μ-loop s set at₀ end₀ at end = length s - at
+solid-bytes-requires : tie.Need-solid-bytes-requires
+solid-bytes-requires c κs = search needs
 
-ends-visible-requires : tie.Need-ends-visible-requires Inv-loop μ-loop
-ends-visible-requires c κs = search needs
+enum-told-2 : tie.Need-enum-told-2
+enum-told-2 c = search needs
 
-returns : tie.Need-returns Inv-loop μ-loop
-returns c = search visible-whole
+solid-chars-requires : tie.Need-solid-chars-requires
+solid-chars-requires c κs = search needs
 
-loop-holds : tie.Need-loop-holds Inv-loop μ-loop
-loop-holds c = (omega arith, search solid-start)
+returns : tie.Need-returns
+returns c = search solid-by
 
-front-at-requires : tie.Need-front-at-requires Inv-loop μ-loop
-front-at-requires c κs = search needs
-
-add-next : tie.Need-add-next Inv-loop μ-loop
-add-next c = omega (arith, front-fits _ _ _ refl (c .before .front-at .ensures) (c .before .before .loop-test .taken))
-
-loop-less : tie.Need-loop-less Inv-loop μ-loop
-loop-less c = search front-less
-
-loop-again : tie.Need-loop-again Inv-loop μ-loop
-loop-again c = (search front-fits, search solid-turn)
-
-loop-less-2 : tie.Need-loop-less-2 Inv-loop μ-loop
-loop-less-2 c = search front-less
-
-loop-again-2 : tie.Need-loop-again-2 Inv-loop μ-loop
-loop-again-2 c = (search front-fits, search white-turn)
-
-returns-2 : tie.Need-returns-2 Inv-loop μ-loop
-returns-2 c = search solid-end
+returns-2 : tie.Need-returns-2
+returns-2 c = search solid-by
 
 pub solid-len-spec : {M : Type 1} → statement M
 solid-len-spec =
     tie.close
-    (tie.spec
-    Inv-loop
-    μ-loop
-    ends-visible-requires
-    returns
-    loop-holds
-    front-at-requires
-    add-next
-    loop-less
-    loop-again
-    loop-less-2
-    loop-again-2
-    returns-2)
+    (tie.spec enum-told solid-bytes-requires enum-told-2 solid-chars-requires returns returns-2)

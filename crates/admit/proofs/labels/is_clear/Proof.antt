@@ -3,11 +3,11 @@ use borrow.Author.Needs.{needs}
 use Rattle.admit.proofs.labels.is_clear.Statement.{statement}
 use Rattle.admit.proofs.labels.is_clear.Tie as tie
 
-node-at-requires : tie.Need-node-at-requires
-node-at-requires c κs = search needs
-
 new-requires : tie.Need-new-requires
 new-requires c κs = search needs
+
+kind-requires : tie.Need-kind-requires
+kind-requires c κs = search needs
 
 base-len-requires : tie.Need-base-len-requires
 base-len-requires c κs = search needs
@@ -31,8 +31,8 @@ pub is-clear-spec : {M : Type 1} → statement M
 is-clear-spec =
     tie.close
     (tie.spec
-    node-at-requires
     new-requires
+    kind-requires
     base-len-requires
     text-requires
     bare-requires

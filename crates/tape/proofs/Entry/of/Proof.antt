@@ -1,70 +1,77 @@
-use Rattle.tape.proofs.Laws.{entry-read, entry-made}
+use Rattle.tape.proofs.Laws.{entry-read, entry-short}
 use borrow.Author.Needs.{needs}
 use Rattle.tape.proofs.Entry.of.Statement.{statement}
 use Rattle.tape.proofs.Entry.of.Tie as tie
+use Rattle.tape.proofs.Entry.of.Reads as reads
+use Rattle.tape.proofs.Entry.of.Lts as lts
+use Rattle.tape.proofs.kinds.Category.new.Reads as kinds-Category-new-reads
+use Rattle.tape.proofs.kinds.Element.new.Reads as kinds-Element-new-reads
+use Rattle.tape.proofs.number.pair.Reads as pair-reads
+use Rattle.tape.proofs.number.quad.Reads as quad-reads
 
+-- src/lib.rt:158:37
 shared-slice-read-quad : tie.Need-shared-slice-read-quad
 shared-slice-read-quad c = search needs
 
+-- src/lib.rt:158:43
 shared-slice-read-quad-2 : tie.Need-shared-slice-read-quad-2
 shared-slice-read-quad-2 c = search needs
 
+-- src/lib.rt:158:49
 shared-slice-read-quad-3 : tie.Need-shared-slice-read-quad-3
 shared-slice-read-quad-3 c = search needs
 
+-- src/lib.rt:158:55
 shared-slice-read-quad-4 : tie.Need-shared-slice-read-quad-4
 shared-slice-read-quad-4 c = search needs
 
+-- src/lib.rt:158:24
 quad-requires : tie.Need-quad-requires
 quad-requires c κs = search needs
 
+-- src/lib.rt:159:35
 shared-slice-read-pair : tie.Need-shared-slice-read-pair
 shared-slice-read-pair c = search needs
 
+-- src/lib.rt:159:41
 shared-slice-read-pair-2 : tie.Need-shared-slice-read-pair-2
 shared-slice-read-pair-2 c = search needs
 
+-- src/lib.rt:159:22
 pair-requires : tie.Need-pair-requires
 pair-requires c κs = search needs
 
+-- src/lib.rt:160:41
 shared-slice-read-new : tie.Need-shared-slice-read-new
 shared-slice-read-new c = search needs
 
+-- src/lib.rt:160:27
 new-requires : tie.Need-new-requires
 new-requires c κs = search needs
 
+-- src/lib.rt:161:39
 shared-slice-read-new-2 : tie.Need-shared-slice-read-new-2
 shared-slice-read-new-2 c = search needs
 
+-- src/lib.rt:161:26
 new-requires-2 : tie.Need-new-requires-2
 new-requires-2 c κs = search needs
 
+-- src/lib.rt:157:13
 returns : tie.Need-returns
 returns c = search entry-read
 
-le32-requires : tie.Need-le32-requires
-le32-requires c κs = search needs
-
-from-requires : tie.Need-from-requires
-from-requires c κs = search needs
-
-le16-requires : tie.Need-le16-requires
-le16-requires c κs = search needs
-
-byte-at-requires : tie.Need-byte-at-requires
-byte-at-requires c κs = search needs
-
+-- src/lib.rt:167:23
 new-requires-3 : tie.Need-new-requires-3
 new-requires-3 c κs = search needs
 
-byte-at-requires-2 : tie.Need-byte-at-requires-2
-byte-at-requires-2 c κs = search needs
-
+-- src/lib.rt:168:22
 new-requires-4 : tie.Need-new-requires-4
 new-requires-4 c κs = search needs
 
+-- src/lib.rt:153:5
 returns-2 : tie.Need-returns-2
-returns-2 c = search entry-made
+returns-2 c = search entry-short
 
 pub of-spec : {M : Type 1} → statement M
 of-spec =
@@ -83,11 +90,6 @@ of-spec =
     shared-slice-read-new-2
     new-requires-2
     returns
-    le32-requires
-    from-requires
-    le16-requires
-    byte-at-requires
     new-requires-3
-    byte-at-requires-2
     new-requires-4
     returns-2)

@@ -1,0 +1,12 @@
+use mathlib.Core.Path.{refl}
+use Rattle.chars.specs.Escape.{special}
+use Rattle.barred.specs.Barred.{inValue}
+use Rattle.barred.proofs.in_value.Statement.{statement}
+use Rattle.barred.proofs.in_value.Tie as tie
+
+returns : tie.Need-returns
+unfolding inValue special
+returns c = refl
+
+pub in-value-spec : {M : Type 1} → statement M
+in-value-spec = tie.close (tie.spec returns)

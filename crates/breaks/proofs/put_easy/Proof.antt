@@ -1,0 +1,27 @@
+use Rattle.breaks.proofs.Written.{easy-shows, unbroken-hidden}
+use borrow.Author.Needs.{needs}
+use Rattle.breaks.proofs.put_easy.Statement.{statement}
+use Rattle.breaks.proofs.put_easy.Tie as tie
+
+window-requires : tie.Need-window-requires
+window-requires c κs = search needs
+
+put-easy-requires : tie.Need-put-easy-requires
+put-easy-requires c κs = search needs
+
+over-requires : tie.Need-over-requires
+over-requires c κs = search needs
+
+same-length : tie.Need-same-length
+same-length c = search needs
+
+returns : tie.Need-returns
+returns c = search easy-shows
+
+returns-2 : tie.Need-returns-2
+returns-2 c = search unbroken-hidden
+
+pub put-easy-spec : {M : Type 1} → statement M
+put-easy-spec =
+    tie.close
+    (tie.spec window-requires put-easy-requires over-requires same-length returns returns-2)
