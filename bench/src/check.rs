@@ -1,4 +1,4 @@
-//! `check` against libxml2 and expat, which only ask whether a text is well-formed XML, and against the oracle's own checker.
+//! `check` against libxml2, expat and quick-xml, which only ask whether a text is well-formed XML, and against the oracle's own checker.
 
 use crate::api;
 use crate::measure::{row, Row};
@@ -65,9 +65,47 @@ mod expat {
     }
 }
 
-/// Those that build.rs found.
+#[cfg(feature = "quick_xml")]
+mod quick_xml {
+    use quick_xml::events::{BytesStart, Event};
+    use quick_xml::Reader;
+
+    /// Whether every event is read and passes; quick-xml compares the names of ends with those of their starts unless told not to.
+    fn all(text: &[u8], passes: impl Fn(&Event) -> bool) -> bool {
+        let Ok(text) = std::str::from_utf8(text) else { return false };
+        let mut reader = Reader::from_str(text);
+        loop {
+            match reader.read_event() {
+                Ok(Event::Eof) => return true,
+                Ok(event) if passes(&event) => (),
+                _ => return false,
+            }
+        }
+    }
+
+    /// Whether its keys differ and its values are quoted, with known escapes.
+    fn attributes(tag: &BytesStart) -> bool {
+        tag.attributes().all(|attribute| attribute.is_ok_and(|a| a.unescape_value().is_ok()))
+    }
+
+    /// Tags and texts are told apart; what stands in them is not looked at.
+    pub fn events(text: &[u8]) -> bool {
+        all(text, |_| true)
+    }
+
+    /// Keys, values and escapes are read too.
+    pub fn contents(text: &[u8]) -> bool {
+        all(text, |event| match event {
+            Event::Start(tag) | Event::Empty(tag) => attributes(tag),
+            Event::Text(text) => text.unescape().is_ok(),
+            _ => true,
+        })
+    }
+}
+
+/// Those that are installed.
 fn readers() -> Vec<Reader> {
-    // Nothing is added where neither library is installed.
+    // Nothing is added where none is.
     #[allow(unused_mut)]
     let mut all: Vec<Reader> = Vec::new();
     #[cfg(libxml2)]
@@ -78,6 +116,10 @@ fn readers() -> Vec<Reader> {
     all.push(("expat", expat::read));
     #[cfg(not(expat))]
     println!("expat is not here: install libexpat1-dev and pkg-config to compare with it");
+    #[cfg(feature = "quick_xml")]
+    all.extend([("quick-xml, events", quick_xml::events as fn(&[u8]) -> bool), ("quick-xml, contents", quick_xml::contents)]);
+    #[cfg(not(feature = "quick_xml"))]
+    println!("quick-xml is not here: install librust-quick-xml-dev to compare with it");
     all
 }
 

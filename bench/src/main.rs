@@ -14,6 +14,18 @@ mod serialize;
 mod utf8;
 mod write;
 
+// The text of a tape as a caller in Rust gets it: sources of the crate rust/andelura, whose own build script links for x86-64 alone.
+#[allow(dead_code)]
+#[path = "../../rust/andelura/src/text.rs"]
+mod andelura;
+#[allow(dead_code)]
+#[path = "../../rust/andelura/src/ffi.rs"]
+mod ffi;
+#[allow(dead_code)]
+#[path = "../../rust/andelura/src/refusal.rs"]
+mod refusal;
+use refusal::Refusal;
+
 fn main() {
     let (tapes, texts): (Vec<String>, Vec<String>) = std::env::args().skip(1).partition(|name| name.ends_with(".tape"));
     serialize::print(&tapes);

@@ -1,7 +1,7 @@
 //! `serialize` against the Rust's `to_usx`: books as they double, books of the caller's, and the families that the Rust is slow on.
 
-use crate::api;
 use crate::measure::best;
+use crate::{andelura, api};
 use oracle::loader;
 use oracle::tapes::{attribute, container, single, tape, text, Item, BLOCK_END, CHAPTER, CLOSE, ERROR, TEXT, UNKNOWN, VERSE};
 
@@ -108,8 +108,8 @@ fn sink<T>(result: T) {
     std::hint::black_box(result);
 }
 
-/// Times of our whole call, of its admission and measuring, of admission alone, of the whole text as one window, of the Rust's text and of its loading.
-fn times(name: &str, file: &[u8], runs: usize) -> (usize, [f64; 6]) {
+/// Times of our whole call, of its admission and measuring, of admission alone, of the whole text as one window, of all that a caller in Rust asks for, of the Rust's text and of its loading.
+fn times(name: &str, file: &[u8], runs: usize) -> (usize, [f64; 7]) {
     let document = loader::load(file).unwrap_or_else(|r| panic!("{name}: refused by {}", r.0));
     let written = document.to_usx();
     let mut out = vec![0; written.len()];
@@ -118,6 +118,7 @@ fn times(name: &str, file: &[u8], runs: usize) -> (usize, [f64; 6]) {
     let mut shown = vec![0; written.len()];
     assert_eq!(api::window(file, 0, &mut shown), (0, [written.len() as u64; 2]), "{name}");
     assert!(shown == out, "{name}");
+    assert!(andelura::serialize(file).is_ok_and(|text| text == out), "{name}");
     let taken = best(
         runs,
         [
@@ -125,6 +126,7 @@ fn times(name: &str, file: &[u8], runs: usize) -> (usize, [f64; 6]) {
             &mut || sink(api::serialize(file, &mut [])),
             &mut || sink(api::admit(file)),
             &mut || sink(api::window(file, 0, &mut shown)),
+            &mut || sink(andelura::serialize(file)),
             &mut || sink(document.to_usx()),
             &mut || sink(loader::load(file).is_ok()),
         ],
@@ -134,22 +136,14 @@ fn times(name: &str, file: &[u8], runs: usize) -> (usize, [f64; 6]) {
 
 /// One row: what a byte of the text takes, and what ours takes of the Rust's.
 fn row(name: &str, file: &[u8], runs: usize) {
-    let (bytes, [whole, measured, admitted, shown, rust, loaded]) = times(name, file, runs);
+    let (bytes, [whole, measured, admitted, shown, job, rust, loaded]) = times(name, file, runs);
     let nodes = u32::from_le_bytes(file[4..8].try_into().expect("four bytes"));
     let per = |t: f64| t * 1e9 / bytes as f64;
-    let ours = [admitted, measured - admitted, whole - measured].map(per);
-    println!(
-        "{name:<34} {nodes:>7} {bytes:>9} {:>9.2} = {:>5.2} + {:>5.2} + {:>5.2} {:>10.2} {:>6.2} {:>9.2} {:>9.2} {:>9.2}",
-        per(whole),
-        ours[0],
-        ours[1],
-        ours[2],
-        per(rust),
-        per(loaded),
-        whole / rust,
-        whole / (rust + loaded),
-        shown / rust
-    );
+    let [a, m, w] = [admitted, measured - admitted, whole - measured].map(per);
+    let ours = format!("{:.2} = {a:.2} + {m:.2} + {w:.2}", per(whole));
+    let [job, exact, window] = [job, whole, shown].map(|t| t / rust);
+    let both = whole / (rust + loaded);
+    println!("{name:<28} {nodes:>6} {bytes:>8} {ours:>28} {:>7.2} {:>6.2} {job:>7.2} {exact:>7.2} {window:>7.2} {both:>7.2}", per(rust), per(loaded));
 }
 
 /// Ours alone, where the Rust takes time with the square of the tape.
@@ -167,15 +161,21 @@ fn slow(name: &str, file: &[u8]) {
     println!("{name:<34} the Rust {:>8.2} ms", rust * 1e3);
 }
 
+/// A file's name with its folder's.
+fn short(name: &str) -> &str {
+    name.rmatch_indices('/').nth(1).map_or(name, |(at, _)| &name[at + 1..])
+}
+
 pub fn print(tapes: &[String]) {
-    println!("serialize, ns for a byte of the text: admission + measuring + writing; the Rust's to_usx and its loading; one window of the whole text");
-    println!("{:<34} {:>7} {:>9} {:>33} {:>10} {:>6} {:>9} {:>9} {:>9}", "", "nodes", "bytes", "ours", "to_usx", "load", "/to_usx", "/both", "window");
+    println!("serialize, ns for a byte of the text: ours into an exact buffer = admission + measuring + writing; the Rust's to_usx; its loader. Then ours / to_usx:");
+    println!("job, all that rust/andelura's serialize does (admission, memory, one walk); exact, into an exact buffer; window, one of the whole text. Last exact / (to_usx + loader)");
+    println!("{:<28} {:>6} {:>8} {:>28} {:>7} {:>6} {:>7} {:>7} {:>7} {:>7}", "", "nodes", "bytes", "ours", "to_usx", "loader", "job", "exact", "window", "/both");
     for nodes in [10_000, 20_000, 40_000, 80_000, 160_000, 180_000] {
-        row("book", &book(nodes), 15);
+        row("generated", &book(nodes), 15);
     }
     for name in tapes {
         let file = std::fs::read(name).unwrap_or_else(|e| panic!("{name}: {e}"));
-        row(name.rsplit('/').next().unwrap_or(name), &file, 15);
+        row(short(name), &file, 15);
     }
     slow("a word, 200 blanks of one 8 KB span", &shared_run(200, 8_000));
     for count in [1_000, 2_000, 4_000] {
