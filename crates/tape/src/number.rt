@@ -39,7 +39,7 @@ pub fn quad(a: u8, e: u8, i: u8, o: u8) -> u32
     wider(pair(a, e)) + 65536 * wider(pair(i, o))
 }
 
-// The number of the first four bytes, where there are so many.
+// The number of the first four bytes; what is missing counts 0.
 pub fn le32(s: &[u8]) -> u32
     ensures { λ r. ⌜ r ≡ le32Of (now (s .entry)) ⌝ }
 {
