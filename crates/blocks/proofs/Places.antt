@@ -29,9 +29,8 @@ use Rattle.events.specs.Walk.{styled, Place, aRow, aChapter, aSidebar, aPeriph,
 use Rattle.events.specs.Emit.{Desk, emit, emitAll}
 use Rattle.events.proofs.Emits.{between, then, besides-on}
 use Rattle.events.proofs.Turns.{blocks-turn}
-use Rattle.sink.specs.Desk.{deskIn, putOn}
-use Rattle.sink.specs.declared.Sink.{Sink}
-use Rattle.sink.proofs.Chains.{item-on}
+use Rattle.desk.specs.Desk.{deskOf, putOn}
+use Rattle.desk.proofs.Chains.{item-on}
 use Rattle.turns.specs.Turn.{behindOf}
 use Rattle.turns.specs.declared.Behind.the-variants.{Ends}
 use Rattle.tables.specs.Rows.{isNoRow}
@@ -127,16 +126,16 @@ module _ (t : Tape) (k : ℕ) where
 -- ---- a chapter
 
 pub chapter-turn : (t : Tape) (span : Span) (k d level : ℕ) {z : Kind} {n : Step} (f : Folds) {m : ℕ} → z .code ≡ 6 → n ≡ nextSibling t k
-    → foldedIn t span f ≡ foldAt t (z .code) (nodesIn t span n) → (sink a : Sink) (out mid : Bytes) {r : Desk}
-    → ((source : Bytes) → deskIn source a mid ≡ emit (deskIn source sink out) (item (line level))) → m ≡ numberAt t k
-    → r ≡ emit (deskIn (t .source) a mid) (chapter m (foldedNumber t (f .alt)) (foldedNumber t (f .published)))
+    → foldedIn t span f ≡ foldAt t (z .code) (nodesIn t span n) → (at a : ℕ) (desk da : List ℕ) (out mid : Bytes) {r : Desk}
+    → ((source : Bytes) → deskOf source a da mid ≡ emit (deskOf source at desk out) (item (line level))) → m ≡ numberAt t k
+    → r ≡ emit (deskOf (t .source) a da mid) (chapter m (foldedNumber t (f .alt)) (foldedNumber t (f .published)))
     → (B : List ℕ → List Event)
-    → emitAll r (blocksAll B t d level (nodesIn t span (f .rest))) ≡ emitAll (deskIn (t .source) sink out) (blocksOn B t d level k (nodesIn t span (nextSibling t k)) aChapter)
+    → emitAll r (blocksAll B t d level (nodesIn t span (f .rest))) ≡ emitAll (deskOf (t .source) at desk out) (blocksOn B t d level k (nodesIn t span (nextSibling t k)) aChapter)
 unfolding blocksOn blockTurn foldedIn emitAll
-chapter-turn t span k d level {z} {n} f {m} ez en ef sink a out mid {r} ea em er B =
+chapter-turn t span k d level {z} {n} f {m} ez en ef at a desk da out mid {r} ea em er B =
     let g : Folded = foldAt t 6 (nodesIn t span (nextSibling t k)) in
     let same : foldedIn t span f ≡ g = ef ∙ rw (ez, en) in
-    let s : Desk = deskIn (t .source) sink out in
+    let s : Desk = deskOf (t .source) at desk out in
     ap (λ (u : Desk). emitAll u (blocksAll B t d level (nodesIn t span (f .rest))))
     (er ∙ ap (λ (u : Desk). emit u (chapter m (foldedNumber t (f .alt)) (foldedNumber t (f .published)))) (ea (t .source)))
     ∙ ap (λ (i : ℕ). emitAll (emit (emit s (item (line level))) (chapter i (foldedNumber t (f .alt)) (foldedNumber t (f .published)))) (blocksAll B t d level (nodesIn t span (f .rest)))) em
@@ -150,17 +149,17 @@ left-next t c en = left-turn t c refl en
 
 -- ---- a block
 
-pub block-step : (t : Tape) (span : Span) (k d level : ℕ) {e : ℕ} {n : Step} → (sink a : Sink) (out mid : Bytes) {r : Desk}
-    → ((source : Bytes) → deskIn source a mid ≡ emit (deskIn source sink out) (item (line level)))
-    → e ≡ d → r ≡ emitAll (deskIn (t .source) a mid) (nodeIn (inside t e) t k false) → n ≡ nextSibling t k
-    → (B : List ℕ → List Event) → emitAll r (blocksAll B t d level (nodesIn t span n)) ≡ emitAll (deskIn (t .source) sink out) (blocksOn B t d level k (nodesIn t span (nextSibling t k)) aBlock)
+pub block-step : (t : Tape) (span : Span) (k d level : ℕ) {e : ℕ} {n : Step} → (at a : ℕ) (desk da : List ℕ) (out mid : Bytes) {r : Desk}
+    → ((source : Bytes) → deskOf source a da mid ≡ emit (deskOf source at desk out) (item (line level)))
+    → e ≡ d → r ≡ emitAll (deskOf (t .source) a da mid) (nodeIn (inside t e) t k false) → n ≡ nextSibling t k
+    → (B : List ℕ → List Event) → emitAll r (blocksAll B t d level (nodesIn t span n)) ≡ emitAll (deskOf (t .source) at desk out) (blocksOn B t d level k (nodesIn t span (nextSibling t k)) aBlock)
 unfolding blocksOn blockTurn emitAll
-block-step t span k d level {n = n} sink a out mid {r} ea ed er en B =
+block-step t span k d level {n = n} at a desk da out mid {r} ea ed er en B =
     ap (λ (u : Step). emitAll r (blocksAll B t d level (nodesIn t span u))) en
-    ∙ then (deskIn (t .source) a mid) (nodeIn (inside t d) t k false) (blocksAll B t d level (nodesIn t span (nextSibling t k)))
-    (er ∙ ap (λ (j : ℕ). emitAll (deskIn (t .source) a mid) (nodeIn (inside t j) t k false)) ed)
+    ∙ then (deskOf (t .source) a da mid) (nodeIn (inside t d) t k false) (blocksAll B t d level (nodesIn t span (nextSibling t k)))
+    (er ∙ ap (λ (j : ℕ). emitAll (deskOf (t .source) a da mid) (nodeIn (inside t j) t k false)) ed)
     ∙ ap (λ (u : Desk). emitAll u (nodeIn (inside t d) t k false ++ blocksAll B t d level (nodesIn t span (nextSibling t k)))) (ea (t .source))
-    ∙ besides-on (deskIn (t .source) sink out) (isFigure t (infoAt t k)) (item (line level) ∷ nodeIn (inside t d) t k false) (blocksAll B t d level (nodesIn t span (nextSibling t k)))
+    ∙ besides-on (deskOf (t .source) at desk out) (isFigure t (infoAt t k)) (item (line level) ∷ nodeIn (inside t d) t k false) (blocksAll B t d level (nodesIn t span (nextSibling t k)))
 
 -- ---- a verse
 
@@ -179,28 +178,28 @@ para-closes : bytesOf (close 5) ≡ b "</para>"
 unfolding bytesOf nameOf
 para-closes = refl
 
-pub run-opened : (l : ℕ) (sink a r : Sink) (out mid last : Bytes)
-    → ((source : Bytes) → deskIn source a mid ≡ emit (deskIn source sink out) (item (line l)))
-    → ((source : Bytes) → deskIn source r last ≡ putOn (deskIn source a mid) (b "<para style=\"p\">"))
-    → (source : Bytes) → deskIn source r last ≡ emitAll (deskIn source sink out) (runOpens l)
+pub run-opened : (l : ℕ) (at a r : ℕ) (desk da dr : List ℕ) (out mid last : Bytes)
+    → ((source : Bytes) → deskOf source a da mid ≡ emit (deskOf source at desk out) (item (line l)))
+    → ((source : Bytes) → deskOf source r dr last ≡ putOn (deskOf source a da mid) (b "<para style=\"p\">"))
+    → (source : Bytes) → deskOf source r dr last ≡ emitAll (deskOf source at desk out) (runOpens l)
 unfolding runOpens emitAll
-run-opened l sink a r out mid last ea er source =
-    er source ∙ ap (putOn (deskIn source a mid)) (sym para-opens) ∙ item-on (deskIn source a mid) (start 5 (styled (b "p")))
+run-opened l at a r desk da dr out mid last ea er source =
+    er source ∙ ap (putOn (deskOf source a da mid)) (sym para-opens) ∙ item-on (deskOf source a da mid) (start 5 (styled (b "p")))
     ∙ ap (λ (u : Desk). emit u (item (start 5 (styled (b "p"))))) (ea source)
 
-pub run-whole : (t : Tape) (sifted : Bool) (c : Cursor) (d level : ℕ) {j : ℕ} (sink a e r : Sink) (out mid now last : Bytes)
-    → ((source : Bytes) → deskIn source a mid ≡ emitAll (deskIn source sink out) (runOpens level)) → j ≡ d
-    → deskIn (t .source) e now ≡ emitAll (deskIn (t .source) a mid) (inlineAll (nodeIn (inside t j) t) t (behindOf t c false Ends) true (nodesIn t (record { cut = true; sifted = sifted }) (At c)))
-    → ((source : Bytes) → deskIn source r last ≡ putOn (deskIn source e now) (b "</para>"))
+pub run-whole : (t : Tape) (sifted : Bool) (c : Cursor) (d level : ℕ) {j : ℕ} (at a e r : ℕ) (desk da de dr : List ℕ) (out mid now last : Bytes)
+    → ((source : Bytes) → deskOf source a da mid ≡ emitAll (deskOf source at desk out) (runOpens level)) → j ≡ d
+    → deskOf (t .source) e de now ≡ emitAll (deskOf (t .source) a da mid) (inlineAll (nodeIn (inside t j) t) t (behindOf t c false Ends) true (nodesIn t (record { cut = true; sifted = sifted }) (At c)))
+    → ((source : Bytes) → deskOf source r dr last ≡ putOn (deskOf source e de now) (b "</para>"))
     → memberOf t (uncut sifted) (c .at) ≡ Listed → isTopLevelBlock t (c .at) ≡ false
-    → deskIn (t .source) r last ≡ emitAll (deskIn (t .source) sink out) (runIn t d level (c .at) (nodesIn t (uncut sifted) (nextSibling t (c .at))))
+    → deskOf (t .source) r dr last ≡ emitAll (deskOf (t .source) at desk out) (runIn t d level (c .at) (nodesIn t (uncut sifted) (nextSibling t (c .at))))
 unfolding runOpens runIn element emitAll behindOf
-run-whole t sifted c d level sink a e r out mid now last ea ed ee er hm hb =
-    between (deskIn (t .source) sink out) (runOpens level) (inlineAll (nodeIn (inside t d) t) t false true (c .at ∷ upTo (isTopLevelBlock t) (nodesIn t (uncut sifted) (nextSibling t (c .at))))) (item (close 5) ∷ [])
+run-whole t sifted c d level at a e r desk da de dr out mid now last ea ed ee er hm hb =
+    between (deskOf (t .source) at desk out) (runOpens level) (inlineAll (nodeIn (inside t d) t) t false true (c .at ∷ upTo (isTopLevelBlock t) (nodesIn t (uncut sifted) (nextSibling t (c .at))))) (item (close 5) ∷ [])
     (ea (t .source))
-    (ee ∙ ap (λ (i : ℕ). emitAll (deskIn (t .source) a mid) (inlineAll (nodeIn (inside t i) t) t false true (nodesIn t (record { cut = true; sifted = sifted }) (At c)))) ed
-    ∙ ap (λ (is : List ℕ). emitAll (deskIn (t .source) a mid) (inlineAll (nodeIn (inside t d) t) t false true is)) (run-nodes t sifted c hm hb))
-    (er (t .source) ∙ ap (putOn (deskIn (t .source) e now)) (sym para-closes) ∙ item-on (deskIn (t .source) e now) (close 5))
+    (ee ∙ ap (λ (i : ℕ). emitAll (deskOf (t .source) a da mid) (inlineAll (nodeIn (inside t i) t) t false true (nodesIn t (record { cut = true; sifted = sifted }) (At c)))) ed
+    ∙ ap (λ (is : List ℕ). emitAll (deskOf (t .source) a da mid) (inlineAll (nodeIn (inside t d) t) t false true is)) (run-nodes t sifted c hm hb))
+    (er (t .source) ∙ ap (putOn (deskOf (t .source) e de now)) (sym para-closes) ∙ item-on (deskOf (t .source) e de now) (close 5))
 
 pub verse-turn : (t : Tape) (sifted : Bool) (c : Cursor) (d level : ℕ) (s r : Desk)
     → (memberOf t (uncut sifted) (c .at) ≡ Listed → isTopLevelBlock t (c .at) ≡ false → r ≡ emitAll s (runIn t d level (c .at) (nodesIn t (uncut sifted) (nextSibling t (c .at)))))

@@ -22,8 +22,7 @@ use Rattle.events.specs.Walk.{holder, sidebarIn, periphIn, blocksE, aSidebar, a
 use Rattle.events.specs.Emit.{Desk, emit, emitAll}
 use Rattle.events.proofs.Turns.{blocks-none}
 use Rattle.events.proofs.Emits.{between, then}
-use Rattle.sink.specs.Desk.{deskIn}
-use Rattle.sink.specs.declared.Sink.{Sink}
+use Rattle.desk.specs.Desk.{deskOf}
 use Rattle.tables.specs.Rows.{depthAt}
 use Rattle.holders.specs.Holders.{isBlockOrRow, sidebarAttrs, periphAttrs, attrsOf, elementNo}
 use Rattle.blocks.specs.Blocks.{uncut, holderOf, below, holderIn}
@@ -52,14 +51,14 @@ module _ (t : Tape) (ks : List ℕ) (s : Desk) (level : ℕ) {d : ℕ} (ed : d �
 -- ---- a sidebar or periph
 
 -- its blocks between its tags
-pub held-whole : (t : Tape) (k d level : ℕ) (sidebar : Bool) (s : Desk) {a : Desk} {first : Step} (e r : Sink) (mid last : Bytes)
+pub held-whole : (t : Tape) (k d level : ℕ) (sidebar : Bool) (s : Desk) {a : Desk} {first : Step} (e r : ℕ) (de dr : List ℕ) (mid last : Bytes)
     → a ≡ emit s (item (start (elementNo sidebar) (attrsOf t k sidebar))) → first ≡ firstChild t k
-    → deskIn (t .source) e mid ≡ emitAll a (below t d level (nodesIn t (uncut sidebar) first))
-    → ((source : Bytes) → deskIn source r last ≡ emitAll (deskIn source e mid) (item (line level) ∷ item (close (elementNo sidebar)) ∷ []))
-    → deskIn (t .source) r last
+    → deskOf (t .source) e de mid ≡ emitAll a (below t d level (nodesIn t (uncut sidebar) first))
+    → ((source : Bytes) → deskOf source r dr last ≡ emitAll (deskOf source e de mid) (item (line level) ∷ item (close (elementNo sidebar)) ∷ []))
+    → deskOf (t .source) r dr last
     ≡ emitAll s (item (start (elementNo sidebar) (attrsOf t k sidebar)) ∷ (below t d level (nodesIn t (uncut sidebar) (firstChild t k)) ++ (item (line level) ∷ item (close (elementNo sidebar)) ∷ [])))
 unfolding emitAll
-held-whole t k d level sidebar s {a} {first} e r mid last ea ef ee er =
+held-whole t k d level sidebar s {a} {first} e r de dr mid last ea ef ee er =
     between s (item (start (elementNo sidebar) (attrsOf t k sidebar)) ∷ []) (below t d level (nodesIn t (uncut sidebar) (firstChild t k))) (item (line level) ∷ item (close (elementNo sidebar)) ∷ [])
     ea (ee ∙ ap (λ (u : Step). emitAll a (below t d level (nodesIn t (uncut sidebar) u))) ef)
     (er (t .source))
@@ -76,10 +75,10 @@ unfolding holderIn sidebarIn periphIn holder elementNo attrsOf sidebarAttrs peri
 held-by t d level true k = refl
 held-by t d level false k = refl
 
-module _ (t : Tape) (k d level : ℕ) (sidebar : Bool) (sink a : Sink) (out mid : Bytes)
-    (ea : (source : Bytes) → deskIn source a mid ≡ emit (deskIn source sink out) (item (line level))) {first : Step} (ef : first ≡ firstChild t k) {x : Bool}
+module _ (t : Tape) (k d level : ℕ) (sidebar : Bool) (at a : ℕ) (desk da : List ℕ) (out mid : Bytes)
+    (ea : (source : Bytes) → deskOf source a da mid ≡ emit (deskOf source at desk out) (item (line level))) {first : Step} (ef : first ≡ firstChild t k) {x : Bool}
     (ex : x ≡ any (isBlockOrRow t) (nodesIn t (uncut sidebar) first)) where
-  on-its-line : {r : Desk} (es : List Event) → r ≡ emitAll (deskIn (t .source) a mid) es → r ≡ emitAll (deskIn (t .source) sink out) (item (line level) ∷ es)
+  on-its-line : {r : Desk} (es : List Event) → r ≡ emitAll (deskOf (t .source) a da mid) es → r ≡ emitAll (deskOf (t .source) at desk out) (item (line level) ∷ es)
   unfolding emitAll
   on-its-line es er =
       er ∙ ap (λ (u : Desk). emitAll u es) (ea (t .source))
@@ -88,13 +87,13 @@ module _ (t : Tape) (k d level : ℕ) (sidebar : Bool) (sink a : Sink) (out mid 
   test = sym (ex ∙ ap (λ (u : Step). any (isBlockOrRow t) (nodesIn t (uncut sidebar) u)) ef)
 
   pub held-full : x ≡ true → {r : Desk}
-      → r ≡ emitAll (deskIn (t .source) a mid) (item (start (elementNo sidebar) (attrsOf t k sidebar)) ∷ (below t d level (nodesIn t (uncut sidebar) (firstChild t k)) ++ (item (line level) ∷ item (close (elementNo sidebar)) ∷ [])))
-      → r ≡ emitAll (deskIn (t .source) sink out) (item (line level) ∷ holderIn t d level sidebar k)
-  held-full h er = on-its-line (holderIn t d level sidebar k) (er ∙ ap (emitAll (deskIn (t .source) a mid)) (sym (held-by t d level sidebar k ∙ rw (test ∙ h))))
+      → r ≡ emitAll (deskOf (t .source) a da mid) (item (start (elementNo sidebar) (attrsOf t k sidebar)) ∷ (below t d level (nodesIn t (uncut sidebar) (firstChild t k)) ++ (item (line level) ∷ item (close (elementNo sidebar)) ∷ [])))
+      → r ≡ emitAll (deskOf (t .source) at desk out) (item (line level) ∷ holderIn t d level sidebar k)
+  held-full h er = on-its-line (holderIn t d level sidebar k) (er ∙ ap (emitAll (deskOf (t .source) a da mid)) (sym (held-by t d level sidebar k ∙ rw (test ∙ h))))
 
-  pub held-bare : x ≡ false → {r : Desk} → r ≡ emit (deskIn (t .source) a mid) (item (empty (elementNo sidebar) (attrsOf t k sidebar)))
-      → r ≡ emitAll (deskIn (t .source) sink out) (item (line level) ∷ holderIn t d level sidebar k)
-  held-bare h er = on-its-line (holderIn t d level sidebar k) (emit-one (deskIn (t .source) a mid) (item (empty (elementNo sidebar) (attrsOf t k sidebar))) er ∙ ap (emitAll (deskIn (t .source) a mid)) (sym (held-by t d level sidebar k ∙ rw (test ∙ h))))
+  pub held-bare : x ≡ false → {r : Desk} → r ≡ emit (deskOf (t .source) a da mid) (item (empty (elementNo sidebar) (attrsOf t k sidebar)))
+      → r ≡ emitAll (deskOf (t .source) at desk out) (item (line level) ∷ holderIn t d level sidebar k)
+  held-bare h er = on-its-line (holderIn t d level sidebar k) (emit-one (deskOf (t .source) a da mid) (item (empty (elementNo sidebar) (attrsOf t k sidebar))) er ∙ ap (emitAll (deskOf (t .source) a da mid)) (sym (held-by t d level sidebar k ∙ rw (test ∙ h))))
 
 -- ---- a list of blocks
 

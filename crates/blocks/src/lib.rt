@@ -13,12 +13,15 @@ ghost use Rattle.tags.specs.Items.{line as lineItem, close, start};
 ghost use Rattle.events.specs.Event.{Event, item};
 ghost use Rattle.events.specs.Walk.{aChapter, aBlock, aVerse, placeOf, blocksAll, blocksOn, blocksE};
 ghost use Rattle.events.specs.Emit.{emitAll};
-ghost use Rattle.sink.specs.Desk.{deskIn};
+ghost use Rattle.desk.specs.Desk.{deskOf};
 ghost use Rattle.lists.specs.Span.{nodesIn, memberOf};
 ghost use Rattle.lists.specs.declared.Member.the-variants.{Listed};
 ghost use Rattle.tables.specs.Rows.{depthAt};
 ghost use Rattle.holders.specs.Holders.{attrsOf, elementNo};
 ghost use Rattle.blocks.specs.Blocks.{uncut, holderOf, below, holderIn, runOpens, runIn, stepBehind};
+use desk::Numbers;
+use desk::line;
+use desk::literal;
 use holders::close_holder;
 use holders::empty_holder;
 use holders::has_block;
@@ -29,9 +32,6 @@ use lists::Stop;
 use lists::fold_in;
 use lists::member_of;
 use lists::past_run;
-use sink::Sink;
-use sink::line;
-use sink::literal;
 use tables::depth_at;
 use tape::Cursor;
 use tape::Element;
@@ -49,7 +49,7 @@ pub enum Holder {
 
 // Where a walk along blocks stands.
 pub struct Going {
-    pub sink: Sink,
+    pub at: usize,
     pub next: Step,
 }
 
@@ -81,11 +81,12 @@ fn chapter(
     span: Span,
     c: Cursor,
     level: u8,
-    sink: Sink,
+    at: usize,
+    desk: &mut Numbers,
     out: &mut [u8],
 ) -> Going
     requires { ⌜ Solids (tapeIn tape (now file)) (now solids) ⌝ }
-    ensures { λ r. ⌜ ((B : List ℕ → List Event) → emitAll (deskIn (tapeIn tape (now (file .entry)) .source) (r .sink) (now (out .exit))) (blocksAll B (tapeIn tape (now (file .entry))) (depthAt level) level (nodesIn (tapeIn tape (now (file .entry))) span (r .next))) ≡ emitAll (deskIn (tapeIn tape (now (file .entry)) .source) sink (now (out .entry))) (blocksOn B (tapeIn tape (now (file .entry))) (depthAt level) level (c .at) (nodesIn (tapeIn tape (now (file .entry))) span (nextSibling (tapeIn tape (now (file .entry))) (c .at))) aChapter)) ⌝ }
+    ensures { λ r. ⌜ ((B : List ℕ → List Event) → emitAll (deskOf (tapeIn tape (now (file .entry)) .source) (r .at) (now (desk .exit)) (now (out .exit))) (blocksAll B (tapeIn tape (now (file .entry))) (depthAt level) level (nodesIn (tapeIn tape (now (file .entry))) span (r .next))) ≡ emitAll (deskOf (tapeIn tape (now (file .entry)) .source) at (now (desk .entry)) (now (out .entry))) (blocksOn B (tapeIn tape (now (file .entry))) (depthAt level) level (c .at) (nodesIn (tapeIn tape (now (file .entry))) span (nextSibling (tapeIn tape (now (file .entry))) (c .at))) aChapter)) ⌝ }
     ensures { λ r. ⌜ left (tapeIn tape (now (file .entry))) (r .next) < left (tapeIn tape (now (file .entry))) (At c) ⌝ }
     ensures { λ r. ⌜ r .next ≡ stepBehind (tapeIn tape (now (file .entry))) span (c .at) aChapter ⌝ }
 {
@@ -100,17 +101,26 @@ fn chapter(
     let alt = f.alt;
     let published = f.published;
     let next = f.rest;
-    let s = line(sink, out, level as usize);
-    let r = milestone::chapter(file, tape, c.number(file, tape), alt, published, s, out);
-    Going { sink: r, next }
+    let s = line(at, desk, out, level as usize);
+    let r = milestone::chapter(
+        file,
+        tape,
+        c.number(file, tape),
+        alt,
+        published,
+        s,
+        desk,
+        out,
+    );
+    Going { at: r, next }
 }
 
 // The line and the tag of a paragraph around a verse.
-fn open_run(level: usize, sink: Sink, out: &mut [u8]) -> Sink
-    ensures { λ r. ⌜ ((source : Bytes) → deskIn source r (now (out .exit)) ≡ emitAll (deskIn source sink (now (out .entry))) (runOpens level)) ⌝ }
+fn open_run(level: usize, at: usize, desk: &mut Numbers, out: &mut [u8]) -> usize
+    ensures { λ r. ⌜ ((source : Bytes) → deskOf source r (now (desk .exit)) (now (out .exit)) ≡ emitAll (deskOf source at (now (desk .entry)) (now (out .entry))) (runOpens level)) ⌝ }
 {
-    let a = line(sink, out, level);
-    literal(a, out, b"<para style=\"p\">")
+    let a = line(at, desk, out, level);
+    literal(a, desk, out, b"<para style=\"p\">")
 }
 
 // A verse and what follows it up to the next block, in a paragraph of its own.
@@ -121,14 +131,15 @@ fn verse_para(
     sifted: bool,
     c: Cursor,
     level: u8,
-    sink: Sink,
+    at: usize,
+    desk: &mut Numbers,
     out: &mut [u8],
-) -> Sink
+) -> usize
     requires { ⌜ Solids (tapeIn tape (now file)) (now solids) ⌝ }
-    ensures { λ r. ⌜ (memberOf (tapeIn tape (now (file .entry))) (uncut sifted) (c .at) ≡ Listed → isTopLevelBlock (tapeIn tape (now (file .entry))) (c .at) ≡ false → deskIn (tapeIn tape (now (file .entry)) .source) r (now (out .exit)) ≡ emitAll (deskIn (tapeIn tape (now (file .entry)) .source) sink (now (out .entry))) (runIn (tapeIn tape (now (file .entry))) (depthAt level) level (c .at) (nodesIn (tapeIn tape (now (file .entry))) (uncut sifted) (nextSibling (tapeIn tape (now (file .entry))) (c .at))))) ⌝ }
+    ensures { λ r. ⌜ (memberOf (tapeIn tape (now (file .entry))) (uncut sifted) (c .at) ≡ Listed → isTopLevelBlock (tapeIn tape (now (file .entry))) (c .at) ≡ false → deskOf (tapeIn tape (now (file .entry)) .source) r (now (desk .exit)) (now (out .exit)) ≡ emitAll (deskOf (tapeIn tape (now (file .entry)) .source) at (now (desk .entry)) (now (out .entry))) (runIn (tapeIn tape (now (file .entry))) (depthAt level) level (c .at) (nodesIn (tapeIn tape (now (file .entry))) (uncut sifted) (nextSibling (tapeIn tape (now (file .entry))) (c .at))))) ⌝ }
 {
     let run = Span { cut: true, sifted };
-    let a = open_run(level as usize, sink, out);
+    let a = open_run(level as usize, at, desk, out);
     let depth = depth_at(level);
     let e = inline::inline(
         file,
@@ -141,9 +152,10 @@ fn verse_para(
         false,
         Behind::Ends,
         a,
+        desk,
         out,
     );
-    literal(e, out, b"</para>")
+    literal(e, desk, out, b"</para>")
 }
 
 // Such a paragraph, and the list behind it.
@@ -154,18 +166,19 @@ fn verse_run(
     sifted: bool,
     c: Cursor,
     level: u8,
-    sink: Sink,
+    at: usize,
+    desk: &mut Numbers,
     out: &mut [u8],
 ) -> Going
     requires { ⌜ Solids (tapeIn tape (now file)) (now solids) ⌝ }
-    ensures { λ r. ⌜ (memberOf (tapeIn tape (now (file .entry))) (uncut sifted) (c .at) ≡ Listed → isTopLevelBlock (tapeIn tape (now (file .entry))) (c .at) ≡ false → (B : List ℕ → List Event) → emitAll (deskIn (tapeIn tape (now (file .entry)) .source) (r .sink) (now (out .exit))) (blocksAll B (tapeIn tape (now (file .entry))) (depthAt level) level (nodesIn (tapeIn tape (now (file .entry))) (uncut sifted) (r .next))) ≡ emitAll (deskIn (tapeIn tape (now (file .entry)) .source) sink (now (out .entry))) (blocksOn B (tapeIn tape (now (file .entry))) (depthAt level) level (c .at) (nodesIn (tapeIn tape (now (file .entry))) (uncut sifted) (nextSibling (tapeIn tape (now (file .entry))) (c .at))) aVerse)) ⌝ }
+    ensures { λ r. ⌜ (memberOf (tapeIn tape (now (file .entry))) (uncut sifted) (c .at) ≡ Listed → isTopLevelBlock (tapeIn tape (now (file .entry))) (c .at) ≡ false → (B : List ℕ → List Event) → emitAll (deskOf (tapeIn tape (now (file .entry)) .source) (r .at) (now (desk .exit)) (now (out .exit))) (blocksAll B (tapeIn tape (now (file .entry))) (depthAt level) level (nodesIn (tapeIn tape (now (file .entry))) (uncut sifted) (r .next))) ≡ emitAll (deskOf (tapeIn tape (now (file .entry)) .source) at (now (desk .entry)) (now (out .entry))) (blocksOn B (tapeIn tape (now (file .entry))) (depthAt level) level (c .at) (nodesIn (tapeIn tape (now (file .entry))) (uncut sifted) (nextSibling (tapeIn tape (now (file .entry))) (c .at))) aVerse)) ⌝ }
     ensures { λ r. ⌜ left (tapeIn tape (now (file .entry))) (r .next) < left (tapeIn tape (now (file .entry))) (At c) ⌝ }
     ensures { λ r. ⌜ r .next ≡ stepBehind (tapeIn tape (now (file .entry))) (uncut sifted) (c .at) aVerse ⌝ }
 {
     let span = Span { cut: false, sifted };
-    let s = verse_para(file, tape, solids, sifted, c, level, sink, out);
+    let s = verse_para(file, tape, solids, sifted, c, level, at, desk, out);
     let next = past_run(file, tape, span, Stop::Block, c.next_sibling(file, tape));
-    Going { sink: s, next }
+    Going { at: s, next }
 }
 
 // A block on its line.
@@ -176,17 +189,18 @@ fn block(
     span: Span,
     c: Cursor,
     level: u8,
-    sink: Sink,
+    at: usize,
+    desk: &mut Numbers,
     out: &mut [u8],
 ) -> Going
     requires { ⌜ Solids (tapeIn tape (now file)) (now solids) ⌝ }
-    ensures { λ r. ⌜ ((B : List ℕ → List Event) → emitAll (deskIn (tapeIn tape (now (file .entry)) .source) (r .sink) (now (out .exit))) (blocksAll B (tapeIn tape (now (file .entry))) (depthAt level) level (nodesIn (tapeIn tape (now (file .entry))) span (r .next))) ≡ emitAll (deskIn (tapeIn tape (now (file .entry)) .source) sink (now (out .entry))) (blocksOn B (tapeIn tape (now (file .entry))) (depthAt level) level (c .at) (nodesIn (tapeIn tape (now (file .entry))) span (nextSibling (tapeIn tape (now (file .entry))) (c .at))) aBlock)) ⌝ }
+    ensures { λ r. ⌜ ((B : List ℕ → List Event) → emitAll (deskOf (tapeIn tape (now (file .entry)) .source) (r .at) (now (desk .exit)) (now (out .exit))) (blocksAll B (tapeIn tape (now (file .entry))) (depthAt level) level (nodesIn (tapeIn tape (now (file .entry))) span (r .next))) ≡ emitAll (deskOf (tapeIn tape (now (file .entry)) .source) at (now (desk .entry)) (now (out .entry))) (blocksOn B (tapeIn tape (now (file .entry))) (depthAt level) level (c .at) (nodesIn (tapeIn tape (now (file .entry))) span (nextSibling (tapeIn tape (now (file .entry))) (c .at))) aBlock)) ⌝ }
     ensures { λ r. ⌜ left (tapeIn tape (now (file .entry))) (r .next) < left (tapeIn tape (now (file .entry))) (At c) ⌝ }
     ensures { λ r. ⌜ r .next ≡ stepBehind (tapeIn tape (now (file .entry))) span (c .at) aBlock ⌝ }
 {
-    let a = line(sink, out, level as usize);
+    let a = line(at, desk, out, level as usize);
     Going {
-        sink: inline::node(file, tape, solids, c, depth_at(level), false, a, out),
+        at: inline::node(file, tape, solids, c, depth_at(level), false, a, desk, out),
         next: c.next_sibling(file, tape),
     }
 }
@@ -199,33 +213,34 @@ fn block_turn(
     sifted: bool,
     c: Cursor,
     level: u8,
-    sink: Sink,
+    at: usize,
+    desk: &mut Numbers,
     out: &mut [u8],
 ) -> Going
     requires { ⌜ Solids (tapeIn tape (now file)) (now solids) ⌝ }
-    ensures { λ r. ⌜ (memberOf (tapeIn tape (now (file .entry))) (uncut sifted) (c .at) ≡ Listed → holderOf (tapeIn tape (now (file .entry))) (c .at) ≡ Holder.Neither → (B : List ℕ → List Event) → emitAll (deskIn (tapeIn tape (now (file .entry)) .source) (r .sink) (now (out .exit))) (blocksAll B (tapeIn tape (now (file .entry))) (depthAt level) level (nodesIn (tapeIn tape (now (file .entry))) (uncut sifted) (r .next))) ≡ emitAll (deskIn (tapeIn tape (now (file .entry)) .source) sink (now (out .entry))) (blocksAll B (tapeIn tape (now (file .entry))) (depthAt level) level (nodesIn (tapeIn tape (now (file .entry))) (uncut sifted) (At c)))) ⌝ }
+    ensures { λ r. ⌜ (memberOf (tapeIn tape (now (file .entry))) (uncut sifted) (c .at) ≡ Listed → holderOf (tapeIn tape (now (file .entry))) (c .at) ≡ Holder.Neither → (B : List ℕ → List Event) → emitAll (deskOf (tapeIn tape (now (file .entry)) .source) (r .at) (now (desk .exit)) (now (out .exit))) (blocksAll B (tapeIn tape (now (file .entry))) (depthAt level) level (nodesIn (tapeIn tape (now (file .entry))) (uncut sifted) (r .next))) ≡ emitAll (deskOf (tapeIn tape (now (file .entry)) .source) at (now (desk .entry)) (now (out .entry))) (blocksAll B (tapeIn tape (now (file .entry))) (depthAt level) level (nodesIn (tapeIn tape (now (file .entry))) (uncut sifted) (At c)))) ⌝ }
     ensures { λ r. ⌜ left (tapeIn tape (now (file .entry))) (r .next) < left (tapeIn tape (now (file .entry))) (At c) ⌝ }
     ensures { λ r. ⌜ (holderOf (tapeIn tape (now (file .entry))) (c .at) ≡ Holder.Neither → r .next ≡ stepBehind (tapeIn tape (now (file .entry))) (uncut sifted) (c .at) (placeOf (tapeIn tape (now (file .entry))) (c .at))) ⌝ }
 {
     let span = Span { cut: false, sifted };
     if render::is_row(file, tape, c) {
         return Going {
-            sink: tables::table(file, tape, solids, span, Step::At(c), level, sink, out),
+            at: tables::table(file, tape, solids, span, Step::At(c), level, at, desk, out),
             next: past_run(file, tape, span, Stop::NoRow, c.next_sibling(file, tape)),
         };
     }
     let kind = c.kind(file, tape);
     if kind.code == Kind::CHAPTER {
-        return chapter(file, tape, solids, span, c, level, sink, out);
+        return chapter(file, tape, solids, span, c, level, at, desk, out);
     }
     if render::is_top_level_block(file, tape, c) {
-        return block(file, tape, solids, span, c, level, sink, out);
+        return block(file, tape, solids, span, c, level, at, desk, out);
     }
     if kind.code == Kind::VERSE {
-        return verse_run(file, tape, solids, sifted, c, level, sink, out);
+        return verse_run(file, tape, solids, sifted, c, level, at, desk, out);
     }
     Going {
-        sink,
+        at,
         next: c.next_sibling(file, tape),
     }
 }
@@ -238,13 +253,14 @@ fn full_holder(
     c: Cursor,
     sidebar: bool,
     level: u8,
-    sink: Sink,
+    at: usize,
+    desk: &mut Numbers,
     out: &mut [u8],
-) -> Sink
+) -> usize
     requires { ⌜ Solids (tapeIn tape (now file)) (now solids) ⌝ }
-    ensures { λ r. ⌜ deskIn (tapeIn tape (now (file .entry)) .source) r (now (out .exit)) ≡ emitAll (deskIn (tapeIn tape (now (file .entry)) .source) sink (now (out .entry))) (item (start (elementNo sidebar) (attrsOf (tapeIn tape (now (file .entry))) (c .at) sidebar)) ∷ (below (tapeIn tape (now (file .entry))) (depthAt level) level (nodesIn (tapeIn tape (now (file .entry))) (uncut sidebar) (firstChild (tapeIn tape (now (file .entry))) (c .at))) ++ (item (lineItem level) ∷ item (close (elementNo sidebar)) ∷ []))) ⌝ }
+    ensures { λ r. ⌜ deskOf (tapeIn tape (now (file .entry)) .source) r (now (desk .exit)) (now (out .exit)) ≡ emitAll (deskOf (tapeIn tape (now (file .entry)) .source) at (now (desk .entry)) (now (out .entry))) (item (start (elementNo sidebar) (attrsOf (tapeIn tape (now (file .entry))) (c .at) sidebar)) ∷ (below (tapeIn tape (now (file .entry))) (depthAt level) level (nodesIn (tapeIn tape (now (file .entry))) (uncut sidebar) (firstChild (tapeIn tape (now (file .entry))) (c .at))) ++ (item (lineItem level) ∷ item (close (elementNo sidebar)) ∷ []))) ⌝ }
 {
-    let d = open_holder(file, tape, c, sidebar, sink, out);
+    let d = open_holder(file, tape, c, sidebar, at, desk, out);
     let e = inner(
         file,
         tape,
@@ -253,9 +269,10 @@ fn full_holder(
         c.first_child(file, tape),
         level,
         d,
+        desk,
         out,
     );
-    close_holder(level as usize, sidebar, e, out)
+    close_holder(level as usize, sidebar, e, desk, out)
 }
 
 // A sidebar or periph: blocks inside, or nothing.
@@ -266,21 +283,22 @@ fn held(
     c: Cursor,
     sidebar: bool,
     level: u8,
-    sink: Sink,
+    at: usize,
+    desk: &mut Numbers,
     out: &mut [u8],
-) -> Sink
+) -> usize
     requires { ⌜ Solids (tapeIn tape (now file)) (now solids) ⌝ }
-    ensures { λ r. ⌜ deskIn (tapeIn tape (now (file .entry)) .source) r (now (out .exit)) ≡ emitAll (deskIn (tapeIn tape (now (file .entry)) .source) sink (now (out .entry))) (item (lineItem level) ∷ holderIn (tapeIn tape (now (file .entry))) (depthAt level) level sidebar (c .at)) ⌝ }
+    ensures { λ r. ⌜ deskOf (tapeIn tape (now (file .entry)) .source) r (now (desk .exit)) (now (out .exit)) ≡ emitAll (deskOf (tapeIn tape (now (file .entry)) .source) at (now (desk .entry)) (now (out .entry))) (item (lineItem level) ∷ holderIn (tapeIn tape (now (file .entry))) (depthAt level) level sidebar (c .at)) ⌝ }
 {
     let span = Span {
         cut: false,
         sifted: sidebar,
     };
-    let a = line(sink, out, level as usize);
+    let a = line(at, desk, out, level as usize);
     if has_block(file, tape, span, c.first_child(file, tape)) {
-        full_holder(file, tape, solids, c, sidebar, level, a, out)
+        full_holder(file, tape, solids, c, sidebar, level, a, desk, out)
     } else {
-        empty_holder(file, tape, c, sidebar, a, out)
+        empty_holder(file, tape, c, sidebar, a, desk, out)
     }
 }
 
@@ -292,16 +310,17 @@ fn inner(
     sifted: bool,
     first: Step,
     level: u8,
-    sink: Sink,
+    at: usize,
+    desk: &mut Numbers,
     out: &mut [u8],
-) -> Sink
+) -> usize
     requires { ⌜ Solids (tapeIn tape (now file)) (now solids) ⌝ }
-    ensures { λ r. ⌜ deskIn (tapeIn tape (now (file .entry)) .source) r (now (out .exit)) ≡ emitAll (deskIn (tapeIn tape (now (file .entry)) .source) sink (now (out .entry))) (below (tapeIn tape (now (file .entry))) (depthAt level) level (nodesIn (tapeIn tape (now (file .entry))) (uncut sifted) first)) ⌝ }
+    ensures { λ r. ⌜ deskOf (tapeIn tape (now (file .entry)) .source) r (now (desk .exit)) (now (out .exit)) ≡ emitAll (deskOf (tapeIn tape (now (file .entry)) .source) at (now (desk .entry)) (now (out .entry))) (below (tapeIn tape (now (file .entry))) (depthAt level) level (nodesIn (tapeIn tape (now (file .entry))) (uncut sifted) first)) ⌝ }
 {
     if depth_at(level) == 0 {
-        return sink;
+        return at;
     }
-    blocks(file, tape, solids, sifted, first, level + 1, sink, out)
+    blocks(file, tape, solids, sifted, first, level + 1, at, desk, out)
 }
 
 // A list of blocks.
@@ -312,14 +331,15 @@ pub fn blocks(
     sifted: bool,
     first: Step,
     level: u8,
-    sink: Sink,
+    at: usize,
+    desk: &mut Numbers,
     out: &mut [u8],
-) -> Sink
+) -> usize
     requires { ⌜ Solids (tapeIn tape (now file)) (now solids) ⌝ }
-    ensures { λ r. ⌜ deskIn (tapeIn tape (now (file .entry)) .source) r (now (out .exit)) ≡ emitAll (deskIn (tapeIn tape (now (file .entry)) .source) sink (now (out .entry))) (blocksE (tapeIn tape (now (file .entry))) (depthAt level) level (nodesIn (tapeIn tape (now (file .entry))) (uncut sifted) first)) ⌝ }
+    ensures { λ r. ⌜ deskOf (tapeIn tape (now (file .entry)) .source) r (now (desk .exit)) (now (out .exit)) ≡ emitAll (deskOf (tapeIn tape (now (file .entry)) .source) at (now (desk .entry)) (now (out .entry))) (blocksE (tapeIn tape (now (file .entry))) (depthAt level) level (nodesIn (tapeIn tape (now (file .entry))) (uncut sifted) first)) ⌝ }
 {
     let span = Span { cut: false, sifted };
-    let mut s = sink;
+    let mut s = at;
     let mut step = first;
     loop {
         match step {
@@ -331,16 +351,16 @@ pub fn blocks(
                 }
                 Member::Listed => match holder_of(file, tape, c) {
                     Holder::Sidebar => {
-                        s = held(file, tape, solids, c, true, level, s, out);
+                        s = held(file, tape, solids, c, true, level, s, desk, out);
                         step = c.next_sibling(file, tape);
                     }
                     Holder::Periph => {
-                        s = held(file, tape, solids, c, false, level, s, out);
+                        s = held(file, tape, solids, c, false, level, s, desk, out);
                         step = c.next_sibling(file, tape);
                     }
                     Holder::Neither => {
-                        let g = block_turn(file, tape, solids, sifted, c, level, s, out);
-                        s = g.sink;
+                        let g = block_turn(file, tape, solids, sifted, c, level, s, desk, out);
+                        s = g.at;
                         step = g.next;
                     }
                 },

@@ -4,7 +4,7 @@ use mathlib.Core.Bool.{Bool, true, false, cond}
 use mathlib.Core.List.{List, [], _∷_, map}
 use Prim.Native.Nat.{ℕ, _+_, _≤_, _<_}
 use native.Mathlib.Omega.{arith}
-use lib.ListN.{length, take, drop, length-drop}
+use lib.ListN.{length, take, drop, getD, length-drop}
 use lib.Seq.{drop-drop, take-all}
 use lib.Dec.{ltb}
 use borrow.Author.Tests.{lt-ltb, le-ltb, ltb-true, ltb-false}
@@ -25,55 +25,54 @@ use Rattle.tags.specs.Names.{nameOf}
 use Rattle.events.specs.Event.{Event, item}
 use Rattle.events.specs.Walk.{unbroken, breaks, segmented, broken}
 use Rattle.events.specs.Emit.{Desk, emit, emitAll}
-use Rattle.sink.specs.Desk.{windowIn, overBy, deskIn, putOn}
-use Rattle.sink.specs.declared.Sink.{Sink}
-use Rattle.sink.proofs.Chains.{item-on, desk-item}
+use Rattle.desk.specs.Desk.{deskOf, putOn}
+use Rattle.desk.proofs.Chains.{item-on, desk-item}
 use Rattle.breaks.specs.Broken.{segment, breaksFrom}
 
 -- ---- whole
 
-module _ (s : Bytes) (n : Normalized) (sink : Sink) (out : Bytes) where
-  pub unbroken-shows : n .shows ≡ true → {w v : Window} {r : Sink} {last : Bytes} → w ≡ windowIn sink → pageOf v last ≡ paint (pageOf w out) (escape false (written s n)) → r ≡ overBy sink v
-      → (source : Bytes) → deskIn source r last ≡ emitAll (deskIn source sink out) (unbroken s n)
+module _ (s : Bytes) (n : Normalized) (at : ℕ) (d : List ℕ) (out : Bytes) where
+  pub unbroken-shows : n .shows ≡ true → {v : Window} {last : Bytes} → pageOf v last ≡ paint (record { at = at; from = getD d 0 0; buf = out }) (escape false (written s n))
+      → (source : Bytes) → deskOf source (v .at) d last ≡ emitAll (deskOf source at d out) (unbroken s n)
   unfolding unbroken emitAll bytesOf written
-  unbroken-shows h ew ev er source = rw h (desk-item sink out (text (written s n)) ew ev er source)
+  unbroken-shows h ev source = rw h (desk-item at d out (text (written s n)) ev source)
 
-  pub unbroken-hidden : n .shows ≡ false → (source : Bytes) → deskIn source sink out ≡ emitAll (deskIn source sink out) (unbroken s n)
+  pub unbroken-hidden : n .shows ≡ false → (source : Bytes) → deskOf source at d out ≡ emitAll (deskOf source at d out) (unbroken s n)
   unfolding unbroken emitAll
   unbroken-hidden h source = rw h
 
   -- a body that is written as it stands
   module _ {body : Bytes} (eb : body ≡ innerOf s) where
-    pub easy-shows : n .shows ≡ true → easy body ≡ true → {w v : Window} {r : Sink} {last : Bytes} → w ≡ windowIn sink → pageOf v last ≡ paint (pageOf w out) (edged body n) → r ≡ overBy sink v
-        → (source : Bytes) → deskIn source r last ≡ emitAll (deskIn source sink out) (unbroken s n)
-    easy-shows h e ew ev er source = unbroken-shows h ew (ev ∙ rw (eb, easy-written s (rw eb at e) n)) er source
+    pub easy-shows : n .shows ≡ true → easy body ≡ true → {v : Window} {last : Bytes} → pageOf v last ≡ paint (record { at = at; from = getD d 0 0; buf = out }) (edged body n)
+        → (source : Bytes) → deskOf source (v .at) d last ≡ emitAll (deskOf source at d out) (unbroken s n)
+    easy-shows h e ev source = unbroken-shows h (ev ∙ rw (eb, easy-written s (rw eb at e) n)) source
 
-    module _ {t : Bool} (et : t ≡ easy body) (h : t ≡ true) (r : Sink) (last : Bytes)
-        (f : (s : Bytes) → body ≡ innerOf s → easy body ≡ true → (source : Bytes) → deskIn source r last ≡ emitAll (deskIn source sink out) (unbroken s n)) where
-      pub unbroken-easy : (source : Bytes) → deskIn source r last ≡ emitAll (deskIn source sink out) (unbroken s n)
+    module _ {t : Bool} (et : t ≡ easy body) (h : t ≡ true) (r : ℕ) (last-d : List ℕ) (last : Bytes)
+        (f : (s : Bytes) → body ≡ innerOf s → easy body ≡ true → (source : Bytes) → deskOf source r last-d last ≡ emitAll (deskOf source at d out) (unbroken s n)) where
+      pub unbroken-easy : (source : Bytes) → deskOf source r last-d last ≡ emitAll (deskOf source at d out) (unbroken s n)
       unbroken-easy source = f s eb (sym et ∙ h) source
 
-      pub broken-easy : (source : Bytes) → deskIn source r last ≡ emitAll (deskIn source sink out) (broken s n)
+      pub broken-easy : (source : Bytes) → deskOf source r last-d last ≡ emitAll (deskOf source at d out) (broken s n)
       unfolding broken
       broken-easy source = rw (easy-whole s (rw eb at (sym et ∙ h))) (unbroken-easy source)
 
-  module _ {x : Bool} (ex : x ≡ hasBreak (bodyOf s)) (r : Sink) (last : Bytes) where
-    pub broken-split : x ≡ true → ((source : Bytes) → deskIn source r last ≡ emitAll (deskIn source sink out) (segmented (segments s)))
-        → (source : Bytes) → deskIn source r last ≡ emitAll (deskIn source sink out) (broken s n)
+  module _ {x : Bool} (ex : x ≡ hasBreak (bodyOf s)) (r : ℕ) (last-d : List ℕ) (last : Bytes) where
+    pub broken-split : x ≡ true → ((source : Bytes) → deskOf source r last-d last ≡ emitAll (deskOf source at d out) (segmented (segments s)))
+        → (source : Bytes) → deskOf source r last-d last ≡ emitAll (deskOf source at d out) (broken s n)
     unfolding broken
     broken-split h e source = rw (sym ex ∙ h) (e source)
 
-    pub broken-whole : x ≡ false → ((source : Bytes) → deskIn source r last ≡ emitAll (deskIn source sink out) (unbroken s n))
-        → (source : Bytes) → deskIn source r last ≡ emitAll (deskIn source sink out) (broken s n)
+    pub broken-whole : x ≡ false → ((source : Bytes) → deskOf source r last-d last ≡ emitAll (deskOf source at d out) (unbroken s n))
+        → (source : Bytes) → deskOf source r last-d last ≡ emitAll (deskOf source at d out) (broken s n)
     unfolding broken
     broken-whole h e source = rw (sym ex ∙ h) (e source)
 
 -- ---- segment by segment
 
-pub segment-put : (s : Bytes) (sink : Sink) (out : Bytes) {w v : Window} {r : Sink} {last : Bytes} → w ≡ windowIn sink → pageOf v last ≡ paint (pageOf w out) (escape false (trim Unicode (bodyOf s))) → r ≡ overBy sink v
-    → (source : Bytes) → deskIn source r last ≡ emit (deskIn source sink out) (item (text (segment s)))
+pub segment-put : (s : Bytes) (at : ℕ) (d : List ℕ) (out : Bytes) {v : Window} {last : Bytes} → pageOf v last ≡ paint (record { at = at; from = getD d 0 0; buf = out }) (escape false (trim Unicode (bodyOf s)))
+    → (source : Bytes) → deskOf source (v .at) d last ≡ emit (deskOf source at d out) (item (text (segment s)))
 unfolding segment bytesOf
-segment-put s sink out ew ev er source = desk-item sink out (text (trim Unicode (bodyOf s))) ew ev er source
+segment-put s at d out ev source = desk-item at d out (text (trim Unicode (bodyOf s))) ev source
 
 bodies : (s : Bytes) → segments s ≡ map segment (splitBreaks s)
 unfolding segment
@@ -135,30 +134,20 @@ unfolding breaksFrom
 from-here s at h = rw (lt-ltb at (length s) h)
 
 -- a turn: the break, and the segment behind it
-pub segments-turn : (s : Bytes) (at : ℕ) (sink : Sink) (out : Bytes) → at < length s → {rest : Bytes} → rest ≡ drop (at + 2) s → {n : ℕ} → n ≡ find (47 ∷ 47 ∷ []) rest
-    → (w : Sink) (mid : Bytes) → ((source : Bytes) → deskIn source w mid ≡ putOn (deskIn source sink out) (b "<optbreak />"))
-    → {p : Bytes} → p ≡ take n rest → (r : Sink) (last : Bytes) → ((source : Bytes) → deskIn source r last ≡ emit (deskIn source w mid) (item (text (segment p))))
-    → (source : Bytes) → emitAll (deskIn source r last) (breaksFrom s (at + 2 + n)) ≡ emitAll (deskIn source sink out) (breaksFrom s at)
+pub segments-turn : (s : Bytes) (place : ℕ) (d : Desk) → place < length s → {rest : Bytes} → rest ≡ drop (place + 2) s → {n : ℕ} → n ≡ find (47 ∷ 47 ∷ []) rest
+    → {mid : Desk} → mid ≡ putOn d (b "<optbreak />") → {p : Bytes} → p ≡ take n rest → {last : Desk} → last ≡ emit mid (item (text (segment p)))
+    → emitAll last (breaksFrom s (place + 2 + n)) ≡ emitAll d (breaksFrom s place)
 unfolding emitAll
-segments-turn s at sink out h {rest} er {n} en w mid ew {p} ep r last ev source =
-    ap (λ (d : Desk). emitAll d (breaksFrom s (at + 2 + n))) (ev source ∙ ap (λ (d : Desk). emit d (item (text (segment p)))) (ew source ∙ break-on (deskIn source sink out)) ∙ ap (λ (q : Bytes). emit (emit (deskIn source sink out) (item (empty 15 []))) (item (text (segment q)))) ep)
-    ∙ ap (λ (es : List Event). emitAll (emit (emit (deskIn source sink out) (item (empty 15 []))) (item (text (segment (take n rest))))) es) (sym (ap (λ (q : Bytes). breaksFrom q n) er ∙ shifted s at n h))
-    ∙ ap (emitAll (deskIn source sink out)) (sym (from-here s at h ∙ ap (λ (q : Bytes). breaks (map segment (splitBreaks q))) (sym er) ∙ next-rest rest en))
-
--- a turn behind others
-pub segments-on : (s : Bytes) (z : Bytes → Desk) (v : Sink) (out : Bytes) (at : ℕ) (r : Sink) (last : Bytes) (n : ℕ)
-    → ((source : Bytes) → emitAll (deskIn source v out) (breaksFrom s at) ≡ z source)
-    → ((source : Bytes) → emitAll (deskIn source r last) (breaksFrom s n) ≡ emitAll (deskIn source v out) (breaksFrom s at))
-    → (source : Bytes) → emitAll (deskIn source r last) (breaksFrom s n) ≡ z source
-segments-on s z v out at r last n inv e source = e source ∙ inv source
+segments-turn s place d h {rest} er {n} en em {p} ep el =
+    ap (λ (x : Desk). emitAll x (breaksFrom s (place + 2 + n))) (el ∙ ap (λ (x : Desk). emit x (item (text (segment p)))) (em ∙ break-on d) ∙ ap (λ (q : Bytes). emit (emit d (item (empty 15 []))) (item (text (segment q)))) ep)
+    ∙ ap (λ (es : List Event). emitAll (emit (emit d (item (empty 15 []))) (item (text (segment (take n rest))))) es) (sym (ap (λ (q : Bytes). breaksFrom q n) er ∙ shifted s place n h))
+    ∙ ap (emitAll d) (sym (from-here s place h ∙ ap (λ (q : Bytes). breaks (map segment (splitBreaks q))) (sym er) ∙ next-rest rest en))
 
 -- no break is left
-pub segments-end : (s : Bytes) (at₀ : ℕ) (sink : Sink) (out : Bytes) → at₀ ≡ find (47 ∷ 47 ∷ []) s → {p : Bytes} → p ≡ take at₀ s → (v₀ : Sink) (out₀ : Bytes)
-    → ((source : Bytes) → deskIn source v₀ out₀ ≡ emit (deskIn source sink out) (item (text (segment p))))
-    → (at : ℕ) (v : Sink) (last : Bytes) → ((source : Bytes) → emitAll (deskIn source v last) (breaksFrom s at) ≡ emitAll (deskIn source v₀ out₀) (breaksFrom s at₀)) → length s ≤ at
-    → (source : Bytes) → deskIn source v last ≡ emitAll (deskIn source sink out) (segmented (segments s))
+pub segments-end : (s : Bytes) (first : ℕ) (d : Desk) → first ≡ find (47 ∷ 47 ∷ []) s → {p : Bytes} → p ≡ take first s → {begun : Desk} → begun ≡ emit d (item (text (segment p)))
+    → (place : ℕ) {last : Desk} → emitAll last (breaksFrom s place) ≡ emitAll begun (breaksFrom s first) → length s ≤ place → last ≡ emitAll d (segmented (segments s))
 unfolding emitAll breaksFrom
-segments-end s at₀ sink out en {p} ep v₀ out₀ e₀ at v last inv h source =
-    rw (le-ltb at (length s) h) at (inv source)
-    ∙ ap (λ (d : Desk). emitAll d (breaksFrom s at₀)) (e₀ source ∙ ap (λ (q : Bytes). emit (deskIn source sink out) (item (text (segment q)))) ep)
-    ∙ ap (emitAll (deskIn source sink out)) (sym (first-rest s en))
+segments-end s first d en ep e place inv h =
+    rw (le-ltb place (length s) h) at inv
+    ∙ ap (λ (x : Desk). emitAll x (breaksFrom s first)) (e ∙ ap (λ (q : Bytes). emit d (item (text (segment q)))) ep)
+    ∙ ap (emitAll d) (sym (first-rest s en))

@@ -5,6 +5,7 @@ use mathlib.Core.List.{List, [], _∷_, _++_, append-assoc, append-nil}
 use mathlib.Core.Option.{some}
 use Prim.Native.Nat.{ℕ}
 use native.Mathlib.Omega.{arith}
+use lib.ListN.{getD}
 use Rattle.parts.specs.Bytes.{Bytes, b}
 use Rattle.chars.specs.Escape.{escape}
 use Rattle.words.specs.Words.{words, joined, isBlank}
@@ -26,10 +27,9 @@ use Rattle.tags.specs.Names.{nameOf}
 use Rattle.tags.proofs.Rendered.{attrs-append}
 use Rattle.events.specs.Event.{item, rawly, escaped, perhaps, collected}
 use Rattle.events.specs.Walk.{style, unclosed}
-use Rattle.events.specs.Emit.{emit, emitAll}
-use Rattle.sink.specs.Desk.{windowIn, overBy, deskIn, putOn}
-use Rattle.sink.specs.declared.Sink.{Sink}
-use Rattle.sink.proofs.Chains.{paint-three, desk-item, on-line}
+use Rattle.events.specs.Emit.{Desk, emit, emitAll}
+use Rattle.desk.specs.Desk.{deskOf, putOn}
+use Rattle.desk.proofs.Chains.{paint-three, item-on, desk-item}
 use Rattle.holders.specs.Holders.{isBlockOrRow, sidebarAttrs, periphAttrs, attrsOf, elementNo}
 
 -- ---- what a list is searched for
@@ -119,27 +119,25 @@ empty-ends : (n : ℕ) (qs : List Attr) → (b "<" ++ (nameOf n ++ attrsBytes qs
 unfolding bytesOf
 empty-ends n qs = ap (λ (z : Bytes). b "<" ++ z) (append-assoc (nameOf n) (attrsBytes qs) (b " />"))
 
-module _ (source : Bytes) (n : ℕ) (qs : List Attr) (sink : Sink) {w v : Window} {r : Sink} (out : Bytes) {last : Bytes} {p : Page} where
-  pub tag-started : w ≡ windowIn sink → p ≡ paint (pageOf w out) (b "<" ++ (nameOf n ++ attrsBytes qs)) → pageOf v last ≡ paint p (b ">") → r ≡ overBy sink v
-      → deskIn source r last ≡ emit (deskIn source sink out) (item (start n qs))
-  tag-started ew ep ev er =
-      desk-item sink out (start n qs) ew
-      (paint-two (pageOf w out) (b "<" ++ (nameOf n ++ attrsBytes qs)) (b ">") ep ev ∙ ap (paint (pageOf w out)) (start-ends n qs)) er source
+module _ (source : Bytes) (n : ℕ) (qs : List Attr) (at : ℕ) {v : Window} (d : List ℕ) (out : Bytes) {last : Bytes} {p : Page} where
+  pub tag-started : p ≡ paint (record { at = at; from = getD d 0 0; buf = out }) (b "<" ++ (nameOf n ++ attrsBytes qs)) → pageOf v last ≡ paint p (b ">")
+      → deskOf source (v .at) d last ≡ emit (deskOf source at d out) (item (start n qs))
+  tag-started ep ev =
+      desk-item at d out (start n qs)
+      (paint-two _ (b "<" ++ (nameOf n ++ attrsBytes qs)) (b ">") ep ev ∙ ap (paint _) (start-ends n qs)) source
 
-  pub tag-emptied : w ≡ windowIn sink → p ≡ paint (pageOf w out) (b "<" ++ (nameOf n ++ attrsBytes qs)) → pageOf v last ≡ paint p (b " />") → r ≡ overBy sink v
-      → deskIn source r last ≡ emit (deskIn source sink out) (item (empty n qs))
-  tag-emptied ew ep ev er =
-      desk-item sink out (empty n qs) ew
-      (paint-two (pageOf w out) (b "<" ++ (nameOf n ++ attrsBytes qs)) (b " />") ep ev ∙ ap (paint (pageOf w out)) (empty-ends n qs)) er source
+  pub tag-emptied : p ≡ paint (record { at = at; from = getD d 0 0; buf = out }) (b "<" ++ (nameOf n ++ attrsBytes qs)) → pageOf v last ≡ paint p (b " />")
+      → deskOf source (v .at) d last ≡ emit (deskOf source at d out) (item (empty n qs))
+  tag-emptied ep ev =
+      desk-item at d out (empty n qs)
+      (paint-two _ (b "<" ++ (nameOf n ++ attrsBytes qs)) (b " />") ep ev ∙ ap (paint _) (empty-ends n qs)) source
 
-module _ (level : ℕ) (sink a r : Sink) (out mid last : Bytes)
-    (ea : (source : Bytes) → deskIn source a mid ≡ emit (deskIn source sink out) (item (line level))) where
-  pub side-closed : {sidebar : Bool} → sidebar ≡ true → ((source : Bytes) → deskIn source r last ≡ putOn (deskIn source a mid) (b "</sidebar>"))
-      → (source : Bytes) → deskIn source r last ≡ emitAll (deskIn source sink out) (item (line level) ∷ item (close (elementNo sidebar)) ∷ [])
-  unfolding elementNo bytesOf nameOf
-  side-closed h er = rw h (on-line level sink a r out mid last ea (close 13) er)
+-- an end on its line
+module _ (level : ℕ) (d : Desk) {m e : Desk} {sidebar : Bool} where
+  pub side-closed : m ≡ emit d (item (line level)) → sidebar ≡ true → e ≡ putOn m (b "</sidebar>") → e ≡ emitAll d (item (line level) ∷ item (close (elementNo sidebar)) ∷ [])
+  unfolding elementNo bytesOf nameOf emitAll
+  side-closed em h ee = rw h (ee ∙ item-on m (close 13) ∙ ap (λ (z : Desk). emit z (item (close 13))) em)
 
-  pub peri-closed : {sidebar : Bool} → sidebar ≡ false → ((source : Bytes) → deskIn source r last ≡ putOn (deskIn source a mid) (b "</periph>"))
-      → (source : Bytes) → deskIn source r last ≡ emitAll (deskIn source sink out) (item (line level) ∷ item (close (elementNo sidebar)) ∷ [])
-  unfolding elementNo bytesOf nameOf
-  peri-closed h er = rw h (on-line level sink a r out mid last ea (close 14) er)
+  pub peri-closed : m ≡ emit d (item (line level)) → sidebar ≡ false → e ≡ putOn m (b "</periph>") → e ≡ emitAll d (item (line level) ∷ item (close (elementNo sidebar)) ∷ [])
+  unfolding elementNo bytesOf nameOf emitAll
+  peri-closed em h ee = rw h (ee ∙ item-on m (close 14) ∙ ap (λ (z : Desk). emit z (item (close 14))) em)

@@ -10,15 +10,15 @@ ghost use Rattle.tags.specs.Names.{nameOf};
 ghost use Rattle.tags.specs.Items.{attrsBytes, line as lineItem, close, start, empty};
 ghost use Rattle.events.specs.Event.{item, perhaps};
 ghost use Rattle.events.specs.Emit.{emit, emitAll};
-ghost use Rattle.sink.specs.Desk.{deskIn};
+ghost use Rattle.desk.specs.Desk.{deskOf};
 ghost use Rattle.lists.specs.Span.{nodesIn};
 ghost use Rattle.holders.specs.Holders.{isBlockOrRow, sidebarAttrs, periphAttrs, attrsOf, elementNo};
+use desk::Numbers;
+use desk::line;
+use desk::literal;
 use lists::Member;
 use lists::Span;
 use lists::member_of;
-use sink::Sink;
-use sink::line;
-use sink::literal;
 use tape::Cursor;
 use tape::Sections;
 use tape::Step;
@@ -117,14 +117,15 @@ pub fn open_holder(
     tape: Sections,
     c: Cursor,
     sidebar: bool,
-    sink: Sink,
+    at: usize,
+    desk: &mut Numbers,
     out: &mut [u8],
-) -> Sink
-    ensures { λ r. ⌜ deskIn (tapeIn tape (now (file .entry)) .source) r (now (out .exit)) ≡ emit (deskIn (tapeIn tape (now (file .entry)) .source) sink (now (out .entry))) (item (start (elementNo sidebar) (attrsOf (tapeIn tape (now (file .entry))) (c .at) sidebar))) ⌝ }
+) -> usize
+    ensures { λ r. ⌜ deskOf (tapeIn tape (now (file .entry)) .source) r (now (desk .exit)) (now (out .exit)) ≡ emit (deskOf (tapeIn tape (now (file .entry)) .source) at (now (desk .entry)) (now (out .entry))) (item (start (elementNo sidebar) (attrsOf (tapeIn tape (now (file .entry))) (c .at) sidebar))) ⌝ }
 {
-    let a = put_holder(sink.window(), out, file, tape, c, sidebar);
+    let a = put_holder(Window { at, from: desk[0] }, out, file, tape, c, sidebar);
     let z = put_run(a, out, b">");
-    sink.over(z)
+    z.at
 }
 
 // A holder with nothing inside.
@@ -133,24 +134,31 @@ pub fn empty_holder(
     tape: Sections,
     c: Cursor,
     sidebar: bool,
-    sink: Sink,
+    at: usize,
+    desk: &mut Numbers,
     out: &mut [u8],
-) -> Sink
-    ensures { λ r. ⌜ deskIn (tapeIn tape (now (file .entry)) .source) r (now (out .exit)) ≡ emit (deskIn (tapeIn tape (now (file .entry)) .source) sink (now (out .entry))) (item (empty (elementNo sidebar) (attrsOf (tapeIn tape (now (file .entry))) (c .at) sidebar))) ⌝ }
+) -> usize
+    ensures { λ r. ⌜ deskOf (tapeIn tape (now (file .entry)) .source) r (now (desk .exit)) (now (out .exit)) ≡ emit (deskOf (tapeIn tape (now (file .entry)) .source) at (now (desk .entry)) (now (out .entry))) (item (empty (elementNo sidebar) (attrsOf (tapeIn tape (now (file .entry))) (c .at) sidebar))) ⌝ }
 {
-    let a = put_holder(sink.window(), out, file, tape, c, sidebar);
+    let a = put_holder(Window { at, from: desk[0] }, out, file, tape, c, sidebar);
     let z = put_run(a, out, b" />");
-    sink.over(z)
+    z.at
 }
 
 // A holder's end on its line.
-pub fn close_holder(level: usize, sidebar: bool, sink: Sink, out: &mut [u8]) -> Sink
-    ensures { λ r. ⌜ ((source : Bytes) → deskIn source r (now (out .exit)) ≡ emitAll (deskIn source sink (now (out .entry))) (item (lineItem level) ∷ item (close (elementNo sidebar)) ∷ [])) ⌝ }
+pub fn close_holder(
+    level: usize,
+    sidebar: bool,
+    at: usize,
+    desk: &mut Numbers,
+    out: &mut [u8],
+) -> usize
+    ensures { λ r. ⌜ ((source : Bytes) → deskOf source r (now (desk .exit)) (now (out .exit)) ≡ emitAll (deskOf source at (now (desk .entry)) (now (out .entry))) (item (lineItem level) ∷ item (close (elementNo sidebar)) ∷ [])) ⌝ }
 {
-    let a = line(sink, out, level);
+    let a = line(at, desk, out, level);
     if sidebar {
-        literal(a, out, b"</sidebar>")
+        literal(a, desk, out, b"</sidebar>")
     } else {
-        literal(a, out, b"</periph>")
+        literal(a, desk, out, b"</periph>")
     }
 }

@@ -7,13 +7,13 @@ ghost use Rattle.tape.specs.Tree.{walkFrom};
 ghost use Rattle.lean.specs.Lean.{Solids};
 ghost use Rattle.events.specs.Walk.{roleOf, markerAs, nodeIn, inside as insideOf, inlineAll, noteAll};
 ghost use Rattle.events.specs.Emit.{emitAll};
-ghost use Rattle.sink.specs.Desk.{deskIn};
+ghost use Rattle.desk.specs.Desk.{deskOf};
 ghost use Rattle.lists.specs.Span.{nodesIn};
 ghost use Rattle.roles.specs.Roles.{mannerBy};
 ghost use Rattle.turns.specs.Turn.{behindOf};
 ghost use Rattle.turns.specs.declared.Behind.the-variants.{Unasked};
+use desk::Numbers;
 use lists::Span;
-use sink::Sink;
 use tape::Cursor;
 use tape::Kind;
 use tape::Sections;
@@ -34,15 +34,16 @@ fn marker(
     c: Cursor,
     depth: usize,
     outer: bool,
-    sink: Sink,
+    at: usize,
+    desk: &mut Numbers,
     out: &mut [u8],
-) -> Sink
+) -> usize
     requires { ⌜ Solids (tapeIn tape (now file)) (now solids) ⌝ }
-    ensures { λ r. ⌜ deskIn (tapeIn tape (now (file .entry)) .source) r (now (out .exit)) ≡ emitAll (deskIn (tapeIn tape (now (file .entry)) .source) sink (now (out .entry))) (markerAs (insideOf (tapeIn tape (now (file .entry))) depth) (tapeIn tape (now (file .entry))) (c .at) outer (roleOf (tapeIn tape (now (file .entry))) (c .at))) ⌝ }
+    ensures { λ r. ⌜ deskOf (tapeIn tape (now (file .entry)) .source) r (now (desk .exit)) (now (out .exit)) ≡ emitAll (deskOf (tapeIn tape (now (file .entry)) .source) at (now (desk .entry)) (now (out .entry))) (markerAs (insideOf (tapeIn tape (now (file .entry))) depth) (tapeIn tape (now (file .entry))) (c .at) outer (roleOf (tapeIn tape (now (file .entry))) (c .at))) ⌝ }
 {
     let role = roles::role_of(file, tape, c);
     if roles::is_whole(file, tape, c, role) {
-        let a = tagging::open_marker(file, tape, solids, c, role, sink, out);
+        let a = tagging::open_marker(file, tape, solids, c, role, at, desk, out);
         let z = inside(
             file,
             tape,
@@ -52,11 +53,12 @@ fn marker(
             outer,
             roles::is_note(role),
             a,
+            desk,
             out,
         );
-        tagging::close_marker(file, tape, solids, c, role, z, out)
+        tagging::close_marker(file, tape, solids, c, role, z, desk, out)
     } else {
-        tagging::write_leaf(file, tape, c, role, sink, out)
+        tagging::write_leaf(file, tape, c, role, at, desk, out)
     }
 }
 
@@ -68,11 +70,12 @@ pub fn node(
     c: Cursor,
     depth: usize,
     outer: bool,
-    sink: Sink,
+    at: usize,
+    desk: &mut Numbers,
     out: &mut [u8],
-) -> Sink
+) -> usize
     requires { ⌜ Solids (tapeIn tape (now file)) (now solids) ⌝ }
-    ensures { λ r. ⌜ deskIn (tapeIn tape (now (file .entry)) .source) r (now (out .exit)) ≡ emitAll (deskIn (tapeIn tape (now (file .entry)) .source) sink (now (out .entry))) (nodeIn (insideOf (tapeIn tape (now (file .entry))) depth) (tapeIn tape (now (file .entry))) (c .at) outer) ⌝ }
+    ensures { λ r. ⌜ deskOf (tapeIn tape (now (file .entry)) .source) r (now (desk .exit)) (now (out .exit)) ≡ emitAll (deskOf (tapeIn tape (now (file .entry)) .source) at (now (desk .entry)) (now (out .entry))) (nodeIn (insideOf (tapeIn tape (now (file .entry))) depth) (tapeIn tape (now (file .entry))) (c .at) outer) ⌝ }
 {
     let kind = c.kind(file, tape);
     if kind.code == Kind::CHAPTER {
@@ -82,17 +85,18 @@ pub fn node(
             c.number(file, tape),
             Step::Done,
             Step::Done,
-            sink,
+            at,
+            desk,
             out,
         );
     }
     if kind.code == Kind::VERSE {
-        return milestone::verse(file, tape, c, Step::Done, Step::Done, sink, out);
+        return milestone::verse(file, tape, c, Step::Done, Step::Done, at, desk, out);
     }
     if kind.code == Kind::MARKER_OPEN {
-        return marker(file, tape, solids, c, depth, outer, sink, out);
+        return marker(file, tape, solids, c, depth, outer, at, desk, out);
     }
-    sink
+    at
 }
 
 // What stands inside a container.
@@ -104,18 +108,30 @@ pub fn inside(
     depth: usize,
     outer: bool,
     note: bool,
-    sink: Sink,
+    at: usize,
+    desk: &mut Numbers,
     out: &mut [u8],
-) -> Sink
+) -> usize
     requires { ⌜ Solids (tapeIn tape (now file)) (now solids) ⌝ }
-    ensures { λ r. ⌜ deskIn (tapeIn tape (now (file .entry)) .source) r (now (out .exit)) ≡ emitAll (deskIn (tapeIn tape (now (file .entry)) .source) sink (now (out .entry))) (insideOf (tapeIn tape (now (file .entry))) depth (mannerBy note) (c .at) outer) ⌝ }
+    ensures { λ r. ⌜ deskOf (tapeIn tape (now (file .entry)) .source) r (now (desk .exit)) (now (out .exit)) ≡ emitAll (deskOf (tapeIn tape (now (file .entry)) .source) at (now (desk .entry)) (now (out .entry))) (insideOf (tapeIn tape (now (file .entry))) depth (mannerBy note) (c .at) outer) ⌝ }
 {
     if depth == 0 {
-        return sink;
+        return at;
     }
     let first = c.first_child(file, tape);
     if note {
-        note_inline(file, tape, solids, c, first, depth - 1, outer, sink, out)
+        note_inline(
+            file,
+            tape,
+            solids,
+            c,
+            first,
+            depth - 1,
+            outer,
+            at,
+            desk,
+            out,
+        )
     } else {
         let span = Span {
             cut: false,
@@ -131,7 +147,8 @@ pub fn inside(
             depth - 1,
             outer,
             Behind::Unasked,
-            sink,
+            at,
+            desk,
             out,
         )
     }
@@ -148,13 +165,14 @@ pub fn inline(
     depth: usize,
     outer: bool,
     behind: Behind,
-    sink: Sink,
+    at: usize,
+    desk: &mut Numbers,
     out: &mut [u8],
-) -> Sink
+) -> usize
     requires { ⌜ Solids (tapeIn tape (now file)) (now solids) ⌝ }
-    ensures { λ r. ⌜ deskIn (tapeIn tape (now (file .entry)) .source) r (now (out .exit)) ≡ emitAll (deskIn (tapeIn tape (now (file .entry)) .source) sink (now (out .entry))) (inlineAll (nodeIn (insideOf (tapeIn tape (now (file .entry))) depth) (tapeIn tape (now (file .entry)))) (tapeIn tape (now (file .entry))) (behindOf (tapeIn tape (now (file .entry))) parent outer behind) true (nodesIn (tapeIn tape (now (file .entry))) span first)) ⌝ }
+    ensures { λ r. ⌜ deskOf (tapeIn tape (now (file .entry)) .source) r (now (desk .exit)) (now (out .exit)) ≡ emitAll (deskOf (tapeIn tape (now (file .entry)) .source) at (now (desk .entry)) (now (out .entry))) (inlineAll (nodeIn (insideOf (tapeIn tape (now (file .entry))) depth) (tapeIn tape (now (file .entry)))) (tapeIn tape (now (file .entry))) (behindOf (tapeIn tape (now (file .entry))) parent outer behind) true (nodesIn (tapeIn tape (now (file .entry))) span first)) ⌝ }
 {
-    let mut s = sink;
+    let mut s = at;
     let mut step = first;
     let mut kept = first;
     let mut trim = true;
@@ -166,7 +184,7 @@ pub fn inline(
                 Sort::End => return s,
                 Sort::Enter => {
                     known = turns::ask(file, tape, solids, parent, outer, known);
-                    s = node(file, tape, solids, c, depth, follows(known), s, out);
+                    s = node(file, tape, solids, c, depth, follows(known), s, desk, out);
                     trim = render::trims_after(file, tape, c);
                     step = c.next_sibling(file, tape);
                     kept = step;
@@ -185,9 +203,10 @@ pub fn inline(
                         known,
                         kept,
                         s,
+                        desk,
                         out,
                     );
-                    s = g.sink;
+                    s = g.at;
                     trim = g.trim;
                     known = g.behind;
                     kept = g.kept;
@@ -207,13 +226,14 @@ fn note_inline(
     first: Step,
     depth: usize,
     outer: bool,
-    sink: Sink,
+    at: usize,
+    desk: &mut Numbers,
     out: &mut [u8],
-) -> Sink
+) -> usize
     requires { ⌜ Solids (tapeIn tape (now file)) (now solids) ⌝ }
-    ensures { λ r. ⌜ deskIn (tapeIn tape (now (file .entry)) .source) r (now (out .exit)) ≡ emitAll (deskIn (tapeIn tape (now (file .entry)) .source) sink (now (out .entry))) (noteAll (nodeIn (insideOf (tapeIn tape (now (file .entry))) depth) (tapeIn tape (now (file .entry)))) (tapeIn tape (now (file .entry))) (parent .at + 1) (behindOf (tapeIn tape (now (file .entry))) parent outer Unasked) true (walkFrom (tapeIn tape (now (file .entry))) first)) ⌝ }
+    ensures { λ r. ⌜ deskOf (tapeIn tape (now (file .entry)) .source) r (now (desk .exit)) (now (out .exit)) ≡ emitAll (deskOf (tapeIn tape (now (file .entry)) .source) at (now (desk .entry)) (now (out .entry))) (noteAll (nodeIn (insideOf (tapeIn tape (now (file .entry))) depth) (tapeIn tape (now (file .entry)))) (tapeIn tape (now (file .entry))) (parent .at + 1) (behindOf (tapeIn tape (now (file .entry))) parent outer Unasked) true (walkFrom (tapeIn tape (now (file .entry))) first)) ⌝ }
 {
-    let mut s = sink;
+    let mut s = at;
     let mut step = first;
     let mut kept = first;
     let mut trim = true;
@@ -225,7 +245,7 @@ fn note_inline(
                 Sort::End => return s,
                 Sort::Enter => {
                     known = turns::ask(file, tape, solids, parent, outer, known);
-                    s = node(file, tape, solids, c, depth, follows(known), s, out);
+                    s = node(file, tape, solids, c, depth, follows(known), s, desk, out);
                     trim = render::trims_after(file, tape, c);
                     step = c.next_sibling(file, tape);
                     kept = step;
@@ -243,9 +263,10 @@ fn note_inline(
                         known,
                         kept,
                         s,
+                        desk,
                         out,
                     );
-                    s = g.sink;
+                    s = g.at;
                     trim = g.trim;
                     known = g.behind;
                     kept = g.kept;

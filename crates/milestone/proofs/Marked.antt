@@ -2,10 +2,10 @@
 use mathlib.Core.Path.{_≡_, refl, sym, ap, _∙_}
 use mathlib.Core.Bool.{Bool, true, false}
 use mathlib.Core.List.{List, [], _∷_, _++_, append-assoc, append-nil}
-use mathlib.Core.Option.{Option}
+use mathlib.Core.Option.{Option, none}
 use Prim.Native.Nat.{ℕ, _<_}
 use native.Mathlib.Omega.{arith}
-use lib.ListN.{length}
+use lib.ListN.{length, getD}
 use Rattle.parts.specs.Bytes.{Bytes, b, part}
 use Rattle.chars.specs.Escape.{escape}
 use Rattle.chars.specs.Decimal.{decimal}
@@ -15,7 +15,7 @@ use Rattle.words.specs.declared.Part.{Part}
 use Rattle.texts.proofs.Texts.{joined-blank, joined-some}
 use Rattle.window.specs.Page.{Page, pageOf, paint}
 use Rattle.window.specs.declared.Window.{Window}
-use Rattle.window.proofs.Paint.{paint-two}
+use Rattle.window.proofs.Paint.{paint-two, paint-from}
 use Rattle.tape.specs.File.{tapeIn}
 use Rattle.tape.specs.declared.Sections.{Sections}
 use Rattle.tape.specs.declared.Step.{Step}
@@ -27,15 +27,14 @@ use Rattle.fold.specs.Fold.{foldedNumber}
 use Rattle.tags.specs.Names.{nameOf}
 use Rattle.tags.specs.Items.{Item, empty, valueOf, attrBytes, attrsBytes, bytesOf as itemBytes, render}
 use Rattle.tags.proofs.Rendered.{render-append, attrs-append}
-use Rattle.marks.specs.Mark.{namedBook, nextChapter, nextVerse}
+use Rattle.marks.specs.Mark.{namedBook, nextChapter, nextVerse, allClosed}
 use Rattle.marks.specs.declared.Marks.{Marks}
 use Rattle.events.specs.Event.{Event, perhaps, rawly, escaped, chapter as chapterEvent, verse as verseEvent, book as bookEvent}
 use Rattle.events.specs.Pairing.{State, chapterId, verseId, after, endOf, chapterAttrs, verseAttrs, bookAttrs, bookItems, itemsOf, lastEnds}
-use Rattle.events.specs.Emit.{Desk, emit, lay}
-use Rattle.sink.specs.Desk.{chapterIn, verseIn, stateIn, windowIn, overBy, deskIn, shownAs}
-use Rattle.sink.specs.declared.Sink.{Sink}
-use Rattle.sink.proofs.Chains.{paint-three, paint-four}
-use Rattle.sink.proofs.Idents.{shown-decimal}
+use Rattle.events.specs.Emit.{Desk, emit}
+use Rattle.desk.specs.Desk.{chapterIn, verseIn, stateIn, marksOf, Kept, deskOf, ended, shownAs}
+use Rattle.desk.proofs.Chains.{paint-three, paint-four}
+use Rattle.desk.proofs.Idents.{shown-decimal}
 
 -- ---- runs
 
@@ -149,12 +148,22 @@ module _ (code rest : Bytes) (p q : Page) {r : Page} (eq : q ≡ paint p (b "<bo
 desk-made : {p q : Page} {s z : State} → p ≡ q → s ≡ z → _≡_ {A = Desk} (record { page = p; state = s }) (record { page = q; state = z })
 desk-made {p} {q} {s} {z} ep es = ap (λ (u : Page). record { page = u; state = s }) ep ∙ ap (λ (u : State). record { page = q; state = u }) es
 
--- an event: its items on the page, and the marks behind it
-emitted-by : (source : Bytes) (sink : Sink) (out last : Bytes) (v : Window) (m : Marks) (e : Event)
-    → pageOf v last ≡ paint (pageOf (windowIn sink) out) (render (itemsOf (stateIn source (sink .marks)) e)) → stateIn source m ≡ after (stateIn source (sink .marks)) e
-    → deskIn source (record { at = v .at; from = v .from; marks = m }) last ≡ emit (deskIn source sink out) e
+-- bytes through the window of a desk, and the record that its numbers hold behind them
+desk-kept : (source : Bytes) (at : ℕ) (d : List ℕ) (out x : Bytes) {last-d : List ℕ} {last : Bytes} {v : Window} {m : Marks} {s : State}
+    → pageOf v last ≡ paint (record { at = at; from = getD d 0 0; buf = out }) x → Kept d m last-d → stateIn source m ≡ s
+    → deskOf source (v .at) last-d last ≡ record { page = paint (record { at = at; from = getD d 0 0; buf = out }) x; state = s }
+desk-kept source at d out x {last = last} {v = v} ev k es =
+    let from : v .from ≡ getD d 0 0 = ap (λ (p : Page). p .from) ev ∙ paint-from (record { at = at; from = getD d 0 0; buf = out }) x in
+    desk-made (ap (λ (f : ℕ). record { at = v .at; from = f; buf = last }) (k .from ∙ sym from) ∙ ev) (ap (stateIn source) (k .marks) ∙ es)
+
+-- an event: its items on the page, and the record behind it
+emitted-by : (source : Bytes) (at : ℕ) (d : List ℕ) (out : Bytes) {last-d : List ℕ} {last : Bytes} {v : Window} {m n : Marks} (e : Event) → m ≡ marksOf d
+    → pageOf v last ≡ paint (record { at = at; from = getD d 0 0; buf = out }) (render (itemsOf (stateIn source m) e)) → Kept d n last-d → stateIn source n ≡ after (stateIn source m) e
+    → deskOf source (v .at) last-d last ≡ emit (deskOf source at d out) e
 unfolding emit
-emitted-by source sink out last v m e ep es = desk-made ep es
+emitted-by source at d out {m = m} e em ev k es =
+    desk-kept source at d out (render (itemsOf (stateIn source m) e)) ev k es
+    ∙ ap (λ (z : Marks). emit (record { page = record { at = at; from = getD d 0 0; buf = out }; state = stateIn source z }) e) em
 
 one-bytes : (is : List Item) (i : Item) → render is ++ itemBytes i ≡ render (is ++ (i ∷ []))
 unfolding render
@@ -173,6 +182,10 @@ module _ (source : Bytes) (m : Marks) where
   unfolding stateIn after
   book-state code rest = refl
 
+  closed-state : stateIn source (allClosed m) ≡ record { book = stateIn source m .book; number = stateIn source m .number; chapter = none; verse = none }
+  unfolding stateIn allClosed chapterIn verseIn
+  closed-state = refl
+
 -- what is open ends, the verse first
 pub ends-put : (source : Bytes) (m : Marks) (p q : Page) {r : Page} → q ≡ paint p (render (endOf 4 (verseIn source (m .verse))))
     → r ≡ paint q (render (endOf 3 (chapterIn source (m .chapter)))) → r ≡ paint p (render (lastEnds (stateIn source m)))
@@ -189,77 +202,77 @@ chapter-items s n alt published =
     let tag : Item = empty 3 (chapterAttrs (s .book) n alt published) in
     one-bytes (lastEnds s) tag ∙ ap render (append-assoc (endOf 4 (s .verse)) (endOf 3 (s .chapter)) (tag ∷ []))
 
--- what was painted through the window of a sink, from a source
-through : (source : Bytes) (sink : Sink) (out : Bytes) {w : Window} {s : Bytes} {q : Page} (f : Bytes → Bytes) → w ≡ windowIn sink → s ≡ source → q ≡ paint (pageOf w out) (f s)
-    → q ≡ paint (pageOf (windowIn sink) out) (f source)
-through source sink out {w} {s} f ew es eq =
-    eq ∙ ap (λ (u : Window). paint (pageOf u out) (f s)) ew ∙ ap (λ (z : Bytes). paint (pageOf (windowIn sink) out) (f z)) es
+-- what was painted from a source
+through : (p : Page) {q : Page} {source s : Bytes} (f : Bytes → Bytes) → s ≡ source → q ≡ paint p (f s) → q ≡ paint p (f source)
+through p f es eq = eq ∙ ap (λ (z : Bytes). paint p (f z)) es
 
-module _ (c : Sections) (file : Bytes) (sink : Sink) (out : Bytes) {last : Bytes} {v : Window} where
-  pub chapter-emitted : (n : ℕ) (alt published : Step) {w : Window} {s : Bytes} → w ≡ windowIn sink → s ≡ tapeIn c file .source
-      → (q : Page) → q ≡ paint (pageOf w out) (render (lastEnds (stateIn s (sink .marks))))
-      → pageOf v last ≡ paint q (itemBytes (empty 3 (chapterAttrs (bytesOf (tapeIn c file .source) (sink .marks .book)) n (foldedNumber (tapeIn c file) alt) (foldedNumber (tapeIn c file) published))))
-      → {m : Marks} → m ≡ nextChapter (sink .marks) n
-      → deskIn (tapeIn c file .source) (record { at = v .at; from = v .from; marks = m }) last
-      ≡ emit (deskIn (tapeIn c file .source) sink out) (chapterEvent n (foldedNumber (tapeIn c file) alt) (foldedNumber (tapeIn c file) published))
+module _ (c : Sections) (file : Bytes) (at : ℕ) (d : List ℕ) (out : Bytes) {last-d : List ℕ} {last : Bytes} {v : Window} {m n : Marks} (em : m ≡ marksOf d) where
+  pub chapter-emitted : (i : ℕ) (alt published : Step) {s : Bytes} → s ≡ tapeIn c file .source
+      → (q : Page) → q ≡ paint (record { at = at; from = getD d 0 0; buf = out }) (render (lastEnds (stateIn s m)))
+      → pageOf v last ≡ paint q (itemBytes (empty 3 (chapterAttrs (bytesOf (tapeIn c file .source) (m .book)) i (foldedNumber (tapeIn c file) alt) (foldedNumber (tapeIn c file) published))))
+      → n ≡ nextChapter m i → Kept d n last-d
+      → deskOf (tapeIn c file .source) (v .at) last-d last
+      ≡ emit (deskOf (tapeIn c file .source) at d out) (chapterEvent i (foldedNumber (tapeIn c file) alt) (foldedNumber (tapeIn c file) published))
   unfolding stateIn
-  chapter-emitted n alt published ew es q eq ev {m} em =
+  chapter-emitted i alt published es q eq ev en k =
       let source : Bytes = tapeIn c file .source in
-      let state : State = stateIn source (sink .marks) in
+      let state : State = stateIn source m in
       let other : Option Bytes = foldedNumber (tapeIn c file) alt in
       let shown : Option Bytes = foldedNumber (tapeIn c file) published in
-      let p : Page = pageOf (windowIn sink) out in
-      let first : q ≡ paint p (render (lastEnds state)) = through source sink out (λ (z : Bytes). render (lastEnds (stateIn z (sink .marks)))) ew es eq in
-      emitted-by source sink out last v m (chapterEvent n other shown)
-      (paint-two p (render (lastEnds state)) (itemBytes (empty 3 (chapterAttrs (state .book) n other shown))) first ev ∙ ap (paint p) (chapter-items state n other shown))
-      (ap (stateIn source) em ∙ chapter-state source (sink .marks) n other shown)
+      let p : Page = record { at = at; from = getD d 0 0; buf = out } in
+      let first : q ≡ paint p (render (lastEnds state)) = through p (λ (z : Bytes). render (lastEnds (stateIn z m))) es eq in
+      emitted-by source at d out (chapterEvent i other shown) em
+      (paint-two p (render (lastEnds state)) (itemBytes (empty 3 (chapterAttrs (state .book) i other shown))) first ev ∙ ap (paint p) (chapter-items state i other shown))
+      k (ap (stateIn source) en ∙ chapter-state source m i other shown)
 
-  pub verse-emitted : (k : ℕ) (alt published : Step) {label : Part} → IsLabel (tapeIn c file) k label → {w : Window} {s : Bytes} → w ≡ windowIn sink → s ≡ tapeIn c file .source
-      → (q : Page) → q ≡ paint (pageOf w out) (render (endOf 4 (verseIn s (sink .marks .verse))))
-      → pageOf v last ≡ paint q (itemBytes (empty 4 (verseAttrs (bytesOf (tapeIn c file .source) (sink .marks .book)) (sink .marks .number) (bytesOf (tapeIn c file .source) label) (foldedNumber (tapeIn c file) alt) (foldedNumber (tapeIn c file) published))))
-      → {m : Marks} → m ≡ nextVerse (sink .marks) label
-      → deskIn (tapeIn c file .source) (record { at = v .at; from = v .from; marks = m }) last
-      ≡ emit (deskIn (tapeIn c file .source) sink out) (verseEvent (labelOf (tapeIn c file) k) (foldedNumber (tapeIn c file) alt) (foldedNumber (tapeIn c file) published))
+  pub verse-emitted : (i : ℕ) (alt published : Step) {label : Part} → IsLabel (tapeIn c file) i label → {s : Bytes} → s ≡ tapeIn c file .source
+      → (q : Page) → q ≡ paint (record { at = at; from = getD d 0 0; buf = out }) (render (endOf 4 (verseIn s (m .verse))))
+      → pageOf v last ≡ paint q (itemBytes (empty 4 (verseAttrs (bytesOf (tapeIn c file .source) (m .book)) (m .number) (bytesOf (tapeIn c file .source) label) (foldedNumber (tapeIn c file) alt) (foldedNumber (tapeIn c file) published))))
+      → n ≡ nextVerse m label → Kept d n last-d
+      → deskOf (tapeIn c file .source) (v .at) last-d last
+      ≡ emit (deskOf (tapeIn c file .source) at d out) (verseEvent (labelOf (tapeIn c file) i) (foldedNumber (tapeIn c file) alt) (foldedNumber (tapeIn c file) published))
   unfolding stateIn itemsOf
-  verse-emitted k alt published {label} is ew es q eq ev {m} em =
+  verse-emitted i alt published {label} is es q eq ev en k =
       let source : Bytes = tapeIn c file .source in
       let name : Bytes = part source (label .start) (label .len) in
       let other : Option Bytes = foldedNumber (tapeIn c file) alt in
       let shown : Option Bytes = foldedNumber (tapeIn c file) published in
-      let ends : List Item = endOf 4 (verseIn source (sink .marks .verse)) in
-      let tag : Item = empty 4 (verseAttrs (bytesOf source (sink .marks .book)) (sink .marks .number) name other shown) in
-      let p : Page = pageOf (windowIn sink) out in
-      let first : q ≡ paint p (render ends) = through source sink out (λ (z : Bytes). render (endOf 4 (verseIn z (sink .marks .verse)))) ew es eq in
-      emitted-by source sink out last v m (verseEvent name other shown)
+      let ends : List Item = endOf 4 (verseIn source (m .verse)) in
+      let tag : Item = empty 4 (verseAttrs (bytesOf source (m .book)) (m .number) name other shown) in
+      let p : Page = record { at = at; from = getD d 0 0; buf = out } in
+      let first : q ≡ paint p (render ends) = through p (λ (z : Bytes). render (endOf 4 (verseIn z (m .verse)))) es eq in
+      emitted-by source at d out (verseEvent name other shown) em
       (paint-two p (render ends) (itemBytes tag) first ev ∙ ap (paint p) (one-bytes ends tag))
-      (ap (stateIn source) em ∙ verse-state source (sink .marks) label other shown)
-      ∙ ap (λ (z : Bytes). emit (deskIn source sink out) (verseEvent z other shown)) (is .bytes)
+      k (ap (stateIn source) en ∙ verse-state source m label other shown)
+      ∙ ap (λ (z : Bytes). emit (deskOf source at d out) (verseEvent z other shown)) (is .bytes)
 
-  pub book-emitted : (k : ℕ) {p : Part} → IsCode (tapeIn c file) k p → {s code : Bytes} → s ≡ tapeIn c file .source → code ≡ part s (p .start) (p .len) → {w : Window} → w ≡ windowIn sink
-      → {rest : Bytes} → rest ≡ remainder (stepText (tapeIn c file) (firstText (tapeIn c file) k))
-      → pageOf v last ≡ paint (pageOf w out) (render (bookItems code (joined (words Unicode rest))))
-      → {m : Marks} → m ≡ namedBook (sink .marks) p
-      → deskIn (tapeIn c file .source) (record { at = v .at; from = v .from; marks = m }) last
-      ≡ emit (deskIn (tapeIn c file .source) sink out) (bookEvent (bookCode (tapeIn c file) k) (bookRest (tapeIn c file) k))
+  pub book-emitted : (i : ℕ) {p : Part} → IsCode (tapeIn c file) i p → {s code : Bytes} → s ≡ tapeIn c file .source → code ≡ part s (p .start) (p .len)
+      → {rest : Bytes} → rest ≡ remainder (stepText (tapeIn c file) (firstText (tapeIn c file) i))
+      → pageOf v last ≡ paint (record { at = at; from = getD d 0 0; buf = out }) (render (bookItems code (joined (words Unicode rest))))
+      → n ≡ namedBook m p → Kept d n last-d
+      → deskOf (tapeIn c file .source) (v .at) last-d last
+      ≡ emit (deskOf (tapeIn c file .source) at d out) (bookEvent (bookCode (tapeIn c file) i) (bookRest (tapeIn c file) i))
   unfolding itemsOf
-  book-emitted k {p} is {s} {code} es ec {w} ew {rest} er ev {m} em =
+  book-emitted i {p} is {s} {code} es ec {rest} er ev en k =
       let source : Bytes = tapeIn c file .source in
       let name : Bytes = part source (p .start) (p .len) in
       let named : code ≡ name = ec ∙ ap (λ (z : Bytes). part z (p .start) (p .len)) es in
-      let behind : joined (words Unicode rest) ≡ bookRest (tapeIn c file) k = rest-words (tapeIn c file) k er in
-      emitted-by source sink out last v m (bookEvent name (bookRest (tapeIn c file) k))
+      let behind : joined (words Unicode rest) ≡ bookRest (tapeIn c file) i = rest-words (tapeIn c file) i er in
+      let start : Page = record { at = at; from = getD d 0 0; buf = out } in
+      emitted-by source at d out (bookEvent name (bookRest (tapeIn c file) i)) em
       (ev
-      ∙ ap (λ (u : Window). paint (pageOf u out) (render (bookItems code (joined (words Unicode rest))))) ew
-      ∙ ap (λ (z : Bytes). paint (pageOf (windowIn sink) out) (render (bookItems z (joined (words Unicode rest))))) named
-      ∙ ap (λ (z : Bytes). paint (pageOf (windowIn sink) out) (render (bookItems name z))) behind)
-      (ap (stateIn source) em ∙ book-state source (sink .marks) p (bookRest (tapeIn c file) k))
-      ∙ ap (λ (z : Bytes). emit (deskIn source sink out) (bookEvent z (bookRest (tapeIn c file) k))) (is .bytes)
+      ∙ ap (λ (z : Bytes). paint start (render (bookItems z (joined (words Unicode rest))))) named
+      ∙ ap (λ (z : Bytes). paint start (render (bookItems name z))) behind)
+      k (ap (stateIn source) en ∙ book-state source m p (bookRest (tapeIn c file) i))
+      ∙ ap (λ (z : Bytes). emit (deskOf source at d out) (bookEvent z (bookRest (tapeIn c file) i))) (is .bytes)
 
-  pub ends-laid : {w : Window} {s : Bytes} → w ≡ windowIn sink → s ≡ tapeIn c file .source → pageOf v last ≡ paint (pageOf w out) (render (lastEnds (stateIn s (sink .marks))))
-      → {r : Sink} → r ≡ overBy sink v
-      → deskIn (tapeIn c file .source) r last ≡ lay (deskIn (tapeIn c file .source) sink out) (lastEnds (stateIn (tapeIn c file .source) (sink .marks)))
-  unfolding lay
-  ends-laid ew es ev er =
+  pub ends-ended : {s : Bytes} → s ≡ tapeIn c file .source → pageOf v last ≡ paint (record { at = at; from = getD d 0 0; buf = out }) (render (lastEnds (stateIn s m)))
+      → n ≡ allClosed m → Kept d n last-d
+      → deskOf (tapeIn c file .source) (v .at) last-d last ≡ ended (deskOf (tapeIn c file .source) at d out)
+  unfolding ended
+  ends-ended es ev en k =
       let source : Bytes = tapeIn c file .source in
-      ap (λ (u : Sink). deskIn source u last) er
-      ∙ desk-made (through source sink out (λ (z : Bytes). render (lastEnds (stateIn z (sink .marks)))) ew es ev) refl
+      let p : Page = record { at = at; from = getD d 0 0; buf = out } in
+      desk-kept source at d out (render (lastEnds (stateIn source m))) (through p (λ (z : Bytes). render (lastEnds (stateIn z m))) es ev)
+      k (ap (stateIn source) en ∙ closed-state source m)
+      ∙ ap (λ (z : Marks). ended (record { page = p; state = stateIn source z })) em

@@ -15,14 +15,14 @@ ghost use Rattle.words.specs.Words.{words, joined, bytesOf};
 ghost use Rattle.words.specs.declared.Set.the-variants.{Unicode};
 ghost use Rattle.events.specs.Event.{perhaps, chapter as chapterEvent, verse as verseEvent, book as bookEvent};
 ghost use Rattle.events.specs.Pairing.{chapterId, verseId, chapterAttrs, verseAttrs, bookItems, lastEnds};
-ghost use Rattle.events.specs.Emit.{emit, lay};
-ghost use Rattle.sink.specs.Desk.{stateIn, deskIn, shownAs};
+ghost use Rattle.events.specs.Emit.{emit};
+ghost use Rattle.desk.specs.Desk.{stateIn, deskOf, ended, shownAs};
+use desk::Numbers;
+use desk::end_chapter;
+use desk::end_verse;
+use desk::put_chapter_id;
+use desk::put_verse_id;
 use marks::Marks;
-use sink::Sink;
-use sink::end_chapter;
-use sink::end_verse;
-use sink::put_chapter_id;
-use sink::put_verse_id;
 use tape::Cursor;
 use tape::Sections;
 use tape::Step;
@@ -138,20 +138,22 @@ pub fn chapter(
     number: u32,
     alt: Step,
     published: Step,
-    sink: Sink,
+    at: usize,
+    desk: &mut Numbers,
     out: &mut [u8],
-) -> Sink
-    ensures { λ r. ⌜ deskIn (tapeIn tape (now (file .entry)) .source) r (now (out .exit)) ≡ emit (deskIn (tapeIn tape (now (file .entry)) .source) sink (now (out .entry))) (chapterEvent number (foldedNumber (tapeIn tape (now (file .entry))) alt) (foldedNumber (tapeIn tape (now (file .entry))) published)) ⌝ }
+) -> usize
+    ensures { λ r. ⌜ deskOf (tapeIn tape (now (file .entry)) .source) r (now (desk .exit)) (now (out .exit)) ≡ emit (deskOf (tapeIn tape (now (file .entry)) .source) at (now (desk .entry)) (now (out .entry))) (chapterEvent number (foldedNumber (tapeIn tape (now (file .entry))) alt) (foldedNumber (tapeIn tape (now (file .entry))) published)) ⌝ }
 {
-    let m = sink.marks;
-    let a = put_ends(sink.window(), out, tape::source(file, tape), m);
+    let m = desk::marks_of(*desk);
+    let a = put_ends(
+        Window { at, from: desk[0] },
+        out,
+        tape::source(file, tape),
+        m,
+    );
     let d = put_chapter(a, out, file, tape, m.book, number, alt, published);
-    let marks = marks::next_chapter(m, number);
-    Sink {
-        at: d.at,
-        from: d.from,
-        marks,
-    }
+    desk::keep(desk, marks::next_chapter(m, number));
+    d.at
 }
 
 // A verse ends the one that is open and opens itself.
@@ -161,22 +163,24 @@ pub fn verse(
     c: Cursor,
     alt: Step,
     published: Step,
-    sink: Sink,
+    at: usize,
+    desk: &mut Numbers,
     out: &mut [u8],
-) -> Sink
-    ensures { λ r. ⌜ deskIn (tapeIn tape (now (file .entry)) .source) r (now (out .exit)) ≡ emit (deskIn (tapeIn tape (now (file .entry)) .source) sink (now (out .entry))) (verseEvent (labelOf (tapeIn tape (now (file .entry))) (c .at)) (foldedNumber (tapeIn tape (now (file .entry))) alt) (foldedNumber (tapeIn tape (now (file .entry))) published)) ⌝ }
+) -> usize
+    ensures { λ r. ⌜ deskOf (tapeIn tape (now (file .entry)) .source) r (now (desk .exit)) (now (out .exit)) ≡ emit (deskOf (tapeIn tape (now (file .entry)) .source) at (now (desk .entry)) (now (out .entry))) (verseEvent (labelOf (tapeIn tape (now (file .entry))) (c .at)) (foldedNumber (tapeIn tape (now (file .entry))) alt) (foldedNumber (tapeIn tape (now (file .entry))) published)) ⌝ }
 {
-    let m = sink.marks;
+    let m = desk::marks_of(*desk);
     let label = render::verse_label(file, tape, c);
     let held = m.verse;
-    let a = end_verse(sink.window(), out, tape::source(file, tape), held);
+    let a = end_verse(
+        Window { at, from: desk[0] },
+        out,
+        tape::source(file, tape),
+        held,
+    );
     let d = put_verse(a, out, file, tape, m.book, m.number, label, alt, published);
-    let marks = marks::next_verse(m, label);
-    Sink {
-        at: d.at,
-        from: d.from,
-        marks,
-    }
+    desk::keep(desk, marks::next_verse(m, label));
+    d.at
 }
 
 // A book's tag up to its style; the code is raw.
@@ -210,26 +214,46 @@ fn put_book(w: Window, out: &mut [u8], code: &[u8], rest: &[u8]) -> Window
 }
 
 // A book names what opens from here on.
-pub fn book(file: &[u8], tape: Sections, c: Cursor, sink: Sink, out: &mut [u8]) -> Sink
-    ensures { λ r. ⌜ deskIn (tapeIn tape (now (file .entry)) .source) r (now (out .exit)) ≡ emit (deskIn (tapeIn tape (now (file .entry)) .source) sink (now (out .entry))) (bookEvent (bookCode (tapeIn tape (now (file .entry))) (c .at)) (bookRest (tapeIn tape (now (file .entry))) (c .at))) ⌝ }
+pub fn book(
+    file: &[u8],
+    tape: Sections,
+    c: Cursor,
+    at: usize,
+    desk: &mut Numbers,
+    out: &mut [u8],
+) -> usize
+    ensures { λ r. ⌜ deskOf (tapeIn tape (now (file .entry)) .source) r (now (desk .exit)) (now (out .exit)) ≡ emit (deskOf (tapeIn tape (now (file .entry)) .source) at (now (desk .entry)) (now (out .entry))) (bookEvent (bookCode (tapeIn tape (now (file .entry))) (c .at)) (bookRest (tapeIn tape (now (file .entry))) (c .at))) ⌝ }
 {
-    let m = sink.marks;
+    let m = desk::marks_of(*desk);
     let p = render::book_code(file, tape, c);
     let code = parts::part(tape::source(file, tape), p.start, p.len);
-    let w = put_book(sink.window(), out, code, render::book_rest(file, tape, c));
-    let marks = m.named_book(p);
-    Sink {
-        at: w.at,
-        from: w.from,
-        marks,
-    }
+    let w = put_book(
+        Window { at, from: desk[0] },
+        out,
+        code,
+        render::book_rest(file, tape, c),
+    );
+    desk::keep(desk, m.named_book(p));
+    w.at
 }
 
 // The ends of what is still open, before the last new line.
-pub fn last_ends(file: &[u8], tape: Sections, sink: Sink, out: &mut [u8]) -> Sink
-    ensures { λ r. ⌜ deskIn (tapeIn tape (now (file .entry)) .source) r (now (out .exit)) ≡ lay (deskIn (tapeIn tape (now (file .entry)) .source) sink (now (out .entry))) (lastEnds (stateIn (tapeIn tape (now (file .entry)) .source) (sink .marks))) ⌝ }
+pub fn last_ends(
+    file: &[u8],
+    tape: Sections,
+    at: usize,
+    desk: &mut Numbers,
+    out: &mut [u8],
+) -> usize
+    ensures { λ r. ⌜ deskOf (tapeIn tape (now (file .entry)) .source) r (now (desk .exit)) (now (out .exit)) ≡ ended (deskOf (tapeIn tape (now (file .entry)) .source) at (now (desk .entry)) (now (out .entry))) ⌝ }
 {
-    let m = sink.marks;
-    let w = put_ends(sink.window(), out, tape::source(file, tape), m);
-    sink.over(w)
+    let m = desk::marks_of(*desk);
+    let w = put_ends(
+        Window { at, from: desk[0] },
+        out,
+        tape::source(file, tape),
+        m,
+    );
+    desk::keep(desk, marks::all_closed(m));
+    w.at
 }

@@ -1,8 +1,9 @@
 -- Tags of cells, rows and tables.
 use mathlib.Core.Path.{_≡_, refl, sym, ap, _∙_}
 use mathlib.Core.Bool.{Bool, true, false}
-use mathlib.Core.List.{[], _∷_, _++_, append-assoc}
+use mathlib.Core.List.{List, [], _∷_, _++_, append-assoc}
 use Prim.Native.Nat.{ℕ}
+use lib.ListN.{getD}
 use Rattle.parts.specs.Bytes.{Bytes, b}
 use Rattle.chars.specs.Escape.{escape, escapedByte}
 use Rattle.window.specs.Page.{Page, pageOf, paint}
@@ -18,14 +19,13 @@ use Rattle.render.specs.Note.{cellAlign, alignWord}
 use Rattle.render.specs.declared.note.Align.{Align}
 use Rattle.render.specs.declared.note.Align.the-variants.{Start, Center, End}
 use Rattle.render.proofs.Shapes.{kind-is, kind-not}
-use Rattle.tags.specs.Items.{start, empty, close, line, valueOf, attrBytes, attrsBytes, bytesOf}
+use Rattle.tags.specs.Items.{Item, start, empty, close, line, valueOf, attrBytes, attrsBytes, bytesOf}
 use Rattle.tags.specs.Names.{nameOf}
 use Rattle.events.specs.Event.{item, rawly, escaped}
 use Rattle.events.specs.Walk.{isKnown, isCell, style, styled}
-use Rattle.events.specs.Emit.{emit, emitAll}
-use Rattle.sink.specs.Desk.{windowIn, overBy, deskIn, putOn}
-use Rattle.sink.specs.declared.Sink.{Sink}
-use Rattle.sink.proofs.Chains.{paint-three, desk-item, on-line}
+use Rattle.events.specs.Emit.{Desk, emit, emitAll}
+use Rattle.desk.specs.Desk.{deskOf, putOn}
+use Rattle.desk.proofs.Chains.{paint-three, item-on, desk-item}
 use Rattle.tagging.proofs.Written.{start-styled, empty-styled}
 use Rattle.tables.specs.Rows.{rowOpens, rowCloses, tableOpens, tableCloses}
 
@@ -95,49 +95,46 @@ module _ (name : Bytes) where
   unfolding nameOf
   empty-cell = cell-tail (b " />") ∙ sym (empty-styled 12 name (escaped (b "align") (alignWord (cellAlign name)) ∷ []))
 
-module _ (t : Tape) (k : ℕ) (sink : Sink) {w v : Window} {r : Sink} (out : Bytes) {last : Bytes} where
-  pub cell-opened : {name : Bytes} {p : Page} → w ≡ windowIn sink → name ≡ markerName t k
-      → p ≡ paint (pageOf w out) (b "<cell style=\"" ++ (name ++ (b "\" align=\"" ++ (alignWord (cellAlign name) ++ b "\""))))
-      → pageOf v last ≡ paint p (b ">") → r ≡ overBy sink v
-      → deskIn (t .source) r last
-      ≡ emit (deskIn (t .source) sink out) (item (start 12 (style t k ∷ escaped (b "align") (alignWord (cellAlign (markerName t k))) ∷ [])))
-  unfolding style
-  cell-opened ew en ep ev er =
-      desk-item sink out (start 12 (style t k ∷ escaped (b "align") (alignWord (cellAlign (markerName t k))) ∷ [])) ew
-      (paint-two (pageOf w out) (cellBytes (markerName t k)) (b ">") (rw en at ep) ev ∙ ap (paint (pageOf w out)) (start-cell (markerName t k)))
-      er (t .source)
+module _ (t : Tape) (k at : ℕ) (d : List ℕ) (out : Bytes) {last name : Bytes} {v : Window} {p : Page} (en : name ≡ markerName t k)
+    (ep : p ≡ paint (record { at = at; from = getD d 0 0; buf = out }) (b "<cell style=\"" ++ (name ++ (b "\" align=\"" ++ (alignWord (cellAlign name) ++ b "\""))))) where
+  cell-behind : (z : Bytes) {x : Bytes} → pageOf v last ≡ paint p z → cellBytes (markerName t k) ++ z ≡ x → pageOf v last ≡ paint (record { at = at; from = getD d 0 0; buf = out }) x
+  cell-behind z ev ez =
+      let start : Page = record { at = at; from = getD d 0 0; buf = out } in
+      paint-two start (cellBytes (markerName t k)) z (rw en at ep) ev ∙ ap (paint start) ez
 
-  pub cell-emptied : {name : Bytes} {p : Page} → w ≡ windowIn sink → name ≡ markerName t k
-      → p ≡ paint (pageOf w out) (b "<cell style=\"" ++ (name ++ (b "\" align=\"" ++ (alignWord (cellAlign name) ++ b "\""))))
-      → pageOf v last ≡ paint p (b " />") → r ≡ overBy sink v
-      → deskIn (t .source) r last
-      ≡ emit (deskIn (t .source) sink out) (item (empty 12 (style t k ∷ escaped (b "align") (alignWord (cellAlign (markerName t k))) ∷ [])))
+  pub cell-opened : pageOf v last ≡ paint p (b ">")
+      → deskOf (t .source) (v .at) d last
+      ≡ emit (deskOf (t .source) at d out) (item (start 12 (style t k ∷ escaped (b "align") (alignWord (cellAlign (markerName t k))) ∷ [])))
   unfolding style
-  cell-emptied ew en ep ev er =
-      desk-item sink out (empty 12 (style t k ∷ escaped (b "align") (alignWord (cellAlign (markerName t k))) ∷ [])) ew
-      (paint-two (pageOf w out) (cellBytes (markerName t k)) (b " />") (rw en at ep) ev ∙ ap (paint (pageOf w out)) (empty-cell (markerName t k)))
-      er (t .source)
+  cell-opened ev =
+      desk-item at d out (start 12 (style t k ∷ escaped (b "align") (alignWord (cellAlign (markerName t k))) ∷ [])) (cell-behind (b ">") ev (start-cell (markerName t k))) (t .source)
+
+  pub cell-emptied : pageOf v last ≡ paint p (b " />")
+      → deskOf (t .source) (v .at) d last
+      ≡ emit (deskOf (t .source) at d out) (item (empty 12 (style t k ∷ escaped (b "align") (alignWord (cellAlign (markerName t k))) ∷ [])))
+  unfolding style
+  cell-emptied ev =
+      desk-item at d out (empty 12 (style t k ∷ escaped (b "align") (alignWord (cellAlign (markerName t k))) ∷ [])) (cell-behind (b " />") ev (empty-cell (markerName t k))) (t .source)
 
 -- ---- tags on lines of their own
 
-module _ (level : ℕ) (sink a r : Sink) (out mid last : Bytes)
-    (ea : (source : Bytes) → deskIn source a mid ≡ emit (deskIn source sink out) (item (line level))) where
-  pub row-opened : ((source : Bytes) → deskIn source r last ≡ putOn (deskIn source a mid) (b "<row style=\"tr\">"))
-      → (source : Bytes) → deskIn source r last ≡ emitAll (deskIn source sink out) (rowOpens level)
+module _ (level : ℕ) (d : Desk) {m e : Desk} (em : m ≡ emit d (item (line level))) where
+  on-line : (i : Item) → e ≡ putOn m (bytesOf i) → e ≡ emitAll d (item (line level) ∷ item i ∷ [])
+  unfolding emitAll
+  on-line i ee = ee ∙ item-on m i ∙ ap (λ (z : Desk). emit z (item i)) em
+
+  pub row-opened : e ≡ putOn m (b "<row style=\"tr\">") → e ≡ emitAll d (rowOpens level)
   unfolding rowOpens styled bytesOf nameOf attrsBytes attrBytes valueOf rawly
-  row-opened er = on-line level sink a r out mid last ea (start 11 (styled (b "tr"))) er
+  row-opened ee = on-line (start 11 (styled (b "tr"))) ee
 
-  pub row-closed : ((source : Bytes) → deskIn source r last ≡ putOn (deskIn source a mid) (b "</row>"))
-      → (source : Bytes) → deskIn source r last ≡ emitAll (deskIn source sink out) (rowCloses level)
+  pub row-closed : e ≡ putOn m (b "</row>") → e ≡ emitAll d (rowCloses level)
   unfolding rowCloses bytesOf nameOf
-  row-closed er = on-line level sink a r out mid last ea (close 11) er
+  row-closed ee = on-line (close 11) ee
 
-  pub table-opened : ((source : Bytes) → deskIn source r last ≡ putOn (deskIn source a mid) (b "<table>"))
-      → (source : Bytes) → deskIn source r last ≡ emitAll (deskIn source sink out) (tableOpens level)
+  pub table-opened : e ≡ putOn m (b "<table>") → e ≡ emitAll d (tableOpens level)
   unfolding tableOpens bytesOf nameOf attrsBytes
-  table-opened er = on-line level sink a r out mid last ea (start 10 []) er
+  table-opened ee = on-line (start 10 []) ee
 
-  pub table-closed : ((source : Bytes) → deskIn source r last ≡ putOn (deskIn source a mid) (b "</table>"))
-      → (source : Bytes) → deskIn source r last ≡ emitAll (deskIn source sink out) (tableCloses level)
+  pub table-closed : e ≡ putOn m (b "</table>") → e ≡ emitAll d (tableCloses level)
   unfolding tableCloses bytesOf nameOf
-  table-closed er = on-line level sink a r out mid last ea (close 10) er
+  table-closed ee = on-line (close 10) ee

@@ -26,9 +26,8 @@ use Rattle.lists.specs.declared.Span.{Span}
 use Rattle.lists.specs.declared.Member.{Member}
 use Rattle.lists.specs.declared.Member.the-variants.{End, Skipped, Listed}
 use Rattle.lists.proofs.Nodes.{nodes-done, nodes-cut, nodes-skip, nodes-go}
-use Rattle.sink.specs.Desk.{deskIn, putOn}
-use Rattle.sink.specs.declared.Sink.{Sink}
-use Rattle.sink.proofs.Chains.{item-on}
+use Rattle.desk.specs.Desk.{deskOf, putOn}
+use Rattle.desk.proofs.Chains.{item-on}
 use Rattle.roles.specs.Roles.{mannerBy}
 use Rattle.tables.specs.Rows.{isNoRow, rowOpens, rowCloses, tableOpens, tableCloses}
 use Rattle.tables.proofs.Spans.{up-row, up-other, up-none}
@@ -45,29 +44,29 @@ cell-around t k d {e} {f} ys ee ef eg =
     between d (item (start 12 (cellAttrs t k)) ∷ []) ys (item (close 12) ∷ []) ee ef (eg ∙ item-on f (close 12))
 
 -- the desk behind a cell with something in it
-pub cell-full : (t : Tape) (k depth : ℕ) (sink a z r : Sink) (out mid now last : Bytes)
-    → deskIn (t .source) a mid ≡ emit (deskIn (t .source) sink out) (item (start 12 (style t k ∷ escaped (b "align") (alignWord (cellAlign (markerName t k))) ∷ [])))
-    → deskIn (t .source) z now ≡ emitAll (deskIn (t .source) a mid) (inside t depth (mannerBy false) k false)
-    → ((source : Bytes) → deskIn source r last ≡ putOn (deskIn source z now) (b "</cell>"))
-    → deskIn (t .source) r last
-    ≡ emitAll (deskIn (t .source) sink out) (element 12 (style t k ∷ escaped (b "align") (alignWord (cellAlign (markerName t k))) ∷ []) (inside t depth asInline k false))
+pub cell-full : (t : Tape) (k depth : ℕ) (at a z r : ℕ) (d d₁ d₂ d₃ : List ℕ) (out mid now last : Bytes)
+    → deskOf (t .source) a d₁ mid ≡ emit (deskOf (t .source) at d out) (item (start 12 (style t k ∷ escaped (b "align") (alignWord (cellAlign (markerName t k))) ∷ [])))
+    → deskOf (t .source) z d₂ now ≡ emitAll (deskOf (t .source) a d₁ mid) (inside t depth (mannerBy false) k false)
+    → ((source : Bytes) → deskOf source r d₃ last ≡ putOn (deskOf source z d₂ now) (b "</cell>"))
+    → deskOf (t .source) r d₃ last
+    ≡ emitAll (deskOf (t .source) at d out) (element 12 (style t k ∷ escaped (b "align") (alignWord (cellAlign (markerName t k))) ∷ []) (inside t depth asInline k false))
 unfolding mannerBy
-cell-full t k depth sink a z r out mid now last ea ez er = cell-around t k (deskIn (t .source) sink out) (inside t depth asInline k false) ea ez (er (t .source))
+cell-full t k depth at a z r d d₁ d₂ d₃ out mid now last ea ez er = cell-around t k (deskOf (t .source) at d out) (inside t depth asInline k false) ea ez (er (t .source))
 
-module _ (t : Tape) (k depth level : ℕ) (sink a r : Sink) (out mid last : Bytes)
-    (ea : (source : Bytes) → deskIn source a mid ≡ emit (deskIn source sink out) (item (line level))) {x : Bool} (ex : x ≡ hasContent t k) where
+module _ (t : Tape) (k depth level at a r : ℕ) (d d₁ d₂ : List ℕ) (out mid last : Bytes)
+    (ea : (source : Bytes) → deskOf source a d₁ mid ≡ emit (deskOf source at d out) (item (line level))) {x : Bool} (ex : x ≡ hasContent t k) where
   pub cell-with : x ≡ true
-      → deskIn (t .source) r last ≡ emitAll (deskIn (t .source) a mid) (element 12 (style t k ∷ escaped (b "align") (alignWord (cellAlign (markerName t k))) ∷ []) (inside t depth asInline k false))
-      → deskIn (t .source) r last ≡ emitAll (deskIn (t .source) sink out) (cellIn (inside t depth) t level k)
+      → deskOf (t .source) r d₂ last ≡ emitAll (deskOf (t .source) a d₁ mid) (element 12 (style t k ∷ escaped (b "align") (alignWord (cellAlign (markerName t k))) ∷ []) (inside t depth asInline k false))
+      → deskOf (t .source) r d₂ last ≡ emitAll (deskOf (t .source) at d out) (cellIn (inside t depth) t level k)
   unfolding cellIn emitAll
   cell-with hx er =
-      rw (← ex, hx) (er ∙ ap (λ (d : Desk). emitAll d (element 12 (cellAttrs t k) (inside t depth asInline k false))) (ea (t .source)))
+      rw (← ex, hx) (er ∙ ap (λ (w : Desk). emitAll w (element 12 (cellAttrs t k) (inside t depth asInline k false))) (ea (t .source)))
 
   pub cell-without : x ≡ false
-      → deskIn (t .source) r last ≡ emit (deskIn (t .source) a mid) (item (empty 12 (style t k ∷ escaped (b "align") (alignWord (cellAlign (markerName t k))) ∷ [])))
-      → deskIn (t .source) r last ≡ emitAll (deskIn (t .source) sink out) (cellIn (inside t depth) t level k)
+      → deskOf (t .source) r d₂ last ≡ emit (deskOf (t .source) a d₁ mid) (item (empty 12 (style t k ∷ escaped (b "align") (alignWord (cellAlign (markerName t k))) ∷ [])))
+      → deskOf (t .source) r d₂ last ≡ emitAll (deskOf (t .source) at d out) (cellIn (inside t depth) t level k)
   unfolding cellIn emitAll
-  cell-without hx er = rw (← ex, hx) (er ∙ ap (λ (d : Desk). emit d (item (empty 12 (cellAttrs t k)))) (ea (t .source)))
+  cell-without hx er = rw (← ex, hx) (er ∙ ap (λ (w : Desk). emit w (item (empty 12 (cellAttrs t k)))) (ea (t .source)))
 
 -- ---- cells along a row
 
@@ -119,15 +118,15 @@ module _ (t : Tape) (k level : ℕ) (d : Desk) where
 -- ---- rows
 
 -- a row from its tags and its cells
-pub row-whole : (t : Tape) (k level : ℕ) {d depth : ℕ} → d ≡ depth → (sink a z r : Sink) (out mid now last : Bytes)
-    → ((source : Bytes) → deskIn source a mid ≡ emitAll (deskIn source sink out) (rowOpens (level + 1)))
-    → deskIn (t .source) z now ≡ emitAll (deskIn (t .source) a mid) (cells t d (level + 2) k)
-    → ((source : Bytes) → deskIn source r last ≡ emitAll (deskIn source z now) (rowCloses (level + 1)))
-    → deskIn (t .source) r last ≡ emitAll (deskIn (t .source) sink out) (rowE t depth level k)
+pub row-whole : (t : Tape) (k level : ℕ) {deep depth : ℕ} → deep ≡ depth → (at a z r : ℕ) (d d₁ d₂ d₃ : List ℕ) (out mid now last : Bytes)
+    → ((source : Bytes) → deskOf source a d₁ mid ≡ emitAll (deskOf source at d out) (rowOpens (level + 1)))
+    → deskOf (t .source) z d₂ now ≡ emitAll (deskOf (t .source) a d₁ mid) (cells t deep (level + 2) k)
+    → ((source : Bytes) → deskOf source r d₃ last ≡ emitAll (deskOf source z d₂ now) (rowCloses (level + 1)))
+    → deskOf (t .source) r d₃ last ≡ emitAll (deskOf (t .source) at d out) (rowE t depth level k)
 unfolding rowE rowOpens rowCloses
-row-whole t k level {d} ed sink a z r out mid now last ea ez er =
-    between (deskIn (t .source) sink out) (rowOpens (level + 1)) (cells t d (level + 2) k) (rowCloses (level + 1)) (ea (t .source)) ez (er (t .source))
-    ∙ ap (λ (j : ℕ). emitAll (deskIn (t .source) sink out) (rowE t j level k)) ed
+row-whole t k level {deep} ed at a z r d d₁ d₂ d₃ out mid now last ea ez er =
+    between (deskOf (t .source) at d out) (rowOpens (level + 1)) (cells t deep (level + 2) k) (rowCloses (level + 1)) (ea (t .source)) ez (er (t .source))
+    ∙ ap (λ (j : ℕ). emitAll (deskOf (t .source) at d out) (rowE t j level k)) ed
 
 -- what the rows from a step on still give
 module _ (t : Tape) (span : Span) (depth level : ℕ) (d : Desk) where
@@ -168,11 +167,11 @@ module _ (t : Tape) (span : Span) (depth level : ℕ) (d₀ d : Desk) (s₀ s : 
 -- ---- a table
 
 -- a table from its tags and its rows
-pub table-whole : (t : Tape) (depth level : ℕ) (ks : List ℕ) (sink a z r : Sink) (out mid now last : Bytes)
-    → ((source : Bytes) → deskIn source a mid ≡ emitAll (deskIn source sink out) (tableOpens level))
-    → deskIn (t .source) z now ≡ emitAll (deskIn (t .source) a mid) (rowsE t depth level ks)
-    → ((source : Bytes) → deskIn source r last ≡ emitAll (deskIn source z now) (tableCloses level))
-    → deskIn (t .source) r last ≡ emitAll (deskIn (t .source) sink out) (tableE t depth level ks)
+pub table-whole : (t : Tape) (depth level : ℕ) (ks : List ℕ) (at a z r : ℕ) (d d₁ d₂ d₃ : List ℕ) (out mid now last : Bytes)
+    → ((source : Bytes) → deskOf source a d₁ mid ≡ emitAll (deskOf source at d out) (tableOpens level))
+    → deskOf (t .source) z d₂ now ≡ emitAll (deskOf (t .source) a d₁ mid) (rowsE t depth level ks)
+    → ((source : Bytes) → deskOf source r d₃ last ≡ emitAll (deskOf source z d₂ now) (tableCloses level))
+    → deskOf (t .source) r d₃ last ≡ emitAll (deskOf (t .source) at d out) (tableE t depth level ks)
 unfolding tableE tableOpens tableCloses
-table-whole t depth level ks sink a z r out mid now last ea ez er =
-    between (deskIn (t .source) sink out) (tableOpens level) (rowsE t depth level ks) (tableCloses level) (ea (t .source)) ez (er (t .source))
+table-whole t depth level ks at a z r d d₁ d₂ d₃ out mid now last ea ez er =
+    between (deskOf (t .source) at d out) (tableOpens level) (rowsE t depth level ks) (tableCloses level) (ea (t .source)) ez (er (t .source))

@@ -11,7 +11,7 @@ ghost use Rattle.render.specs.Note.{cellAlign, alignWord};
 ghost use Rattle.events.specs.Event.{escaped, element};
 ghost use Rattle.events.specs.Walk.{asInline, inside as insideOf, style, cellIn, cellsAlong, cells as cellsOf, rowE, rowsE, tableE};
 ghost use Rattle.events.specs.Emit.{emitAll};
-ghost use Rattle.sink.specs.Desk.{deskIn};
+ghost use Rattle.desk.specs.Desk.{deskOf};
 ghost use Rattle.lists.specs.Span.{nodesIn};
 ghost use Rattle.tables.specs.Rows.{depthAt, isNoRow};
 use crate::close_row;
@@ -22,12 +22,12 @@ use crate::is_cell;
 use crate::open_cell;
 use crate::open_row;
 use crate::open_table;
+use desk::Numbers;
+use desk::line;
+use desk::literal;
 use lists::Member;
 use lists::Span;
 use lists::member_of;
-use sink::Sink;
-use sink::line;
-use sink::literal;
 use tape::Cursor;
 use tape::Sections;
 use tape::Step;
@@ -38,15 +38,16 @@ fn full_cell(
     solids: &[u32],
     c: Cursor,
     depth: usize,
-    sink: Sink,
+    at: usize,
+    desk: &mut Numbers,
     out: &mut [u8],
-) -> Sink
+) -> usize
     requires { ⌜ Solids (tapeIn tape (now file)) (now solids) ⌝ }
-    ensures { λ r. ⌜ deskIn (tapeIn tape (now (file .entry)) .source) r (now (out .exit)) ≡ emitAll (deskIn (tapeIn tape (now (file .entry)) .source) sink (now (out .entry))) (element 12 (style (tapeIn tape (now (file .entry))) (c .at) ∷ escaped (b "align") (alignWord (cellAlign (markerName (tapeIn tape (now (file .entry))) (c .at)))) ∷ []) (insideOf (tapeIn tape (now (file .entry))) depth asInline (c .at) false)) ⌝ }
+    ensures { λ r. ⌜ deskOf (tapeIn tape (now (file .entry)) .source) r (now (desk .exit)) (now (out .exit)) ≡ emitAll (deskOf (tapeIn tape (now (file .entry)) .source) at (now (desk .entry)) (now (out .entry))) (element 12 (style (tapeIn tape (now (file .entry))) (c .at) ∷ escaped (b "align") (alignWord (cellAlign (markerName (tapeIn tape (now (file .entry))) (c .at)))) ∷ []) (insideOf (tapeIn tape (now (file .entry))) depth asInline (c .at) false)) ⌝ }
 {
-    let a = open_cell(file, tape, c, sink, out);
-    let z = inline::inside(file, tape, solids, c, depth, false, false, a, out);
-    literal(z, out, b"</cell>")
+    let a = open_cell(file, tape, c, at, desk, out);
+    let z = inline::inside(file, tape, solids, c, depth, false, false, a, desk, out);
+    literal(z, desk, out, b"</cell>")
 }
 
 // A cell on its line.
@@ -57,17 +58,18 @@ fn cell(
     c: Cursor,
     level: usize,
     depth: usize,
-    sink: Sink,
+    at: usize,
+    desk: &mut Numbers,
     out: &mut [u8],
-) -> Sink
+) -> usize
     requires { ⌜ Solids (tapeIn tape (now file)) (now solids) ⌝ }
-    ensures { λ r. ⌜ deskIn (tapeIn tape (now (file .entry)) .source) r (now (out .exit)) ≡ emitAll (deskIn (tapeIn tape (now (file .entry)) .source) sink (now (out .entry))) (cellIn (insideOf (tapeIn tape (now (file .entry))) depth) (tapeIn tape (now (file .entry))) level (c .at)) ⌝ }
+    ensures { λ r. ⌜ deskOf (tapeIn tape (now (file .entry)) .source) r (now (desk .exit)) (now (out .exit)) ≡ emitAll (deskOf (tapeIn tape (now (file .entry)) .source) at (now (desk .entry)) (now (out .entry))) (cellIn (insideOf (tapeIn tape (now (file .entry))) depth) (tapeIn tape (now (file .entry))) level (c .at)) ⌝ }
 {
-    let s = line(sink, out, level);
+    let s = line(at, desk, out, level);
     if render::has_content(file, tape, solids, c) {
-        full_cell(file, tape, solids, c, depth, s, out)
+        full_cell(file, tape, solids, c, depth, s, desk, out)
     } else {
-        empty_cell(file, tape, c, s, out)
+        empty_cell(file, tape, c, s, desk, out)
     }
 }
 
@@ -79,13 +81,14 @@ fn cells_along(
     first: Step,
     level: usize,
     depth: usize,
-    sink: Sink,
+    at: usize,
+    desk: &mut Numbers,
     out: &mut [u8],
-) -> Sink
+) -> usize
     requires { ⌜ Solids (tapeIn tape (now file)) (now solids) ⌝ }
-    ensures { λ r. ⌜ deskIn (tapeIn tape (now (file .entry)) .source) r (now (out .exit)) ≡ emitAll (deskIn (tapeIn tape (now (file .entry)) .source) sink (now (out .entry))) (cellsAlong (insideOf (tapeIn tape (now (file .entry))) depth) (tapeIn tape (now (file .entry))) level (walkFrom (tapeIn tape (now (file .entry))) first)) ⌝ }
+    ensures { λ r. ⌜ deskOf (tapeIn tape (now (file .entry)) .source) r (now (desk .exit)) (now (out .exit)) ≡ emitAll (deskOf (tapeIn tape (now (file .entry)) .source) at (now (desk .entry)) (now (out .entry))) (cellsAlong (insideOf (tapeIn tape (now (file .entry))) depth) (tapeIn tape (now (file .entry))) level (walkFrom (tapeIn tape (now (file .entry))) first)) ⌝ }
 {
-    let mut s = sink;
+    let mut s = at;
     let mut step = first;
     loop {
         match step {
@@ -93,7 +96,7 @@ fn cells_along(
             Step::At(c) => {
                 step = c.next_sibling(file, tape);
                 if is_cell(file, tape, c) {
-                    s = cell(file, tape, solids, c, level, depth, s, out);
+                    s = cell(file, tape, solids, c, level, depth, s, desk, out);
                 }
             }
         }
@@ -107,14 +110,15 @@ fn cells(
     row: Cursor,
     level: usize,
     depth: usize,
-    sink: Sink,
+    at: usize,
+    desk: &mut Numbers,
     out: &mut [u8],
-) -> Sink
+) -> usize
     requires { ⌜ Solids (tapeIn tape (now file)) (now solids) ⌝ }
-    ensures { λ r. ⌜ deskIn (tapeIn tape (now (file .entry)) .source) r (now (out .exit)) ≡ emitAll (deskIn (tapeIn tape (now (file .entry)) .source) sink (now (out .entry))) (cellsOf (tapeIn tape (now (file .entry))) depth level (row .at)) ⌝ }
+    ensures { λ r. ⌜ deskOf (tapeIn tape (now (file .entry)) .source) r (now (desk .exit)) (now (out .exit)) ≡ emitAll (deskOf (tapeIn tape (now (file .entry)) .source) at (now (desk .entry)) (now (out .entry))) (cellsOf (tapeIn tape (now (file .entry))) depth level (row .at)) ⌝ }
 {
     if depth == 0 {
-        return sink;
+        return at;
     }
     cells_along(
         file,
@@ -123,7 +127,8 @@ fn cells(
         row.first_child(file, tape),
         level,
         depth - 1,
-        sink,
+        at,
+        desk,
         out,
     )
 }
@@ -134,16 +139,27 @@ fn row(
     solids: &[u32],
     c: Cursor,
     level: u8,
-    sink: Sink,
+    at: usize,
+    desk: &mut Numbers,
     out: &mut [u8],
-) -> Sink
+) -> usize
     requires { ⌜ Solids (tapeIn tape (now file)) (now solids) ⌝ }
-    ensures { λ r. ⌜ deskIn (tapeIn tape (now (file .entry)) .source) r (now (out .exit)) ≡ emitAll (deskIn (tapeIn tape (now (file .entry)) .source) sink (now (out .entry))) (rowE (tapeIn tape (now (file .entry))) (depthAt level) level (c .at)) ⌝ }
+    ensures { λ r. ⌜ deskOf (tapeIn tape (now (file .entry)) .source) r (now (desk .exit)) (now (out .exit)) ≡ emitAll (deskOf (tapeIn tape (now (file .entry)) .source) at (now (desk .entry)) (now (out .entry))) (rowE (tapeIn tape (now (file .entry))) (depthAt level) level (c .at)) ⌝ }
 {
     let wide = level as usize;
-    let a = open_row(wide + 1, sink, out);
-    let z = cells(file, tape, solids, c, wide + 2, depth_at(level), a, out);
-    close_row(wide + 1, z, out)
+    let a = open_row(wide + 1, at, desk, out);
+    let z = cells(
+        file,
+        tape,
+        solids,
+        c,
+        wide + 2,
+        depth_at(level),
+        a,
+        desk,
+        out,
+    );
+    close_row(wide + 1, z, desk, out)
 }
 
 // The rows that stand together from a step on.
@@ -154,13 +170,14 @@ fn rows(
     span: Span,
     first: Step,
     level: u8,
-    sink: Sink,
+    at: usize,
+    desk: &mut Numbers,
     out: &mut [u8],
-) -> Sink
+) -> usize
     requires { ⌜ Solids (tapeIn tape (now file)) (now solids) ⌝ }
-    ensures { λ r. ⌜ deskIn (tapeIn tape (now (file .entry)) .source) r (now (out .exit)) ≡ emitAll (deskIn (tapeIn tape (now (file .entry)) .source) sink (now (out .entry))) (rowsE (tapeIn tape (now (file .entry))) (depthAt level) level (upTo (isNoRow (tapeIn tape (now (file .entry)))) (nodesIn (tapeIn tape (now (file .entry))) span first))) ⌝ }
+    ensures { λ r. ⌜ deskOf (tapeIn tape (now (file .entry)) .source) r (now (desk .exit)) (now (out .exit)) ≡ emitAll (deskOf (tapeIn tape (now (file .entry)) .source) at (now (desk .entry)) (now (out .entry))) (rowsE (tapeIn tape (now (file .entry))) (depthAt level) level (upTo (isNoRow (tapeIn tape (now (file .entry)))) (nodesIn (tapeIn tape (now (file .entry))) span first))) ⌝ }
 {
-    let mut s = sink;
+    let mut s = at;
     let mut step = first;
     loop {
         match step {
@@ -172,7 +189,7 @@ fn rows(
                 }
                 Member::Listed => {
                     if render::is_row(file, tape, c) {
-                        s = row(file, tape, solids, c, level, s, out);
+                        s = row(file, tape, solids, c, level, s, desk, out);
                         step = c.next_sibling(file, tape);
                     } else {
                         return s;
@@ -191,14 +208,15 @@ pub fn table(
     span: Span,
     first: Step,
     level: u8,
-    sink: Sink,
+    at: usize,
+    desk: &mut Numbers,
     out: &mut [u8],
-) -> Sink
+) -> usize
     requires { ⌜ Solids (tapeIn tape (now file)) (now solids) ⌝ }
-    ensures { λ r. ⌜ deskIn (tapeIn tape (now (file .entry)) .source) r (now (out .exit)) ≡ emitAll (deskIn (tapeIn tape (now (file .entry)) .source) sink (now (out .entry))) (tableE (tapeIn tape (now (file .entry))) (depthAt level) level (upTo (isNoRow (tapeIn tape (now (file .entry)))) (nodesIn (tapeIn tape (now (file .entry))) span first))) ⌝ }
+    ensures { λ r. ⌜ deskOf (tapeIn tape (now (file .entry)) .source) r (now (desk .exit)) (now (out .exit)) ≡ emitAll (deskOf (tapeIn tape (now (file .entry)) .source) at (now (desk .entry)) (now (out .entry))) (tableE (tapeIn tape (now (file .entry))) (depthAt level) level (upTo (isNoRow (tapeIn tape (now (file .entry)))) (nodesIn (tapeIn tape (now (file .entry))) span first))) ⌝ }
 {
     let wide = level as usize;
-    let a = open_table(wide, sink, out);
-    let z = rows(file, tape, solids, span, first, level, a, out);
-    close_table(wide, z, out)
+    let a = open_table(wide, at, desk, out);
+    let z = rows(file, tape, solids, span, first, level, a, desk, out);
+    close_table(wide, z, desk, out)
 }

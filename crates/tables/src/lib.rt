@@ -10,16 +10,16 @@ ghost use Rattle.tags.specs.Items.{start, empty};
 ghost use Rattle.events.specs.Event.{item, escaped};
 ghost use Rattle.events.specs.Walk.{isKnown, isCell, style};
 ghost use Rattle.events.specs.Emit.{emit, emitAll};
-ghost use Rattle.sink.specs.Desk.{deskIn};
+ghost use Rattle.desk.specs.Desk.{deskOf};
 ghost use Rattle.tables.specs.Rows.{depthAt, rowOpens, rowCloses, tableOpens, tableCloses};
 
 mod full;
 
+use desk::Numbers;
+use desk::line;
+use desk::literal;
 pub use full::table;
 use render::Align;
-use sink::Sink;
-use sink::line;
-use sink::literal;
 use tape::Cursor;
 use tape::Info;
 use tape::Kind;
@@ -80,46 +80,60 @@ fn put_cell(w: Window, out: &mut [u8], name: &[u8]) -> Window
     put_align(d, out, render::cell_align(name))
 }
 
-fn open_cell(file: &[u8], tape: Sections, c: Cursor, sink: Sink, out: &mut [u8]) -> Sink
-    ensures { λ r. ⌜ deskIn (tapeIn tape (now (file .entry)) .source) r (now (out .exit)) ≡ emit (deskIn (tapeIn tape (now (file .entry)) .source) sink (now (out .entry))) (item (start 12 (style (tapeIn tape (now (file .entry))) (c .at) ∷ escaped (b "align") (alignWord (cellAlign (markerName (tapeIn tape (now (file .entry))) (c .at)))) ∷ []))) ⌝ }
+fn open_cell(
+    file: &[u8],
+    tape: Sections,
+    c: Cursor,
+    at: usize,
+    desk: &mut Numbers,
+    out: &mut [u8],
+) -> usize
+    ensures { λ r. ⌜ deskOf (tapeIn tape (now (file .entry)) .source) r (now (desk .exit)) (now (out .exit)) ≡ emit (deskOf (tapeIn tape (now (file .entry)) .source) at (now (desk .entry)) (now (out .entry))) (item (start 12 (style (tapeIn tape (now (file .entry))) (c .at) ∷ escaped (b "align") (alignWord (cellAlign (markerName (tapeIn tape (now (file .entry))) (c .at)))) ∷ []))) ⌝ }
 {
-    let a = put_cell(sink.window(), out, c.marker_name(file, tape));
+    let a = put_cell(Window { at, from: desk[0] }, out, c.marker_name(file, tape));
     let z = put_run(a, out, b">");
-    sink.over(z)
+    z.at
 }
 
-fn empty_cell(file: &[u8], tape: Sections, c: Cursor, sink: Sink, out: &mut [u8]) -> Sink
-    ensures { λ r. ⌜ deskIn (tapeIn tape (now (file .entry)) .source) r (now (out .exit)) ≡ emit (deskIn (tapeIn tape (now (file .entry)) .source) sink (now (out .entry))) (item (empty 12 (style (tapeIn tape (now (file .entry))) (c .at) ∷ escaped (b "align") (alignWord (cellAlign (markerName (tapeIn tape (now (file .entry))) (c .at)))) ∷ []))) ⌝ }
+fn empty_cell(
+    file: &[u8],
+    tape: Sections,
+    c: Cursor,
+    at: usize,
+    desk: &mut Numbers,
+    out: &mut [u8],
+) -> usize
+    ensures { λ r. ⌜ deskOf (tapeIn tape (now (file .entry)) .source) r (now (desk .exit)) (now (out .exit)) ≡ emit (deskOf (tapeIn tape (now (file .entry)) .source) at (now (desk .entry)) (now (out .entry))) (item (empty 12 (style (tapeIn tape (now (file .entry))) (c .at) ∷ escaped (b "align") (alignWord (cellAlign (markerName (tapeIn tape (now (file .entry))) (c .at)))) ∷ []))) ⌝ }
 {
-    let a = put_cell(sink.window(), out, c.marker_name(file, tape));
+    let a = put_cell(Window { at, from: desk[0] }, out, c.marker_name(file, tape));
     let z = put_run(a, out, b" />");
-    sink.over(z)
+    z.at
 }
 
-fn open_row(level: usize, sink: Sink, out: &mut [u8]) -> Sink
-    ensures { λ r. ⌜ ((source : Bytes) → deskIn source r (now (out .exit)) ≡ emitAll (deskIn source sink (now (out .entry))) (rowOpens level)) ⌝ }
+fn open_row(level: usize, at: usize, desk: &mut Numbers, out: &mut [u8]) -> usize
+    ensures { λ r. ⌜ ((source : Bytes) → deskOf source r (now (desk .exit)) (now (out .exit)) ≡ emitAll (deskOf source at (now (desk .entry)) (now (out .entry))) (rowOpens level)) ⌝ }
 {
-    let a = line(sink, out, level);
-    literal(a, out, b"<row style=\"tr\">")
+    let a = line(at, desk, out, level);
+    literal(a, desk, out, b"<row style=\"tr\">")
 }
 
-fn close_row(level: usize, sink: Sink, out: &mut [u8]) -> Sink
-    ensures { λ r. ⌜ ((source : Bytes) → deskIn source r (now (out .exit)) ≡ emitAll (deskIn source sink (now (out .entry))) (rowCloses level)) ⌝ }
+fn close_row(level: usize, at: usize, desk: &mut Numbers, out: &mut [u8]) -> usize
+    ensures { λ r. ⌜ ((source : Bytes) → deskOf source r (now (desk .exit)) (now (out .exit)) ≡ emitAll (deskOf source at (now (desk .entry)) (now (out .entry))) (rowCloses level)) ⌝ }
 {
-    let a = line(sink, out, level);
-    literal(a, out, b"</row>")
+    let a = line(at, desk, out, level);
+    literal(a, desk, out, b"</row>")
 }
 
-fn open_table(level: usize, sink: Sink, out: &mut [u8]) -> Sink
-    ensures { λ r. ⌜ ((source : Bytes) → deskIn source r (now (out .exit)) ≡ emitAll (deskIn source sink (now (out .entry))) (tableOpens level)) ⌝ }
+fn open_table(level: usize, at: usize, desk: &mut Numbers, out: &mut [u8]) -> usize
+    ensures { λ r. ⌜ ((source : Bytes) → deskOf source r (now (desk .exit)) (now (out .exit)) ≡ emitAll (deskOf source at (now (desk .entry)) (now (out .entry))) (tableOpens level)) ⌝ }
 {
-    let a = line(sink, out, level);
-    literal(a, out, b"<table>")
+    let a = line(at, desk, out, level);
+    literal(a, desk, out, b"<table>")
 }
 
-fn close_table(level: usize, sink: Sink, out: &mut [u8]) -> Sink
-    ensures { λ r. ⌜ ((source : Bytes) → deskIn source r (now (out .exit)) ≡ emitAll (deskIn source sink (now (out .entry))) (tableCloses level)) ⌝ }
+fn close_table(level: usize, at: usize, desk: &mut Numbers, out: &mut [u8]) -> usize
+    ensures { λ r. ⌜ ((source : Bytes) → deskOf source r (now (desk .exit)) (now (out .exit)) ≡ emitAll (deskOf source at (now (desk .entry)) (now (out .entry))) (tableCloses level)) ⌝ }
 {
-    let a = line(sink, out, level);
-    literal(a, out, b"</table>")
+    let a = line(at, desk, out, level);
+    literal(a, desk, out, b"</table>")
 }

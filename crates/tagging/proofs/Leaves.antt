@@ -3,6 +3,7 @@ use mathlib.Core.Path.{_≡_, ap, _∙_}
 use mathlib.Core.Bool.{false}
 use mathlib.Core.List.{List, [], _∷_, _++_}
 use Prim.Native.Nat.{ℕ}
+use lib.ListN.{getD}
 use Rattle.parts.specs.Bytes.{Bytes, b}
 use Rattle.chars.specs.Escape.{escape}
 use Rattle.window.specs.Page.{Page, pageOf, paint}
@@ -22,9 +23,8 @@ use Rattle.events.specs.Event.{rawly, collected, element, asided, book}
 use Rattle.events.specs.Walk.{style, styled, figure}
 use Rattle.events.specs.Emit.{Desk, emit, emitAll}
 use Rattle.events.proofs.Emits.{aside-on, back-on}
-use Rattle.sink.specs.Desk.{windowIn, overBy, deskIn, putOn}
-use Rattle.sink.specs.declared.Sink.{Sink}
-use Rattle.sink.proofs.Chains.{paint-three}
+use Rattle.desk.specs.Desk.{deskOf, putOn}
+use Rattle.desk.proofs.Chains.{paint-three}
 use Rattle.roles.specs.declared.Role.{Role}
 use Rattle.roles.specs.declared.Role.the-variants.{UnknownBlock, UnknownInline, Unwritten, Figure, Ref, Id, Note, Ms, Char, Para}
 use Rattle.roles.specs.Roles.{roleIn}
@@ -64,34 +64,33 @@ module _ (t : Tape) (k : ℕ) {s : Step} (es : s ≡ legacyAt t k) where
   unfolding leafOf oldFigure emitAll
   old-none d e = rw (← es, e)
 
-  pub old-written : {a : Cursor} → s ≡ At a → (sink : Sink) {w v : Window} {r : Sink} (out : Bytes) {last : Bytes} → w ≡ windowIn sink
-      → pageOf v last ≡ paint (pageOf w out) (render (start 9 (styled (b "fig") ++ collected (legacyPairs t k (a .at))) ∷ text (captionOf t (a .at)) ∷ close 9 ∷ []))
-      → r ≡ overBy sink v
-      → deskIn (t .source) r last ≡ emitAll (deskIn (t .source) sink out) (leafOf t k figure)
+  pub old-written : {a : Cursor} → s ≡ At a → (at : ℕ) {v : Window} (d : List ℕ) (out : Bytes) {last : Bytes}
+      → pageOf v last ≡ paint (record { at = at; from = getD d 0 0; buf = out }) (render (start 9 (styled (b "fig") ++ collected (legacyPairs t k (a .at))) ∷ text (captionOf t (a .at)) ∷ close 9 ∷ []))
+      → deskOf (t .source) (v .at) d last ≡ emitAll (deskOf (t .source) at d out) (leafOf t k figure)
   unfolding leafOf oldFigure asided element
-  old-written {a} e sink out ew ev er =
+  old-written {a} e at d out ev =
       rw (← es, e)
-      (desk-items sink out (start 9 (styled (b "fig") ++ collected (legacyPairs t k (a .at))) ∷ text (captionOf t (a .at)) ∷ close 9 ∷ []) ew ev er (t .source)
-      ∙ back-on (deskIn (t .source) sink out) _ ∙ aside-on (deskIn (t .source) sink out) _)
+      (desk-items at d out (start 9 (styled (b "fig") ++ collected (legacyPairs t k (a .at))) ∷ text (captionOf t (a .at)) ∷ close 9 ∷ []) ev (t .source)
+      ∙ back-on (deskOf (t .source) at d out) _ ∙ aside-on (deskOf (t .source) at d out) _)
 
 -- ---- by role
 
 module _ (t : Tape) (k : ℕ) {role : Role} where
-  pub para-leaf : (sink r : Sink) (out last : Bytes) → role ≡ Para
-      → ((source : Bytes) → deskIn source r last ≡ putOn (deskIn source sink out) (b "<para style=\"" ++ (markerName t k ++ b "\" />")))
-      → deskIn (t .source) r last ≡ emitAll (deskIn (t .source) sink out) (leafOf t k (roleIn role))
+  pub para-leaf : (at : ℕ) {r : ℕ} (d d′ : List ℕ) (out : Bytes) {last : Bytes} → role ≡ Para
+      → ((source : Bytes) → deskOf source r d′ last ≡ putOn (deskOf source at d out) (b "<para style=\"" ++ (markerName t k ++ b "\" />")))
+      → deskOf (t .source) r d′ last ≡ emitAll (deskOf (t .source) at d out) (leafOf t k (roleIn role))
   unfolding roleIn leafOf style
-  para-leaf sink r out last e put =
+  para-leaf at d d′ out e put =
       rw e
       (put (t .source)
-      ∙ ap (putOn (deskIn (t .source) sink out)) (empty-para-bytes (markerName t k))
-      ∙ one-on (deskIn (t .source) sink out) (empty 5 (style t k ∷ [])))
+      ∙ ap (putOn (deskOf (t .source) at d out)) (empty-para-bytes (markerName t k))
+      ∙ one-on (deskOf (t .source) at d out) (empty 5 (style t k ∷ [])))
 
-  pub ms-leaf : (sink : Sink) {w v : Window} {r : Sink} (out : Bytes) {last name : Bytes} → role ≡ Ms → w ≡ windowIn sink → name ≡ markerName t k
-      → pageOf v last ≡ paint (pageOf w out) (bytesOf (empty 8 (rawly (b "style") name ∷ collected (attributesOf t k name)))) → r ≡ overBy sink v
-      → deskIn (t .source) r last ≡ emitAll (deskIn (t .source) sink out) (leafOf t k (roleIn role))
+  pub ms-leaf : (at : ℕ) {v : Window} (d : List ℕ) (out : Bytes) {last name : Bytes} → role ≡ Ms → name ≡ markerName t k
+      → pageOf v last ≡ paint (record { at = at; from = getD d 0 0; buf = out }) (bytesOf (empty 8 (rawly (b "style") name ∷ collected (attributesOf t k name))))
+      → deskOf (t .source) (v .at) d last ≡ emitAll (deskOf (t .source) at d out) (leafOf t k (roleIn role))
   unfolding roleIn leafOf style
-  ms-leaf sink out e ew en ev er = rw e (desk-one sink out (empty 8 (style t k ∷ collected (attributesOf t k (markerName t k)))) ew (rw en at ev) er (t .source))
+  ms-leaf at d out e en ev = rw e (desk-one at d out (empty 8 (style t k ∷ collected (attributesOf t k (markerName t k)))) (rw en at ev) (t .source))
 
   module _ (d : Desk) {e : Desk} where
     pub figure-leaf : role ≡ Figure → e ≡ emitAll d (leafOf t k figure) → e ≡ emitAll d (leafOf t k (roleIn role))

@@ -4,6 +4,7 @@ use mathlib.Core.Bool.{Bool, true, false}
 use mathlib.Core.List.{List, [], _∷_, _++_}
 use mathlib.Core.Option.{Option}
 use Prim.Native.Nat.{ℕ}
+use lib.ListN.{getD}
 use Rattle.parts.specs.Bytes.{Bytes, b}
 use Rattle.chars.specs.Escape.{escape, escapedByte}
 use Rattle.window.specs.Page.{Page, pageOf, paint}
@@ -22,9 +23,8 @@ use Rattle.events.specs.Event.{item, rawly, escaped, perhaps, collected}
 use Rattle.events.specs.Walk.{style, styled, unclosed, linkOf, char}
 use Rattle.events.specs.Emit.{Desk, emit, emitAll}
 use Rattle.events.proofs.Emits.{aside-on}
-use Rattle.sink.specs.Desk.{windowIn, overBy, deskIn, putOn}
-use Rattle.sink.specs.declared.Sink.{Sink}
-use Rattle.sink.proofs.Chains.{paint-three, paint-four, desk-on, desk-item}
+use Rattle.desk.specs.Desk.{deskOf, putOn}
+use Rattle.desk.proofs.Chains.{paint-three, paint-four, desk-on, desk-item}
 use Rattle.roles.specs.declared.Role.{Role}
 use Rattle.roles.specs.declared.Role.the-variants.{UnknownBlock, UnknownInline, Unwritten, Figure, Ref, Id, Note, Ms, Char, Para}
 use Rattle.roles.specs.Roles.{roleIn}
@@ -45,22 +45,22 @@ module _ (t : Tape) (k : ℕ) (p : Page) {x : Bool} (ex : x ≡ isSynthetic t (n
   unfolding unclosed attrsBytes paint
   unclosed-none hx = rw (← ex, hx)
 
--- ---- tags through the window of a sink
+-- ---- tags through the window of a desk
 
-module _ (t : Tape) (k : ℕ) (sink : Sink) {w v : Window} {r : Sink} (out : Bytes) {last : Bytes} where
-  pub named-put : {p q : Page} (head tail : Bytes) {n : Bytes} → w ≡ windowIn sink → p ≡ paint (pageOf w out) head → n ≡ markerName t k → q ≡ paint p n
-      → pageOf v last ≡ paint q tail → r ≡ overBy sink v
-      → (source : Bytes) → deskIn source r last ≡ putOn (deskIn source sink out) (head ++ (markerName t k ++ tail))
-  named-put head tail ew ep en eq ev er source =
-      desk-on sink out (head ++ (markerName t k ++ tail)) ew (paint-three (pageOf w out) head (markerName t k) tail ep (rw en at eq) ev) er source
+module _ (t : Tape) (k at : ℕ) {v : Window} (d : List ℕ) (out : Bytes) {last : Bytes} where
+  pub named-put : {p q : Page} (head tail : Bytes) {n : Bytes} → p ≡ paint (record { at = at; from = getD d 0 0; buf = out }) head → n ≡ markerName t k → q ≡ paint p n
+      → pageOf v last ≡ paint q tail
+      → (source : Bytes) → deskOf source (v .at) d last ≡ putOn (deskOf source at d out) (head ++ (markerName t k ++ tail))
+  named-put head tail ep en eq ev source =
+      desk-on at d out (head ++ (markerName t k ++ tail)) (paint-three _ head (markerName t k) tail ep (rw en at eq) ev) source
 
-  pub char-opened : {name : Bytes} → w ≡ windowIn sink → name ≡ markerName t k
-      → pageOf v last ≡ paint (pageOf w out) (bytesOf (start 6 (rawly (b "style") name ∷ (unclosed t k ++ collected (attributesOf t k name))))) → r ≡ overBy sink v
-      → deskIn (t .source) r last
-      ≡ emit (deskIn (t .source) sink out) (item (start 6 (style t k ∷ (unclosed t k ++ collected (attributesOf t k (markerName t k))))))
+  pub char-opened : {name : Bytes} → name ≡ markerName t k
+      → pageOf v last ≡ paint (record { at = at; from = getD d 0 0; buf = out }) (bytesOf (start 6 (rawly (b "style") name ∷ (unclosed t k ++ collected (attributesOf t k name)))))
+      → deskOf (t .source) (v .at) d last
+      ≡ emit (deskOf (t .source) at d out) (item (start 6 (style t k ∷ (unclosed t k ++ collected (attributesOf t k (markerName t k))))))
   unfolding style
-  char-opened ew en ev er =
-      desk-item sink out (start 6 (style t k ∷ (unclosed t k ++ collected (attributesOf t k (markerName t k))))) ew (rw en at ev) er (t .source)
+  char-opened en ev =
+      desk-item at d out (start 6 (style t k ∷ (unclosed t k ++ collected (attributesOf t k (markerName t k))))) (rw en at ev) (t .source)
 
 -- ---- tags
 
@@ -106,12 +106,12 @@ pub link-shut : (source : Bytes) (d : Desk) {link : Sought} → link ≡ Nowhere
 unfolding soughtOf linkOpens emitAll
 link-shut source d e = rw e
 
-pub link-opened : (source : Bytes) {link : Sought} {x : Value} → link ≡ Found x → (sink : Sink) {w v : Window} {r : Sink} (out : Bytes) {last s : Bytes}
-    → w ≡ windowIn sink → s ≡ source → pageOf v last ≡ paint (pageOf w out) (bytesOf (start 16 (escaped (b "loc") (rawValue s x) ∷ []))) → r ≡ overBy sink v
-    → deskIn source r last ≡ emitAll (deskIn source sink out) (linkOpens (soughtOf source link))
+pub link-opened : (source : Bytes) {link : Sought} {x : Value} → link ≡ Found x → (at : ℕ) {v : Window} (d : List ℕ) (out : Bytes) {last s : Bytes}
+    → s ≡ source → pageOf v last ≡ paint (record { at = at; from = getD d 0 0; buf = out }) (bytesOf (start 16 (escaped (b "loc") (rawValue s x) ∷ [])))
+    → deskOf source (v .at) d last ≡ emitAll (deskOf source at d out) (linkOpens (soughtOf source link))
 unfolding soughtOf linkOpens
-link-opened source {link} {x} e sink out ew es ev er =
-    rw e (desk-one sink out (start 16 (escaped (b "loc") (rawValue source x) ∷ [])) ew (rw es at ev) er source)
+link-opened source {link} {x} e at d out es ev =
+    rw e (desk-one at d out (start 16 (escaped (b "loc") (rawValue source x) ∷ [])) (rw es at ev) source)
 
 pub char-linked : (t : Tape) (k : ℕ) (d : Desk) {e f : Desk} {o : Option Bytes}
     → e ≡ emit d (item (start 6 (style t k ∷ (unclosed t k ++ collected (attributesOf t k (markerName t k)))))) → o ≡ linkOf t k → f ≡ emitAll e (linkOpens o)
@@ -122,63 +122,62 @@ char-linked t k d ee eo ef = ef ∙ rw (ee, eo)
 -- ---- by role
 
 module _ (t : Tape) (k : ℕ) {role : Role} where
-  module _ (sink r : Sink) (out last : Bytes) where
+  module _ (at : ℕ) {r : ℕ} (d d′ : List ℕ) (out : Bytes) {last : Bytes} where
     pub block-marker : role ≡ UnknownBlock
-        → ((source : Bytes) → deskIn source r last ≡ putOn (deskIn source sink out) (b "<para style=\"" ++ (markerName t k ++ b "\" status=\"unknown\">")))
-        → deskIn (t .source) r last ≡ emitAll (deskIn (t .source) sink out) (markerOpens t k (roleIn role))
+        → ((source : Bytes) → deskOf source r d′ last ≡ putOn (deskOf source at d out) (b "<para style=\"" ++ (markerName t k ++ b "\" status=\"unknown\">")))
+        → deskOf (t .source) r d′ last ≡ emitAll (deskOf (t .source) at d out) (markerOpens t k (roleIn role))
     unfolding roleIn markerOpens style
     block-marker e put =
         rw e
         (put (t .source)
-        ∙ ap (putOn (deskIn (t .source) sink out)) (unknown-block-bytes (markerName t k))
-        ∙ one-on (deskIn (t .source) sink out) (start 5 (style t k ∷ escaped (b "status") (b "unknown") ∷ [])))
+        ∙ ap (putOn (deskOf (t .source) at d out)) (unknown-block-bytes (markerName t k))
+        ∙ one-on (deskOf (t .source) at d out) (start 5 (style t k ∷ escaped (b "status") (b "unknown") ∷ [])))
 
     pub inline-marker : role ≡ UnknownInline
-        → ((source : Bytes) → deskIn source r last ≡ putOn (deskIn source sink out) (b "<char style=\"" ++ (markerName t k ++ b "\" status=\"unknown\">")))
-        → deskIn (t .source) r last ≡ emitAll (deskIn (t .source) sink out) (markerOpens t k (roleIn role))
+        → ((source : Bytes) → deskOf source r d′ last ≡ putOn (deskOf source at d out) (b "<char style=\"" ++ (markerName t k ++ b "\" status=\"unknown\">")))
+        → deskOf (t .source) r d′ last ≡ emitAll (deskOf (t .source) at d out) (markerOpens t k (roleIn role))
     unfolding roleIn markerOpens style
     inline-marker e put =
         rw e
         (put (t .source)
-        ∙ ap (putOn (deskIn (t .source) sink out)) (unknown-inline-bytes (markerName t k))
-        ∙ one-on (deskIn (t .source) sink out) (start 6 (style t k ∷ escaped (b "status") (b "unknown") ∷ [])))
+        ∙ ap (putOn (deskOf (t .source) at d out)) (unknown-inline-bytes (markerName t k))
+        ∙ one-on (deskOf (t .source) at d out) (start 6 (style t k ∷ escaped (b "status") (b "unknown") ∷ [])))
 
     pub para-marker : role ≡ Para
-        → ((source : Bytes) → deskIn source r last ≡ putOn (deskIn source sink out) (b "<para style=\"" ++ (markerName t k ++ b "\">")))
-        → deskIn (t .source) r last ≡ emitAll (deskIn (t .source) sink out) (markerOpens t k (roleIn role))
+        → ((source : Bytes) → deskOf source r d′ last ≡ putOn (deskOf source at d out) (b "<para style=\"" ++ (markerName t k ++ b "\">")))
+        → deskOf (t .source) r d′ last ≡ emitAll (deskOf (t .source) at d out) (markerOpens t k (roleIn role))
     unfolding roleIn markerOpens style
     para-marker e put =
         rw e
         (put (t .source)
-        ∙ ap (putOn (deskIn (t .source) sink out)) (para-bytes (markerName t k))
-        ∙ one-on (deskIn (t .source) sink out) (start 5 (style t k ∷ [])))
+        ∙ ap (putOn (deskOf (t .source) at d out)) (para-bytes (markerName t k))
+        ∙ one-on (deskOf (t .source) at d out) (start 5 (style t k ∷ [])))
 
   pub char-marker : (d : Desk) {e : Desk} → role ≡ Char → e ≡ emitAll d (markerOpens t k char) → e ≡ emitAll d (markerOpens t k (roleIn role))
   unfolding roleIn
   char-marker d h er = rw h er
 
-  module _ (sink : Sink) {w v : Window} {r : Sink} (out : Bytes) {last : Bytes} where
-    pub figure-marker : role ≡ Figure → w ≡ windowIn sink
-        → pageOf v last ≡ paint (pageOf w out) (bytesOf (start 9 (styled (b "fig") ++ collected (attributesOf t k (b "fig"))))) → r ≡ overBy sink v
-        → deskIn (t .source) r last ≡ emitAll (deskIn (t .source) sink out) (markerOpens t k (roleIn role))
+  module _ (at : ℕ) {v : Window} (d : List ℕ) (out : Bytes) {last : Bytes} where
+    pub figure-marker : role ≡ Figure
+        → pageOf v last ≡ paint (record { at = at; from = getD d 0 0; buf = out }) (bytesOf (start 9 (styled (b "fig") ++ collected (attributesOf t k (b "fig")))))
+        → deskOf (t .source) (v .at) d last ≡ emitAll (deskOf (t .source) at d out) (markerOpens t k (roleIn role))
     unfolding roleIn markerOpens
-    figure-marker e ew ev er = rw e (desk-one sink out (start 9 (styled (b "fig") ++ collected (attributesOf t k (b "fig")))) ew ev er (t .source) ∙ aside-on (deskIn (t .source) sink out) _)
+    figure-marker e ev = rw e (desk-one at d out (start 9 (styled (b "fig") ++ collected (attributesOf t k (b "fig")))) ev (t .source) ∙ aside-on (deskOf (t .source) at d out) _)
 
-    pub ref-marker : role ≡ Ref → w ≡ windowIn sink
-        → pageOf v last ≡ paint (pageOf w out) (bytesOf (start 16 (perhaps (b "loc") (firstOf (b "loc") (attributesOf t k (b "ref")))))) → r ≡ overBy sink v
-        → deskIn (t .source) r last ≡ emitAll (deskIn (t .source) sink out) (markerOpens t k (roleIn role))
+    pub ref-marker : role ≡ Ref
+        → pageOf v last ≡ paint (record { at = at; from = getD d 0 0; buf = out }) (bytesOf (start 16 (perhaps (b "loc") (firstOf (b "loc") (attributesOf t k (b "ref"))))))
+        → deskOf (t .source) (v .at) d last ≡ emitAll (deskOf (t .source) at d out) (markerOpens t k (roleIn role))
     unfolding roleIn markerOpens
-    ref-marker e ew ev er = rw e (desk-one sink out (start 16 (perhaps (b "loc") (firstOf (b "loc") (attributesOf t k (b "ref"))))) ew ev er (t .source))
+    ref-marker e ev = rw e (desk-one at d out (start 16 (perhaps (b "loc") (firstOf (b "loc") (attributesOf t k (b "ref"))))) ev (t .source))
 
-    pub note-marker : {name : Bytes} → role ≡ Note → w ≡ windowIn sink → name ≡ markerName t k
-        → pageOf v last ≡ paint (pageOf w out) (bytesOf (start 7 (escaped (b "caller") (noteCaller t k) ∷ rawly (b "style") name ∷ perhaps (b "category") (writtenCategory t k))))
-        → r ≡ overBy sink v
-        → deskIn (t .source) r last ≡ emitAll (deskIn (t .source) sink out) (markerOpens t k (roleIn role))
+    pub note-marker : {name : Bytes} → role ≡ Note → name ≡ markerName t k
+        → pageOf v last ≡ paint (record { at = at; from = getD d 0 0; buf = out }) (bytesOf (start 7 (escaped (b "caller") (noteCaller t k) ∷ rawly (b "style") name ∷ perhaps (b "category") (writtenCategory t k))))
+        → deskOf (t .source) (v .at) d last ≡ emitAll (deskOf (t .source) at d out) (markerOpens t k (roleIn role))
     unfolding roleIn markerOpens style
-    note-marker e ew en ev er =
+    note-marker e en ev =
         rw e
-        (desk-one sink out (start 7 (escaped (b "caller") (noteCaller t k) ∷ style t k ∷ perhaps (b "category") (writtenCategory t k))) ew (rw en at ev) er (t .source)
-        ∙ aside-on (deskIn (t .source) sink out) _)
+        (desk-one at d out (start 7 (escaped (b "caller") (noteCaller t k) ∷ style t k ∷ perhaps (b "category") (writtenCategory t k))) (rw en at ev) (t .source)
+        ∙ aside-on (deskOf (t .source) at d out) _)
 
   module _ (d : Desk) where
     pub unwritten-marker : role ≡ Unwritten → d ≡ emitAll d (markerOpens t k (roleIn role))

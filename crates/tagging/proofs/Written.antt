@@ -3,6 +3,7 @@ use mathlib.Core.Path.{_≡_, refl, sym, ap, _∙_}
 use mathlib.Core.Bool.{true}
 use mathlib.Core.List.{List, [], _∷_, _++_, map, append-assoc, append-nil}
 use Prim.Native.Nat.{ℕ}
+use lib.ListN.{getD}
 use Rattle.parts.specs.Bytes.{Bytes, b}
 use Rattle.chars.specs.Escape.{escape, escapedByte}
 use Rattle.window.specs.Page.{Page, pageOf, paint}
@@ -13,9 +14,8 @@ use Rattle.tags.specs.Names.{nameOf}
 use Rattle.tags.proofs.Rendered.{attrs-append}
 use Rattle.events.specs.Event.{item, rawly, escaped}
 use Rattle.events.specs.Emit.{Desk, emit, emitAll}
-use Rattle.sink.specs.Desk.{windowIn, overBy, deskIn, putOn}
-use Rattle.sink.specs.declared.Sink.{Sink}
-use Rattle.sink.proofs.Chains.{item-on, desk-on, desk-item}
+use Rattle.desk.specs.Desk.{deskOf, putOn}
+use Rattle.desk.proofs.Chains.{item-on, desk-on, desk-item}
 
 -- ---- events
 
@@ -39,16 +39,16 @@ items-on d [] = put-none d
 items-on d (i ∷ is) =
     put-apart d (bytesOf i) (render is) ∙ ap (λ (e : Desk). putOn e (render is)) (item-on d i) ∙ items-on (emit d (item i)) is
 
--- what is painted through the window of a sink, as one event
-pub desk-one : (sink : Sink) {w v : Window} {r : Sink} (out : Bytes) {last : Bytes} (i : Item) → w ≡ windowIn sink → pageOf v last ≡ paint (pageOf w out) (bytesOf i) → r ≡ overBy sink v
-    → (source : Bytes) → deskIn source r last ≡ emitAll (deskIn source sink out) (item i ∷ [])
+-- what is painted through the window of a desk, as one event
+pub desk-one : (at : ℕ) {v : Window} (d : List ℕ) (out : Bytes) {last : Bytes} (i : Item) → pageOf v last ≡ paint (record { at = at; from = getD d 0 0; buf = out }) (bytesOf i)
+    → (source : Bytes) → deskOf source (v .at) d last ≡ emitAll (deskOf source at d out) (item i ∷ [])
 unfolding emitAll
-desk-one sink out i ew ev er source = desk-item sink out i ew ev er source
+desk-one at d out i ev source = desk-item at d out i ev source
 
 -- and as several
-pub desk-items : (sink : Sink) {w v : Window} {r : Sink} (out : Bytes) {last : Bytes} (is : List Item) → w ≡ windowIn sink → pageOf v last ≡ paint (pageOf w out) (render is)
-    → r ≡ overBy sink v → (source : Bytes) → deskIn source r last ≡ emitAll (deskIn source sink out) (map item is)
-desk-items sink out is ew ev er source = desk-on sink out (render is) ew ev er source ∙ items-on (deskIn source sink out) is
+pub desk-items : (at : ℕ) {v : Window} (d : List ℕ) (out : Bytes) {last : Bytes} (is : List Item) → pageOf v last ≡ paint (record { at = at; from = getD d 0 0; buf = out }) (render is)
+    → (source : Bytes) → deskOf source (v .at) d last ≡ emitAll (deskOf source at d out) (map item is)
+desk-items at d out is ev source = desk-on at d out (render is) ev source ∙ items-on (deskOf source at d out) is
 
 -- ---- attributes
 

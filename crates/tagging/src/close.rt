@@ -4,14 +4,14 @@ ghost use Rattle.tape.specs.File.{tapeIn};
 ghost use Rattle.lean.specs.Lean.{Solids};
 ghost use Rattle.events.specs.Walk.{char};
 ghost use Rattle.events.specs.Emit.{emitAll};
-ghost use Rattle.sink.specs.Desk.{deskIn};
+ghost use Rattle.desk.specs.Desk.{deskOf};
 ghost use Rattle.roles.specs.Roles.{roleIn};
 ghost use Rattle.tagging.specs.Marker.{markerCloses};
 use attrs::Sought;
+use desk::Numbers;
+use desk::literal;
 use roles::Role;
 use roles::link_of;
-use sink::Sink;
-use sink::literal;
 use tape::Cursor;
 use tape::Sections;
 
@@ -21,15 +21,16 @@ fn close_char(
     tape: Sections,
     solids: &[u32],
     c: Cursor,
-    sink: Sink,
+    at: usize,
+    desk: &mut Numbers,
     out: &mut [u8],
-) -> Sink
+) -> usize
     requires { ⌜ Solids (tapeIn tape (now file)) (now solids) ⌝ }
-    ensures { λ r. ⌜ deskIn (tapeIn tape (now (file .entry)) .source) r (now (out .exit)) ≡ emitAll (deskIn (tapeIn tape (now (file .entry)) .source) sink (now (out .entry))) (markerCloses (tapeIn tape (now (file .entry))) (c .at) char) ⌝ }
+    ensures { λ r. ⌜ deskOf (tapeIn tape (now (file .entry)) .source) r (now (desk .exit)) (now (out .exit)) ≡ emitAll (deskOf (tapeIn tape (now (file .entry)) .source) at (now (desk .entry)) (now (out .entry))) (markerCloses (tapeIn tape (now (file .entry))) (c .at) char) ⌝ }
 {
     match link_of(file, tape, solids, c) {
-        Sought::Nowhere => literal(sink, out, b"</char>"),
-        Sought::At(_) => literal(sink, out, b"</ref></char>"),
+        Sought::Nowhere => literal(at, desk, out, b"</char>"),
+        Sought::At(_) => literal(at, desk, out, b"</ref></char>"),
     }
 }
 
@@ -40,22 +41,23 @@ pub fn close_marker(
     solids: &[u32],
     c: Cursor,
     role: Role,
-    sink: Sink,
+    at: usize,
+    desk: &mut Numbers,
     out: &mut [u8],
-) -> Sink
+) -> usize
     requires { ⌜ Solids (tapeIn tape (now file)) (now solids) ⌝ }
-    ensures { λ r. ⌜ deskIn (tapeIn tape (now (file .entry)) .source) r (now (out .exit)) ≡ emitAll (deskIn (tapeIn tape (now (file .entry)) .source) sink (now (out .entry))) (markerCloses (tapeIn tape (now (file .entry))) (c .at) (roleIn role)) ⌝ }
+    ensures { λ r. ⌜ deskOf (tapeIn tape (now (file .entry)) .source) r (now (desk .exit)) (now (out .exit)) ≡ emitAll (deskOf (tapeIn tape (now (file .entry)) .source) at (now (desk .entry)) (now (out .entry))) (markerCloses (tapeIn tape (now (file .entry))) (c .at) (roleIn role)) ⌝ }
 {
     match role {
-        Role::UnknownBlock => literal(sink, out, b"</para>"),
-        Role::UnknownInline => literal(sink, out, b"</char>"),
-        Role::Unwritten => sink,
-        Role::Figure => literal(sink, out, b"</figure>"),
-        Role::Ref => literal(sink, out, b"</ref>"),
-        Role::Id => sink,
-        Role::Note => literal(sink, out, b"</note>"),
-        Role::Ms => sink,
-        Role::Char => close_char(file, tape, solids, c, sink, out),
-        Role::Para => literal(sink, out, b"</para>"),
+        Role::UnknownBlock => literal(at, desk, out, b"</para>"),
+        Role::UnknownInline => literal(at, desk, out, b"</char>"),
+        Role::Unwritten => at,
+        Role::Figure => literal(at, desk, out, b"</figure>"),
+        Role::Ref => literal(at, desk, out, b"</ref>"),
+        Role::Id => at,
+        Role::Note => literal(at, desk, out, b"</note>"),
+        Role::Ms => at,
+        Role::Char => close_char(file, tape, solids, c, at, desk, out),
+        Role::Para => literal(at, desk, out, b"</para>"),
     }
 }

@@ -10,13 +10,13 @@ ghost use Rattle.tags.specs.Items.{start, empty, close, text, bytesOf as itemBy
 ghost use Rattle.events.specs.Event.{rawly, collected};
 ghost use Rattle.events.specs.Walk.{styled, figure};
 ghost use Rattle.events.specs.Emit.{emitAll};
-ghost use Rattle.sink.specs.Desk.{deskIn};
+ghost use Rattle.desk.specs.Desk.{deskOf};
 ghost use Rattle.roles.specs.Roles.{roleIn};
 ghost use Rattle.tagging.specs.Marker.{leafOf};
 use crate::open::named;
 use crate::open::put_style;
+use desk::Numbers;
 use roles::Role;
-use sink::Sink;
 use tape::Cursor;
 use tape::Sections;
 use tape::Step;
@@ -68,14 +68,21 @@ fn put_old(w: Window, out: &mut [u8], file: &[u8], tape: Sections, c: Cursor, a:
 }
 
 // A figure, if it is one of old.
-fn old_figure(file: &[u8], tape: Sections, c: Cursor, sink: Sink, out: &mut [u8]) -> Sink
-    ensures { λ r. ⌜ deskIn (tapeIn tape (now (file .entry)) .source) r (now (out .exit)) ≡ emitAll (deskIn (tapeIn tape (now (file .entry)) .source) sink (now (out .entry))) (leafOf (tapeIn tape (now (file .entry))) (c .at) figure) ⌝ }
+fn old_figure(
+    file: &[u8],
+    tape: Sections,
+    c: Cursor,
+    at: usize,
+    desk: &mut Numbers,
+    out: &mut [u8],
+) -> usize
+    ensures { λ r. ⌜ deskOf (tapeIn tape (now (file .entry)) .source) r (now (desk .exit)) (now (out .exit)) ≡ emitAll (deskOf (tapeIn tape (now (file .entry)) .source) at (now (desk .entry)) (now (out .entry))) (leafOf (tapeIn tape (now (file .entry))) (c .at) figure) ⌝ }
 {
     match figure::legacy(file, tape, c) {
-        Step::Done => sink,
+        Step::Done => at,
         Step::At(a) => {
-            let w = put_old(sink.window(), out, file, tape, c, a);
-            sink.over(w)
+            let w = put_old(Window { at, from: desk[0] }, out, file, tape, c, a);
+            w.at
         }
     }
 }
@@ -86,24 +93,32 @@ pub fn write_leaf(
     tape: Sections,
     c: Cursor,
     role: Role,
-    sink: Sink,
+    at: usize,
+    desk: &mut Numbers,
     out: &mut [u8],
-) -> Sink
-    ensures { λ r. ⌜ deskIn (tapeIn tape (now (file .entry)) .source) r (now (out .exit)) ≡ emitAll (deskIn (tapeIn tape (now (file .entry)) .source) sink (now (out .entry))) (leafOf (tapeIn tape (now (file .entry))) (c .at) (roleIn role)) ⌝ }
+) -> usize
+    ensures { λ r. ⌜ deskOf (tapeIn tape (now (file .entry)) .source) r (now (desk .exit)) (now (out .exit)) ≡ emitAll (deskOf (tapeIn tape (now (file .entry)) .source) at (now (desk .entry)) (now (out .entry))) (leafOf (tapeIn tape (now (file .entry))) (c .at) (roleIn role)) ⌝ }
 {
     match role {
-        Role::UnknownBlock => sink,
-        Role::UnknownInline => sink,
-        Role::Unwritten => sink,
-        Role::Figure => old_figure(file, tape, c, sink, out),
-        Role::Ref => sink,
-        Role::Id => milestone::book(file, tape, c, sink, out),
-        Role::Note => sink,
+        Role::UnknownBlock => at,
+        Role::UnknownInline => at,
+        Role::Unwritten => at,
+        Role::Figure => old_figure(file, tape, c, at, desk, out),
+        Role::Ref => at,
+        Role::Id => milestone::book(file, tape, c, at, desk, out),
+        Role::Note => at,
         Role::Ms => {
-            let w = put_ms(sink.window(), out, file, tape, c, c.marker_name(file, tape));
-            sink.over(w)
+            let w = put_ms(
+                Window { at, from: desk[0] },
+                out,
+                file,
+                tape,
+                c,
+                c.marker_name(file, tape),
+            );
+            w.at
         }
-        Role::Char => sink,
-        Role::Para => named(file, tape, c, b"<para style=\"", b"\" />", sink, out),
+        Role::Char => at,
+        Role::Para => named(file, tape, c, b"<para style=\"", b"\" />", at, desk, out),
     }
 }

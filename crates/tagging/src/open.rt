@@ -15,14 +15,14 @@ ghost use Rattle.tags.specs.Items.{start, attrsBytes, bytesOf as itemBytes};
 ghost use Rattle.events.specs.Event.{item, rawly, escaped, perhaps, collected};
 ghost use Rattle.events.specs.Walk.{style, styled, unclosed, char};
 ghost use Rattle.events.specs.Emit.{emit, emitAll};
-ghost use Rattle.sink.specs.Desk.{deskIn, putOn};
+ghost use Rattle.desk.specs.Desk.{deskOf, putOn};
 ghost use Rattle.roles.specs.Roles.{roleIn};
 ghost use Rattle.tagging.specs.Marker.{markerOpens, linkOpens};
 use attrs::Sought;
 use attrs::Value;
+use desk::Numbers;
 use roles::Role;
 use roles::link_of;
-use sink::Sink;
 use tape::Cursor;
 use tape::Sections;
 use values::put_category;
@@ -39,22 +39,40 @@ pub fn named(
     c: Cursor,
     head: &[u8],
     tail: &[u8],
-    sink: Sink,
+    at: usize,
+    desk: &mut Numbers,
     out: &mut [u8],
-) -> Sink
-    ensures { λ r. ⌜ ((source : Bytes) → deskIn source r (now (out .exit)) ≡ putOn (deskIn source sink (now (out .entry))) (now (head .entry) ++ (markerName (tapeIn tape (now (file .entry))) (c .at) ++ now (tail .entry)))) ⌝ }
+) -> usize
+    ensures { λ r. ⌜ ((source : Bytes) → deskOf source r (now (desk .exit)) (now (out .exit)) ≡ putOn (deskOf source at (now (desk .entry)) (now (out .entry))) (now (head .entry) ++ (markerName (tapeIn tape (now (file .entry))) (c .at) ++ now (tail .entry)))) ⌝ }
 {
-    let a = put_run(sink.window(), out, head);
+    let a = put_run(Window { at, from: desk[0] }, out, head);
     let d = put_run(a, out, c.marker_name(file, tape));
     let z = put_run(d, out, tail);
-    sink.over(z)
+    z.at
 }
 
 // The tag of a marker without an entry.
-fn unknown(file: &[u8], tape: Sections, c: Cursor, head: &[u8], sink: Sink, out: &mut [u8]) -> Sink
-    ensures { λ r. ⌜ ((source : Bytes) → deskIn source r (now (out .exit)) ≡ putOn (deskIn source sink (now (out .entry))) (now (head .entry) ++ (markerName (tapeIn tape (now (file .entry))) (c .at) ++ b "\" status=\"unknown\">"))) ⌝ }
+fn unknown(
+    file: &[u8],
+    tape: Sections,
+    c: Cursor,
+    head: &[u8],
+    at: usize,
+    desk: &mut Numbers,
+    out: &mut [u8],
+) -> usize
+    ensures { λ r. ⌜ ((source : Bytes) → deskOf source r (now (desk .exit)) (now (out .exit)) ≡ putOn (deskOf source at (now (desk .entry)) (now (out .entry))) (now (head .entry) ++ (markerName (tapeIn tape (now (file .entry))) (c .at) ++ b "\" status=\"unknown\">"))) ⌝ }
 {
-    named(file, tape, c, head, b"\" status=\"unknown\">", sink, out)
+    named(
+        file,
+        tape,
+        c,
+        head,
+        b"\" status=\"unknown\">",
+        at,
+        desk,
+        out,
+    )
 }
 
 // An opening tag up to its style.
@@ -102,11 +120,25 @@ fn put_char(
 }
 
 // A char as an event.
-fn open_char(file: &[u8], tape: Sections, c: Cursor, sink: Sink, out: &mut [u8]) -> Sink
-    ensures { λ r. ⌜ deskIn (tapeIn tape (now (file .entry)) .source) r (now (out .exit)) ≡ emit (deskIn (tapeIn tape (now (file .entry)) .source) sink (now (out .entry))) (item (start 6 (style (tapeIn tape (now (file .entry))) (c .at) ∷ (unclosed (tapeIn tape (now (file .entry))) (c .at) ++ collected (attributesOf (tapeIn tape (now (file .entry))) (c .at) (markerName (tapeIn tape (now (file .entry))) (c .at))))))) ⌝ }
+fn open_char(
+    file: &[u8],
+    tape: Sections,
+    c: Cursor,
+    at: usize,
+    desk: &mut Numbers,
+    out: &mut [u8],
+) -> usize
+    ensures { λ r. ⌜ deskOf (tapeIn tape (now (file .entry)) .source) r (now (desk .exit)) (now (out .exit)) ≡ emit (deskOf (tapeIn tape (now (file .entry)) .source) at (now (desk .entry)) (now (out .entry))) (item (start 6 (style (tapeIn tape (now (file .entry))) (c .at) ∷ (unclosed (tapeIn tape (now (file .entry))) (c .at) ++ collected (attributesOf (tapeIn tape (now (file .entry))) (c .at) (markerName (tapeIn tape (now (file .entry))) (c .at))))))) ⌝ }
 {
-    let w = put_char(sink.window(), out, file, tape, c, c.marker_name(file, tape));
-    sink.over(w)
+    let w = put_char(
+        Window { at, from: desk[0] },
+        out,
+        file,
+        tape,
+        c,
+        c.marker_name(file, tape),
+    );
+    w.at
 }
 
 // The `ref` to a raw value.
@@ -119,14 +151,26 @@ fn put_link(w: Window, out: &mut [u8], source: &[u8], v: Value) -> Window
 }
 
 // The `ref` around what a marker links.
-fn open_link(file: &[u8], tape: Sections, link: Sought, sink: Sink, out: &mut [u8]) -> Sink
-    ensures { λ r. ⌜ deskIn (tapeIn tape (now (file .entry)) .source) r (now (out .exit)) ≡ emitAll (deskIn (tapeIn tape (now (file .entry)) .source) sink (now (out .entry))) (linkOpens (soughtOf (tapeIn tape (now (file .entry)) .source) link)) ⌝ }
+fn open_link(
+    file: &[u8],
+    tape: Sections,
+    link: Sought,
+    at: usize,
+    desk: &mut Numbers,
+    out: &mut [u8],
+) -> usize
+    ensures { λ r. ⌜ deskOf (tapeIn tape (now (file .entry)) .source) r (now (desk .exit)) (now (out .exit)) ≡ emitAll (deskOf (tapeIn tape (now (file .entry)) .source) at (now (desk .entry)) (now (out .entry))) (linkOpens (soughtOf (tapeIn tape (now (file .entry)) .source) link)) ⌝ }
 {
     match link {
-        Sought::Nowhere => sink,
+        Sought::Nowhere => at,
         Sought::At(v) => {
-            let w = put_link(sink.window(), out, tape::source(file, tape), v);
-            sink.over(w)
+            let w = put_link(
+                Window { at, from: desk[0] },
+                out,
+                tape::source(file, tape),
+                v,
+            );
+            w.at
         }
     }
 }
@@ -137,14 +181,15 @@ fn open_char_linked(
     tape: Sections,
     solids: &[u32],
     c: Cursor,
-    sink: Sink,
+    at: usize,
+    desk: &mut Numbers,
     out: &mut [u8],
-) -> Sink
+) -> usize
     requires { ⌜ Solids (tapeIn tape (now file)) (now solids) ⌝ }
-    ensures { λ r. ⌜ deskIn (tapeIn tape (now (file .entry)) .source) r (now (out .exit)) ≡ emitAll (deskIn (tapeIn tape (now (file .entry)) .source) sink (now (out .entry))) (markerOpens (tapeIn tape (now (file .entry))) (c .at) char) ⌝ }
+    ensures { λ r. ⌜ deskOf (tapeIn tape (now (file .entry)) .source) r (now (desk .exit)) (now (out .exit)) ≡ emitAll (deskOf (tapeIn tape (now (file .entry)) .source) at (now (desk .entry)) (now (out .entry))) (markerOpens (tapeIn tape (now (file .entry))) (c .at) char) ⌝ }
 {
-    let s = open_char(file, tape, c, sink, out);
-    open_link(file, tape, link_of(file, tape, solids, c), s, out)
+    let s = open_char(file, tape, c, at, desk, out);
+    open_link(file, tape, link_of(file, tape, solids, c), s, desk, out)
 }
 
 // A figure's tag with its attributes.
@@ -198,25 +243,39 @@ pub fn open_marker(
     solids: &[u32],
     c: Cursor,
     role: Role,
-    sink: Sink,
+    at: usize,
+    desk: &mut Numbers,
     out: &mut [u8],
-) -> Sink
+) -> usize
     requires { ⌜ Solids (tapeIn tape (now file)) (now solids) ⌝ }
-    ensures { λ r. ⌜ deskIn (tapeIn tape (now (file .entry)) .source) r (now (out .exit)) ≡ emitAll (deskIn (tapeIn tape (now (file .entry)) .source) sink (now (out .entry))) (markerOpens (tapeIn tape (now (file .entry))) (c .at) (roleIn role)) ⌝ }
+    ensures { λ r. ⌜ deskOf (tapeIn tape (now (file .entry)) .source) r (now (desk .exit)) (now (out .exit)) ≡ emitAll (deskOf (tapeIn tape (now (file .entry)) .source) at (now (desk .entry)) (now (out .entry))) (markerOpens (tapeIn tape (now (file .entry))) (c .at) (roleIn role)) ⌝ }
 {
     match role {
-        Role::UnknownBlock => unknown(file, tape, c, b"<para style=\"", sink, out),
-        Role::UnknownInline => unknown(file, tape, c, b"<char style=\"", sink, out),
-        Role::Unwritten => sink,
-        Role::Figure => sink.over(put_figure(sink.window(), out, file, tape, c)),
-        Role::Ref => sink.over(put_ref(sink.window(), out, file, tape, c)),
-        Role::Id => sink,
-        Role::Note => {
-            let w = put_note(sink.window(), out, file, tape, c, c.marker_name(file, tape));
-            sink.over(w)
+        Role::UnknownBlock => unknown(file, tape, c, b"<para style=\"", at, desk, out),
+        Role::UnknownInline => unknown(file, tape, c, b"<char style=\"", at, desk, out),
+        Role::Unwritten => at,
+        Role::Figure => {
+            let w = put_figure(Window { at, from: desk[0] }, out, file, tape, c);
+            w.at
         }
-        Role::Ms => sink,
-        Role::Char => open_char_linked(file, tape, solids, c, sink, out),
-        Role::Para => named(file, tape, c, b"<para style=\"", b"\">", sink, out),
+        Role::Ref => {
+            let w = put_ref(Window { at, from: desk[0] }, out, file, tape, c);
+            w.at
+        }
+        Role::Id => at,
+        Role::Note => {
+            let w = put_note(
+                Window { at, from: desk[0] },
+                out,
+                file,
+                tape,
+                c,
+                c.marker_name(file, tape),
+            );
+            w.at
+        }
+        Role::Ms => at,
+        Role::Char => open_char_linked(file, tape, solids, c, at, desk, out),
+        Role::Para => named(file, tape, c, b"<para style=\"", b"\">", at, desk, out),
     }
 }

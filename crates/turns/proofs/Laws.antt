@@ -1,6 +1,6 @@
 -- One law for each return of a turn.
 use mathlib.Core.Path.{_≡_, refl, sym, ap, _∙_}
-use mathlib.Core.Bool.{Bool, true, false, cond, not, _&&_, _||_, or-true, or-false}
+use mathlib.Core.Bool.{Bool, true, false, cond, not, _&&_, _||_}
 use mathlib.Core.List.{List, _++_}
 use Prim.Native.Nat.{ℕ, _+_, _-_, _≤_, _<_}
 use native.Mathlib.Omega.{arith}
@@ -32,8 +32,7 @@ use Rattle.events.specs.Event.{Event, verse}
 use Rattle.events.specs.Walk.{normalized, unbroken, broken, inlineTurn, inlineAll, inlineOn, noteText, noteTurn, noteAll}
 use Rattle.events.specs.Emit.{Desk, emit, emitAll}
 use Rattle.events.proofs.Emits.{emit-append}
-use Rattle.sink.specs.Desk.{deskIn}
-use Rattle.sink.specs.declared.Sink.{Sink}
+use Rattle.desk.specs.Desk.{deskOf}
 use Rattle.turns.specs.Turn.{plainFrom, notePlain, nextBy, trimBy, noteTrimBy, KeptAt, keptPast, keptBehind, keptBy, noteKeptBy, behindOf, learnt, followsBy, behindText, behindBy, noteBehindBy}
 use Rattle.turns.specs.declared.Behind.{Behind}
 use Rattle.turns.specs.declared.Behind.the-variants.{Unasked, Follows, Ends}
@@ -208,17 +207,17 @@ broken-lean : (s : Bytes) (n : Normalized) → broken (lean s) n ≡ broken s n
 unfolding broken segments
 broken-lean s n = rw (body-lean s, unbroken-lean s n)
 
-module _ (c : Sections) (file : Bytes) (k : Cursor) (trim behind : Bool) (kept : Step) (sink : Sink) (out : Bytes) where
+module _ (c : Sections) (file : Bytes) (k : Cursor) (trim behind : Bool) (kept : Step) (at : ℕ) (d : List ℕ) (out : Bytes) where
   pub words-written : {s : Bytes} → s ≡ lean (textAt (tapeIn c file) (k .at)) → {n : Normalized} → (Kept (tapeIn c file) k kept → n ≡ normalized (tapeIn c file) (k .at) s trim behind)
-      → (r : Sink) (last : Bytes) → ((source : Bytes) → deskIn source r last ≡ emitAll (deskIn source sink out) (broken s n))
+      → (r : ℕ) (last-d : List ℕ) (last : Bytes) → ((source : Bytes) → deskOf source r last-d last ≡ emitAll (deskOf source at d out) (broken s n))
       → {x : Bool} → x ≡ trim && not (n .shows)
       → Kept (tapeIn c file) k kept → (node : ℕ → Bool → List Event) (ks : List ℕ)
-      → emitAll (deskIn (tapeIn c file .source) r last) (inlineAll node (tapeIn c file) behind x ks)
-      ≡ emitAll (deskIn (tapeIn c file .source) sink out) (plainFrom node (tapeIn c file) behind trim (k .at) ks Words)
+      → emitAll (deskOf (tapeIn c file .source) r last-d last) (inlineAll node (tapeIn c file) behind x ks)
+      ≡ emitAll (deskOf (tapeIn c file .source) at d out) (plainFrom node (tapeIn c file) behind trim (k .at) ks Words)
   unfolding plainFrom inlineOn inlineTurn
-  words-written {s} es {n} en r last er {x} ex h node ks =
+  words-written {s} es {n} en r last-d last er {x} ex h node ks =
       let t : Tape = tapeIn c file in
-      let w : Desk = deskIn (t .source) sink out in
+      let w : Desk = deskOf (t .source) at d out in
       let is : n ≡ normalized t (k .at) (textAt t (k .at)) trim behind = en h ∙ ap (λ (z : Bytes). normalized t (k .at) z trim behind) es ∙ normalized-lean t (k .at) (textAt t (k .at)) trim behind in
       ap (λ (z : Desk). emitAll z (inlineAll node t behind x ks)) (er (t .source))
       ∙ sym (emit-append w (broken s n) (inlineAll node t behind x ks))
@@ -228,16 +227,16 @@ module _ (c : Sections) (file : Bytes) (k : Cursor) (trim behind : Bool) (kept :
 
   pub note-written : (parent : Cursor) {s : Bytes} → s ≡ lean (noteText (tapeIn c file) (parent .at + 1) (k .at)) → {n : Normalized}
       → (Kept (tapeIn c file) k kept → n ≡ normalized (tapeIn c file) (k .at) s trim behind)
-      → (r : Sink) (last : Bytes) → ((source : Bytes) → deskIn source r last ≡ emitAll (deskIn source sink out) (unbroken s n))
+      → (r : ℕ) (last-d : List ℕ) (last : Bytes) → ((source : Bytes) → deskOf source r last-d last ≡ emitAll (deskOf source at d out) (unbroken s n))
       → {x : Bool} → x ≡ trim && not (n .shows)
       → Kept (tapeIn c file) k kept → (node : ℕ → Bool → List Event) (ks : List ℕ)
-      → emitAll (deskIn (tapeIn c file .source) r last) (noteAll node (tapeIn c file) (parent .at + 1) behind x ks)
-      ≡ emitAll (deskIn (tapeIn c file .source) sink out) (notePlain node (tapeIn c file) behind trim (parent .at + 1) (k .at) ks Words)
+      → emitAll (deskOf (tapeIn c file .source) r last-d last) (noteAll node (tapeIn c file) (parent .at + 1) behind x ks)
+      ≡ emitAll (deskOf (tapeIn c file .source) at d out) (notePlain node (tapeIn c file) behind trim (parent .at + 1) (k .at) ks Words)
   unfolding notePlain noteTurn
-  note-written parent {s} es {n} en r last er {x} ex h node ks =
+  note-written parent {s} es {n} en r last-d last er {x} ex h node ks =
       let t : Tape = tapeIn c file in
       let first : ℕ = parent .at + 1 in
-      let w : Desk = deskIn (t .source) sink out in
+      let w : Desk = deskOf (t .source) at d out in
       let is : n ≡ normalized t (k .at) (noteText t first (k .at)) trim behind = en h ∙ ap (λ (z : Bytes). normalized t (k .at) z trim behind) es ∙ normalized-lean t (k .at) (noteText t first (k .at)) trim behind in
       ap (λ (z : Desk). emitAll z (noteAll node t first behind x ks)) (er (t .source))
       ∙ sym (emit-append w (unbroken s n) (noteAll node t first behind x ks))
@@ -281,18 +280,18 @@ module _ (t : Tape) (parent c : Cursor) {x : Bool} (ex : x ≡ eqb (c .at) (pare
 
 -- ---- a verse
 
-module _ (c : Sections) (file : Bytes) (span : Span) (k : Cursor) (sink : Sink) (out : Bytes)
+module _ (c : Sections) (file : Bytes) (span : Span) (k : Cursor) (at : ℕ) (d : List ℕ) (out : Bytes)
     {first : Step} (ef : first ≡ nextSibling (tapeIn c file) (k .at)) {kind : Kind} (ek : kind .code ≡ 7) (f : Folds)
     (e : foldedIn (tapeIn c file) span f ≡ foldAt (tapeIn c file) (kind .code) (nodesIn (tapeIn c file) span first)) where
-  pub anchor-written : (r : Sink) (last : Bytes)
-      → deskIn (tapeIn c file .source) r last ≡ emit (deskIn (tapeIn c file .source) sink out) (verse (labelOf (tapeIn c file) (k .at)) (foldedNumber (tapeIn c file) (f .alt)) (foldedNumber (tapeIn c file) (f .published)))
+  pub anchor-written : (r : ℕ) (last-d : List ℕ) (last : Bytes)
+      → deskOf (tapeIn c file .source) r last-d last ≡ emit (deskOf (tapeIn c file .source) at d out) (verse (labelOf (tapeIn c file) (k .at)) (foldedNumber (tapeIn c file) (f .alt)) (foldedNumber (tapeIn c file) (f .published)))
       → (node : ℕ → Bool → List Event) (behind trim : Bool)
-      → emitAll (deskIn (tapeIn c file .source) r last) (inlineAll node (tapeIn c file) behind true (nodesIn (tapeIn c file) span (f .rest)))
-      ≡ emitAll (deskIn (tapeIn c file .source) sink out) (plainFrom node (tapeIn c file) behind trim (k .at) (nodesIn (tapeIn c file) span (nextSibling (tapeIn c file) (k .at))) Anchor)
+      → emitAll (deskOf (tapeIn c file .source) r last-d last) (inlineAll node (tapeIn c file) behind true (nodesIn (tapeIn c file) span (f .rest)))
+      ≡ emitAll (deskOf (tapeIn c file .source) at d out) (plainFrom node (tapeIn c file) behind trim (k .at) (nodesIn (tapeIn c file) span (nextSibling (tapeIn c file) (k .at))) Anchor)
   unfolding plainFrom inlineOn inlineTurn emitAll foldedIn
-  anchor-written r last er node behind trim =
+  anchor-written r last-d last er node behind trim =
       let t : Tape = tapeIn c file in
-      let w : Desk = deskIn (t .source) sink out in
+      let w : Desk = deskOf (t .source) at d out in
       let folded : foldedIn t span f ≡ foldAt t 7 (nodesIn t span (nextSibling t (k .at))) = e ∙ rw (ek, ef) in
       ap (λ (z : Desk). emitAll z (inlineAll node t behind true (nodesIn t span (f .rest)))) er
       ∙ ap (λ (z : Folded). emitAll (emit w (verse (labelOf t (k .at)) (z .alt) (z .published))) (inlineAll node t behind true (z .rest))) folded
@@ -308,64 +307,64 @@ turn-left t k en = left-turn t k refl en
 pub anchor-kept : (t : Tape) (k : Cursor) (kept next solid : Step) → KeptAt t next solid → Kept t k kept → KeptAt t next solid
 anchor-kept t k kept next solid e h = e
 
-module _ (c : Sections) (file : Bytes) (span : Span) (k : Cursor) (trim behind : Bool) (kept : Step) (sink : Sink) (out : Bytes) (g : Going) where
+module _ (c : Sections) (file : Bytes) (span : Span) (k : Cursor) (trim behind : Bool) (kept : Step) (at : ℕ) (d : List ℕ) (out : Bytes) (g : Going) where
   -- what is left to write behind the turn is what was left before it, from such a child on
-  abbrev Goes : Bytes → Child → Type 0
-  Goes last child =
+  abbrev Goes : List ℕ → Bytes → Child → Type 0
+  Goes last-d last child =
       Kept (tapeIn c file) k kept → (node : ℕ → Bool → List Event)
-      → emitAll (deskIn (tapeIn c file .source) (g .sink) last) (inlineAll node (tapeIn c file) behind (g .trim) (nodesIn (tapeIn c file) span (g .next)))
-      ≡ emitAll (deskIn (tapeIn c file .source) sink out) (plainFrom node (tapeIn c file) behind trim (k .at) (nodesIn (tapeIn c file) span (nextSibling (tapeIn c file) (k .at))) child)
+      → emitAll (deskOf (tapeIn c file .source) (g .at) last-d last) (inlineAll node (tapeIn c file) behind (g .trim) (nodesIn (tapeIn c file) span (g .next)))
+      ≡ emitAll (deskOf (tapeIn c file .source) at d out) (plainFrom node (tapeIn c file) behind trim (k .at) (nodesIn (tapeIn c file) span (nextSibling (tapeIn c file) (k .at))) child)
 
-  pub plain-anchor : {child : Child} → child ≡ Anchor → (last : Bytes)
+  pub plain-anchor : {child : Child} → child ≡ Anchor → (last-d : List ℕ) (last : Bytes)
       → ((node : ℕ → Bool → List Event) (behind trim : Bool)
-      → emitAll (deskIn (tapeIn c file .source) (g .sink) last) (inlineAll node (tapeIn c file) behind (g .trim) (nodesIn (tapeIn c file) span (g .next)))
-      ≡ emitAll (deskIn (tapeIn c file .source) sink out) (plainFrom node (tapeIn c file) behind trim (k .at) (nodesIn (tapeIn c file) span (nextSibling (tapeIn c file) (k .at))) Anchor))
-      → Goes last child
-  plain-anchor ec last e h node = rw ec (e node behind trim)
+      → emitAll (deskOf (tapeIn c file .source) (g .at) last-d last) (inlineAll node (tapeIn c file) behind (g .trim) (nodesIn (tapeIn c file) span (g .next)))
+      ≡ emitAll (deskOf (tapeIn c file .source) at d out) (plainFrom node (tapeIn c file) behind trim (k .at) (nodesIn (tapeIn c file) span (nextSibling (tapeIn c file) (k .at))) Anchor))
+      → Goes last-d last child
+  plain-anchor ec last-d last e h node = rw ec (e node behind trim)
 
-  pub plain-words : {child : Child} → child ≡ Words → (last : Bytes)
+  pub plain-words : {child : Child} → child ≡ Words → (last-d : List ℕ) (last : Bytes)
       → (Kept (tapeIn c file) k kept → (node : ℕ → Bool → List Event) (ks : List ℕ)
-      → emitAll (deskIn (tapeIn c file .source) (g .sink) last) (inlineAll node (tapeIn c file) behind (g .trim) ks)
-      ≡ emitAll (deskIn (tapeIn c file .source) sink out) (plainFrom node (tapeIn c file) behind trim (k .at) ks Words))
-      → g .next ≡ nextSibling (tapeIn c file) (k .at) → Goes last child
-  plain-words ec last e en h node = rw (ec, en) (e h node (nodesIn (tapeIn c file) span (nextSibling (tapeIn c file) (k .at))))
+      → emitAll (deskOf (tapeIn c file .source) (g .at) last-d last) (inlineAll node (tapeIn c file) behind (g .trim) ks)
+      ≡ emitAll (deskOf (tapeIn c file .source) at d out) (plainFrom node (tapeIn c file) behind trim (k .at) ks Words))
+      → g .next ≡ nextSibling (tapeIn c file) (k .at) → Goes last-d last child
+  plain-words ec last-d last e en h node = rw (ec, en) (e h node (nodesIn (tapeIn c file) span (nextSibling (tapeIn c file) (k .at))))
 
-  module _ {child : Child} (es : g .sink ≡ sink) (et : g .trim ≡ trim) (en : g .next ≡ nextSibling (tapeIn c file) (k .at)) where
-    pub plain-passed : child ≡ Passed → Goes out child
+  module _ {child : Child} (es : g .at ≡ at) (et : g .trim ≡ trim) (en : g .next ≡ nextSibling (tapeIn c file) (k .at)) where
+    pub plain-passed : child ≡ Passed → Goes d out child
     unfolding plainFrom
     plain-passed ec h node = rw (ec, es, et, en)
 
-    pub plain-skipped : child ≡ Skipped → Goes out child
+    pub plain-skipped : child ≡ Skipped → Goes d out child
     unfolding plainFrom
     plain-skipped ec h node = rw (ec, es, et, en)
 
 -- ---- a turn along a note
 
-module _ (c : Sections) (file : Bytes) (parent k : Cursor) (trim behind : Bool) (kept : Step) (sink : Sink) (out : Bytes) (g : Going) where
+module _ (c : Sections) (file : Bytes) (parent k : Cursor) (trim behind : Bool) (kept : Step) (at : ℕ) (d : List ℕ) (out : Bytes) (g : Going) where
   -- the same for a note
-  abbrev NoteGoes : Bytes → Child → Type 0
-  NoteGoes last child =
+  abbrev NoteGoes : List ℕ → Bytes → Child → Type 0
+  NoteGoes last-d last child =
       Kept (tapeIn c file) k kept → (node : ℕ → Bool → List Event)
-      → emitAll (deskIn (tapeIn c file .source) (g .sink) last) (noteAll node (tapeIn c file) (parent .at + 1) behind (g .trim) (walkFrom (tapeIn c file) (g .next)))
-      ≡ emitAll (deskIn (tapeIn c file .source) sink out) (notePlain node (tapeIn c file) behind trim (parent .at + 1) (k .at) (walkFrom (tapeIn c file) (nextSibling (tapeIn c file) (k .at))) child)
+      → emitAll (deskOf (tapeIn c file .source) (g .at) last-d last) (noteAll node (tapeIn c file) (parent .at + 1) behind (g .trim) (walkFrom (tapeIn c file) (g .next)))
+      ≡ emitAll (deskOf (tapeIn c file .source) at d out) (notePlain node (tapeIn c file) behind trim (parent .at + 1) (k .at) (walkFrom (tapeIn c file) (nextSibling (tapeIn c file) (k .at))) child)
 
-  pub note-turn-words : {child : Child} → child ≡ Words → (last : Bytes)
+  pub note-turn-words : {child : Child} → child ≡ Words → (last-d : List ℕ) (last : Bytes)
       → (Kept (tapeIn c file) k kept → (node : ℕ → Bool → List Event) (ks : List ℕ)
-      → emitAll (deskIn (tapeIn c file .source) (g .sink) last) (noteAll node (tapeIn c file) (parent .at + 1) behind (g .trim) ks)
-      ≡ emitAll (deskIn (tapeIn c file .source) sink out) (notePlain node (tapeIn c file) behind trim (parent .at + 1) (k .at) ks Words))
-      → g .next ≡ nextSibling (tapeIn c file) (k .at) → NoteGoes last child
-  note-turn-words ec last e en h node = rw (ec, en) (e h node (walkFrom (tapeIn c file) (nextSibling (tapeIn c file) (k .at))))
+      → emitAll (deskOf (tapeIn c file .source) (g .at) last-d last) (noteAll node (tapeIn c file) (parent .at + 1) behind (g .trim) ks)
+      ≡ emitAll (deskOf (tapeIn c file .source) at d out) (notePlain node (tapeIn c file) behind trim (parent .at + 1) (k .at) ks Words))
+      → g .next ≡ nextSibling (tapeIn c file) (k .at) → NoteGoes last-d last child
+  note-turn-words ec last-d last e en h node = rw (ec, en) (e h node (walkFrom (tapeIn c file) (nextSibling (tapeIn c file) (k .at))))
 
-  module _ {child : Child} (es : g .sink ≡ sink) (et : g .trim ≡ trim) (en : g .next ≡ nextSibling (tapeIn c file) (k .at)) where
-    pub note-turn-passed : child ≡ Passed → NoteGoes out child
+  module _ {child : Child} (es : g .at ≡ at) (et : g .trim ≡ trim) (en : g .next ≡ nextSibling (tapeIn c file) (k .at)) where
+    pub note-turn-passed : child ≡ Passed → NoteGoes d out child
     unfolding notePlain
     note-turn-passed ec h node = rw (ec, es, et, en)
 
-    pub note-turn-anchor : child ≡ Anchor → NoteGoes out child
+    pub note-turn-anchor : child ≡ Anchor → NoteGoes d out child
     unfolding notePlain
     note-turn-anchor ec h node = rw (ec, es, et, en)
 
-    pub note-turn-skipped : child ≡ Skipped → NoteGoes out child
+    pub note-turn-skipped : child ≡ Skipped → NoteGoes d out child
     unfolding notePlain
     note-turn-skipped ec h node = rw (ec, es, et, en)
 

@@ -12,17 +12,17 @@ ghost use Rattle.render.specs.Follow.{Kept};
 ghost use Rattle.events.specs.Event.{Event};
 ghost use Rattle.events.specs.Walk.{normalized, inlineAll, noteText, noteAll};
 ghost use Rattle.events.specs.Emit.{emitAll};
-ghost use Rattle.sink.specs.Desk.{deskIn};
+ghost use Rattle.desk.specs.Desk.{deskOf};
 ghost use Rattle.lists.specs.Span.{nodesIn};
 ghost use Rattle.turns.specs.Turn.{sortOf, sortIn, noteSort, plainFrom, notePlain, nextBy, trimBy, noteTrimBy, KeptAt, keptPast, keptBehind, keptBy, noteKeptBy, behindOf, learnt, followsBy, behindText, behindBy, noteBehindBy};
 ghost use Rattle.turns.specs.declared.Child.the-variants.{Anchor, Words};
+use desk::Numbers;
 use lean::lean_of;
 use lean::lean_text;
 use lists::Member;
 use lists::Span;
 use lists::fold_in;
 use lists::member_of;
-use sink::Sink;
 use tape::Cursor;
 use tape::Kind;
 use tape::Sections;
@@ -51,9 +51,9 @@ pub enum Behind {
     Ends,
 }
 
-// Where a walk along a list stands: the sink, whether a text loses its leading space, what is known of the parent, the solid sibling that was kept, the next node.
+// Where a walk along a list stands: how much is written, whether a text loses its leading space, what is known of the parent, the solid sibling that was kept, the next node.
 pub struct Going {
-    pub sink: Sink,
+    pub at: usize,
     pub trim: bool,
     pub behind: Behind,
     pub kept: Step,
@@ -237,11 +237,12 @@ fn words_turn(
     trim: bool,
     behind: Behind,
     kept: Step,
-    sink: Sink,
+    at: usize,
+    desk: &mut Numbers,
     out: &mut [u8],
 ) -> Going
     requires { ⌜ Solids (tapeIn tape (now file)) (now solids) ⌝ }
-    ensures { λ r. ⌜ (Kept (tapeIn tape (now (file .entry))) c kept → (node : ℕ → Bool → List Event) (ks : List ℕ) → emitAll (deskIn (tapeIn tape (now (file .entry)) .source) (r .sink) (now (out .exit))) (inlineAll node (tapeIn tape (now (file .entry))) (behindOf (tapeIn tape (now (file .entry))) parent outer behind) (r .trim) ks) ≡ emitAll (deskIn (tapeIn tape (now (file .entry)) .source) sink (now (out .entry))) (plainFrom node (tapeIn tape (now (file .entry))) (behindOf (tapeIn tape (now (file .entry))) parent outer behind) trim (c .at) ks Words)) ⌝ }
+    ensures { λ r. ⌜ (Kept (tapeIn tape (now (file .entry))) c kept → (node : ℕ → Bool → List Event) (ks : List ℕ) → emitAll (deskOf (tapeIn tape (now (file .entry)) .source) (r .at) (now (desk .exit)) (now (out .exit))) (inlineAll node (tapeIn tape (now (file .entry))) (behindOf (tapeIn tape (now (file .entry))) parent outer behind) (r .trim) ks) ≡ emitAll (deskOf (tapeIn tape (now (file .entry)) .source) at (now (desk .entry)) (now (out .entry))) (plainFrom node (tapeIn tape (now (file .entry))) (behindOf (tapeIn tape (now (file .entry))) parent outer behind) trim (c .at) ks Words)) ⌝ }
     ensures { λ r. ⌜ (Kept (tapeIn tape (now (file .entry))) c kept → KeptAt (tapeIn tape (now (file .entry))) (r .next) (r .kept)) ⌝ }
     ensures { λ r. ⌜ r .next ≡ nextSibling (tapeIn tape (now (file .entry))) (c .at) ⌝ }
     ensures { λ r. ⌜ (Kept (tapeIn tape (now (file .entry))) c kept → r .trim ≡ trimBy (tapeIn tape (now (file .entry))) (behindOf (tapeIn tape (now (file .entry))) parent outer behind) trim (c .at) Words) ⌝ }
@@ -266,9 +267,9 @@ fn words_turn(
     let n = l.text;
     let known = l.behind;
     let solid = l.kept;
-    let r = breaks::put_broken(s, n, sink, out);
+    let r = breaks::put_broken(s, n, at, desk, out);
     Going {
-        sink: r,
+        at: r,
         trim: still(trim, n),
         behind: known,
         kept: solid,
@@ -284,11 +285,12 @@ fn anchor_turn(
     span: Span,
     c: Cursor,
     behind: Behind,
-    sink: Sink,
+    at: usize,
+    desk: &mut Numbers,
     out: &mut [u8],
 ) -> Going
     requires { ⌜ Solids (tapeIn tape (now file)) (now solids) ⌝ }
-    ensures { λ r. ⌜ ((node : ℕ → Bool → List Event) (follows trim : Bool) → emitAll (deskIn (tapeIn tape (now (file .entry)) .source) (r .sink) (now (out .exit))) (inlineAll node (tapeIn tape (now (file .entry))) follows (r .trim) (nodesIn (tapeIn tape (now (file .entry))) span (r .next))) ≡ emitAll (deskIn (tapeIn tape (now (file .entry)) .source) sink (now (out .entry))) (plainFrom node (tapeIn tape (now (file .entry))) follows trim (c .at) (nodesIn (tapeIn tape (now (file .entry))) span (nextSibling (tapeIn tape (now (file .entry))) (c .at))) Anchor)) ⌝ }
+    ensures { λ r. ⌜ ((node : ℕ → Bool → List Event) (follows trim : Bool) → emitAll (deskOf (tapeIn tape (now (file .entry)) .source) (r .at) (now (desk .exit)) (now (out .exit))) (inlineAll node (tapeIn tape (now (file .entry))) follows (r .trim) (nodesIn (tapeIn tape (now (file .entry))) span (r .next))) ≡ emitAll (deskOf (tapeIn tape (now (file .entry)) .source) at (now (desk .entry)) (now (out .entry))) (plainFrom node (tapeIn tape (now (file .entry))) follows trim (c .at) (nodesIn (tapeIn tape (now (file .entry))) span (nextSibling (tapeIn tape (now (file .entry))) (c .at))) Anchor)) ⌝ }
     ensures { λ r. ⌜ KeptAt (tapeIn tape (now (file .entry))) (r .next) (r .kept) ⌝ }
     ensures { λ r. ⌜ left (tapeIn tape (now (file .entry))) (r .next) < left (tapeIn tape (now (file .entry))) (At c) ⌝ }
     ensures { λ r. ⌜ r .next ≡ nextBy (tapeIn tape (now (file .entry))) span (c .at) Anchor ⌝ }
@@ -307,9 +309,9 @@ fn anchor_turn(
     let alt = f.alt;
     let published = f.published;
     let next = f.rest;
-    let r = milestone::verse(file, tape, c, alt, published, sink, out);
+    let r = milestone::verse(file, tape, c, alt, published, at, desk, out);
     Going {
-        sink: r,
+        at: r,
         trim: true,
         behind,
         kept: next,
@@ -325,9 +327,9 @@ fn passed_turn(
     trim: bool,
     behind: Behind,
     kept: Step,
-    sink: Sink,
+    at: usize,
 ) -> Going
-    ensures { λ r. ⌜ r .sink ≡ sink ⌝ }
+    ensures { λ r. ⌜ r .at ≡ at ⌝ }
     ensures { λ r. ⌜ r .trim ≡ trim ⌝ }
     ensures { λ r. ⌜ r .behind ≡ behind ⌝ }
     ensures { λ r. ⌜ (Kept (tapeIn tape (now (file .entry))) c kept → KeptAt (tapeIn tape (now (file .entry))) (r .next) (r .kept)) ⌝ }
@@ -336,7 +338,7 @@ fn passed_turn(
 {
     let next = c.next_sibling(file, tape);
     Going {
-        sink,
+        at,
         trim,
         behind,
         kept: past(kept, c, next),
@@ -357,11 +359,12 @@ pub fn plain_turn(
     trim: bool,
     behind: Behind,
     kept: Step,
-    sink: Sink,
+    at: usize,
+    desk: &mut Numbers,
     out: &mut [u8],
 ) -> Going
     requires { ⌜ Solids (tapeIn tape (now file)) (now solids) ⌝ }
-    ensures { λ r. ⌜ (Kept (tapeIn tape (now (file .entry))) c kept → (node : ℕ → Bool → List Event) → emitAll (deskIn (tapeIn tape (now (file .entry)) .source) (r .sink) (now (out .exit))) (inlineAll node (tapeIn tape (now (file .entry))) (behindOf (tapeIn tape (now (file .entry))) parent outer behind) (r .trim) (nodesIn (tapeIn tape (now (file .entry))) span (r .next))) ≡ emitAll (deskIn (tapeIn tape (now (file .entry)) .source) sink (now (out .entry))) (plainFrom node (tapeIn tape (now (file .entry))) (behindOf (tapeIn tape (now (file .entry))) parent outer behind) trim (c .at) (nodesIn (tapeIn tape (now (file .entry))) span (nextSibling (tapeIn tape (now (file .entry))) (c .at))) child)) ⌝ }
+    ensures { λ r. ⌜ (Kept (tapeIn tape (now (file .entry))) c kept → (node : ℕ → Bool → List Event) → emitAll (deskOf (tapeIn tape (now (file .entry)) .source) (r .at) (now (desk .exit)) (now (out .exit))) (inlineAll node (tapeIn tape (now (file .entry))) (behindOf (tapeIn tape (now (file .entry))) parent outer behind) (r .trim) (nodesIn (tapeIn tape (now (file .entry))) span (r .next))) ≡ emitAll (deskOf (tapeIn tape (now (file .entry)) .source) at (now (desk .entry)) (now (out .entry))) (plainFrom node (tapeIn tape (now (file .entry))) (behindOf (tapeIn tape (now (file .entry))) parent outer behind) trim (c .at) (nodesIn (tapeIn tape (now (file .entry))) span (nextSibling (tapeIn tape (now (file .entry))) (c .at))) child)) ⌝ }
     ensures { λ r. ⌜ (Kept (tapeIn tape (now (file .entry))) c kept → KeptAt (tapeIn tape (now (file .entry))) (r .next) (r .kept)) ⌝ }
     ensures { λ r. ⌜ left (tapeIn tape (now (file .entry))) (r .next) < left (tapeIn tape (now (file .entry))) (At c) ⌝ }
     ensures { λ r. ⌜ r .next ≡ nextBy (tapeIn tape (now (file .entry))) span (c .at) child ⌝ }
@@ -370,7 +373,7 @@ pub fn plain_turn(
     ensures { λ r. ⌜ (Kept (tapeIn tape (now (file .entry))) c kept → r .behind ≡ behindBy (tapeIn tape (now (file .entry))) parent outer behind (c .at) child) ⌝ }
 {
     match child {
-        Child::Anchor => anchor_turn(file, tape, solids, span, c, behind, sink, out),
+        Child::Anchor => anchor_turn(file, tape, solids, span, c, behind, at, desk, out),
         Child::Words => words_turn(
             file,
             tape,
@@ -381,11 +384,12 @@ pub fn plain_turn(
             trim,
             behind,
             kept,
-            sink,
+            at,
+            desk,
             out,
         ),
-        Child::Passed => passed_turn(file, tape, c, trim, behind, kept, sink),
-        Child::Skipped => passed_turn(file, tape, c, trim, behind, kept, sink),
+        Child::Passed => passed_turn(file, tape, c, trim, behind, kept, at),
+        Child::Skipped => passed_turn(file, tape, c, trim, behind, kept, at),
     }
 }
 
@@ -429,11 +433,12 @@ fn note_words(
     trim: bool,
     behind: Behind,
     kept: Step,
-    sink: Sink,
+    at: usize,
+    desk: &mut Numbers,
     out: &mut [u8],
 ) -> Going
     requires { ⌜ Solids (tapeIn tape (now file)) (now solids) ⌝ }
-    ensures { λ r. ⌜ (Kept (tapeIn tape (now (file .entry))) c kept → (node : ℕ → Bool → List Event) (ks : List ℕ) → emitAll (deskIn (tapeIn tape (now (file .entry)) .source) (r .sink) (now (out .exit))) (noteAll node (tapeIn tape (now (file .entry))) (parent .at + 1) (behindOf (tapeIn tape (now (file .entry))) parent outer behind) (r .trim) ks) ≡ emitAll (deskIn (tapeIn tape (now (file .entry)) .source) sink (now (out .entry))) (notePlain node (tapeIn tape (now (file .entry))) (behindOf (tapeIn tape (now (file .entry))) parent outer behind) trim (parent .at + 1) (c .at) ks Words)) ⌝ }
+    ensures { λ r. ⌜ (Kept (tapeIn tape (now (file .entry))) c kept → (node : ℕ → Bool → List Event) (ks : List ℕ) → emitAll (deskOf (tapeIn tape (now (file .entry)) .source) (r .at) (now (desk .exit)) (now (out .exit))) (noteAll node (tapeIn tape (now (file .entry))) (parent .at + 1) (behindOf (tapeIn tape (now (file .entry))) parent outer behind) (r .trim) ks) ≡ emitAll (deskOf (tapeIn tape (now (file .entry)) .source) at (now (desk .entry)) (now (out .entry))) (notePlain node (tapeIn tape (now (file .entry))) (behindOf (tapeIn tape (now (file .entry))) parent outer behind) trim (parent .at + 1) (c .at) ks Words)) ⌝ }
     ensures { λ r. ⌜ (Kept (tapeIn tape (now (file .entry))) c kept → KeptAt (tapeIn tape (now (file .entry))) (r .next) (r .kept)) ⌝ }
     ensures { λ r. ⌜ r .next ≡ nextSibling (tapeIn tape (now (file .entry))) (c .at) ⌝ }
     ensures { λ r. ⌜ (Kept (tapeIn tape (now (file .entry))) c kept → r .trim ≡ noteTrimBy (tapeIn tape (now (file .entry))) (parent .at + 1) (behindOf (tapeIn tape (now (file .entry))) parent outer behind) trim (c .at) Words) ⌝ }
@@ -458,9 +463,9 @@ fn note_words(
     let n = l.text;
     let known = l.behind;
     let solid = l.kept;
-    let r = breaks::put_unbroken(s, n, sink, out);
+    let r = breaks::put_unbroken(s, n, at, desk, out);
     Going {
-        sink: r,
+        at: r,
         trim: still(trim, n),
         behind: known,
         kept: solid,
@@ -480,11 +485,12 @@ pub fn note_turn(
     trim: bool,
     behind: Behind,
     kept: Step,
-    sink: Sink,
+    at: usize,
+    desk: &mut Numbers,
     out: &mut [u8],
 ) -> Going
     requires { ⌜ Solids (tapeIn tape (now file)) (now solids) ⌝ }
-    ensures { λ r. ⌜ (Kept (tapeIn tape (now (file .entry))) c kept → (node : ℕ → Bool → List Event) → emitAll (deskIn (tapeIn tape (now (file .entry)) .source) (r .sink) (now (out .exit))) (noteAll node (tapeIn tape (now (file .entry))) (parent .at + 1) (behindOf (tapeIn tape (now (file .entry))) parent outer behind) (r .trim) (walkFrom (tapeIn tape (now (file .entry))) (r .next))) ≡ emitAll (deskIn (tapeIn tape (now (file .entry)) .source) sink (now (out .entry))) (notePlain node (tapeIn tape (now (file .entry))) (behindOf (tapeIn tape (now (file .entry))) parent outer behind) trim (parent .at + 1) (c .at) (walkFrom (tapeIn tape (now (file .entry))) (nextSibling (tapeIn tape (now (file .entry))) (c .at))) child)) ⌝ }
+    ensures { λ r. ⌜ (Kept (tapeIn tape (now (file .entry))) c kept → (node : ℕ → Bool → List Event) → emitAll (deskOf (tapeIn tape (now (file .entry)) .source) (r .at) (now (desk .exit)) (now (out .exit))) (noteAll node (tapeIn tape (now (file .entry))) (parent .at + 1) (behindOf (tapeIn tape (now (file .entry))) parent outer behind) (r .trim) (walkFrom (tapeIn tape (now (file .entry))) (r .next))) ≡ emitAll (deskOf (tapeIn tape (now (file .entry)) .source) at (now (desk .entry)) (now (out .entry))) (notePlain node (tapeIn tape (now (file .entry))) (behindOf (tapeIn tape (now (file .entry))) parent outer behind) trim (parent .at + 1) (c .at) (walkFrom (tapeIn tape (now (file .entry))) (nextSibling (tapeIn tape (now (file .entry))) (c .at))) child)) ⌝ }
     ensures { λ r. ⌜ (Kept (tapeIn tape (now (file .entry))) c kept → KeptAt (tapeIn tape (now (file .entry))) (r .next) (r .kept)) ⌝ }
     ensures { λ r. ⌜ left (tapeIn tape (now (file .entry))) (r .next) < left (tapeIn tape (now (file .entry))) (At c) ⌝ }
     ensures { λ r. ⌜ r .next ≡ nextSibling (tapeIn tape (now (file .entry))) (c .at) ⌝ }
@@ -503,11 +509,12 @@ pub fn note_turn(
             trim,
             behind,
             kept,
-            sink,
+            at,
+            desk,
             out,
         ),
-        Child::Passed => passed_turn(file, tape, c, trim, behind, kept, sink),
-        Child::Anchor => passed_turn(file, tape, c, trim, behind, kept, sink),
-        Child::Skipped => passed_turn(file, tape, c, trim, behind, kept, sink),
+        Child::Passed => passed_turn(file, tape, c, trim, behind, kept, at),
+        Child::Anchor => passed_turn(file, tape, c, trim, behind, kept, at),
+        Child::Skipped => passed_turn(file, tape, c, trim, behind, kept, at),
     }
 }

@@ -2,7 +2,6 @@
 use mathlib.Core.Path.{_≡_, refl, sym, ap, _∙_}
 use mathlib.Core.Bool.{Bool, false, cond, _||_}
 use mathlib.Core.List.{List, [], _∷_, _++_, append-assoc}
-use mathlib.Core.Option.{none as nothing}
 use Prim.Native.Nat.{ℕ, zero, suc, _+_, _^_, _≤_, _<_}
 use native.Mathlib.Omega.{arith}
 use lib.ListN.{length, getD, drop, drop-of-length-le}
@@ -30,12 +29,11 @@ use Rattle.events.specs.Event.{Event}
 use Rattle.events.specs.Pairing.{State, lastEnds, paired}
 use Rattle.events.specs.Walk.{blocksE, eventsWithin, eventsOf}
 use Rattle.events.specs.Text.{anyChapter, firstState, itemsOfTape, textOf, fitting}
-use Rattle.events.specs.Emit.{Desk, lay, emitAll, emitted, afterAll}
+use Rattle.events.specs.Emit.{Desk, emitAll, emitted, afterAll}
 use Rattle.events.proofs.Emits.{paired-emitted, emit-page, emit-state}
 use Rattle.marks.specs.Mark.{newMarks}
 use Rattle.marks.specs.declared.Marks.{Marks}
-use Rattle.sink.specs.Desk.{chapterIn, verseIn, stateIn, deskIn, putOn}
-use Rattle.sink.specs.declared.Sink.{Sink}
+use Rattle.desk.specs.Desk.{chapterIn, verseIn, stateIn, marksOf, deskOf, putOn, ended}
 use Rattle.walk.specs.Asked.{wholeIn, left, Walked}
 use Rattle.walk.specs.Shows.{windowOf, showing}
 use Rattle.walk.specs.declared.Asked.{Asked}
@@ -109,8 +107,8 @@ abbrev atFirst : Tape → ℕ → Bytes → Desk
 atFirst t from out = record { page = record { at = 0; from = from; buf = out }; state = firstState t }
 
 -- what the parts leave, one behind the other
-parts-page : (t : Tape) (from : ℕ) (out : Bytes) (a d e z : Desk) → a ≡ putOn (atFirst t from out) opens → d ≡ emitAll a (eventsOf t) → e ≡ lay d (lastEnds (d .state)) → z ≡ putOn e ends → z .page ≡ wholeIn t from out
-unfolding wholeIn putOn lay
+parts-page : (t : Tape) (from : ℕ) (out : Bytes) (a d e z : Desk) → a ≡ putOn (atFirst t from out) opens → d ≡ emitAll a (eventsOf t) → e ≡ ended d → z ≡ putOn e ends → z .page ≡ wholeIn t from out
+unfolding wholeIn putOn ended
 parts-page t from out a d e z ea ed ee ez =
     let p : Page = record { at = 0; from = from; buf = out } in
     let s : State = firstState t in
@@ -138,29 +136,37 @@ events-all : (t : Tape) {s : Step} → s ≡ firstChild t 0 → blocksE t 64 1 (
 unfolding nodesIn cutBy filtered eventsOf eventsWithin
 events-all t es = ap (blocksE t 64 1) (children-walk t 0 es)
 
-first-state : (t : Tape) {n : ℕ} {m : Marks} → m ≡ newMarks n → n ≡ firstState t .number → stateIn (t .source) m ≡ firstState t
+first-state : (t : Tape) {m : Marks} → m ≡ newMarks (firstState t .number) → stateIn (t .source) m ≡ firstState t
 unfolding stateIn chapterIn verseIn firstState
-first-state t em en = rw em (ap (λ (k : ℕ). record { book = []; number = k; chapter = nothing; verse = nothing }) en)
+first-state t em = rw em
 
-module _ (t : Tape) (n : ℕ) (m : Marks) (em : m ≡ newMarks n) (from : ℕ) (out : Bytes) {k : Cursor} (ek : k .at ≡ 0) {s : Step} (es : s ≡ firstChild t (k .at))
-    (a d e z : Sink) (o₁ o₂ o₃ o₄ : Bytes)
-    (ea : (source : Bytes) → deskIn source a o₁ ≡ putOn (deskIn source (record { at = 0; from = from; marks = m }) out) opens)
-    (ed : deskIn (t .source) d o₂ ≡ emitAll (deskIn (t .source) a o₁) (blocksE t 64 1 (nodesIn t all s)))
-    (ee : deskIn (t .source) e o₃ ≡ lay (deskIn (t .source) d o₂) (lastEnds (stateIn (t .source) (d .marks))))
-    (ez : (source : Bytes) → deskIn source z o₄ ≡ putOn (deskIn source e o₃) ends) where
-  whole-page : n ≡ firstState t .number → deskIn (t .source) z o₄ .page ≡ wholeIn t from out
+module _ (t : Tape) (n : List ℕ) (out : Bytes) {k : Cursor} (ek : k .at ≡ 0) {s : Step} (es : s ≡ firstChild t (k .at))
+    (a d e z : ℕ) (da dd de dz : List ℕ) (o₁ o₂ o₃ o₄ : Bytes)
+    (ea : (source : Bytes) → deskOf source a da o₁ ≡ putOn (deskOf source 0 n out) opens)
+    (ed : deskOf (t .source) d dd o₂ ≡ emitAll (deskOf (t .source) a da o₁) (blocksE t 64 1 (nodesIn t all s)))
+    (ee : deskOf (t .source) e de o₃ ≡ ended (deskOf (t .source) d dd o₂))
+    (ez : (source : Bytes) → deskOf source z dz o₄ ≡ putOn (deskOf source e de o₃) ends) where
+  whole-page : marksOf n ≡ newMarks (firstState t .number) → deskOf (t .source) z dz o₄ .page ≡ wholeIn t (getD n 0 0) out
   whole-page en =
-      parts-page t from out (deskIn (t .source) a o₁) (deskIn (t .source) d o₂) (deskIn (t .source) e o₃) (deskIn (t .source) z o₄)
-      (ea (t .source) ∙ ap (λ (u : State). putOn (record { page = record { at = 0; from = from; buf = out }; state = u }) opens) (first-state t em en))
-      (ed ∙ ap (emitAll (deskIn (t .source) a o₁)) (events-all t (es ∙ ap (firstChild t) ek)))
+      parts-page t (getD n 0 0) out (deskOf (t .source) a da o₁) (deskOf (t .source) d dd o₂) (deskOf (t .source) e de o₃) (deskOf (t .source) z dz o₄)
+      (ea (t .source) ∙ ap (λ (u : State). putOn (record { page = record { at = 0; from = getD n 0 0; buf = out }; state = u }) opens) (first-state t en))
+      (ed ∙ ap (emitAll (deskOf (t .source) a da o₁)) (events-all t (es ∙ ap (firstChild t) ek)))
       ee
       (ez (t .source))
 
-  pub whole-length : n ≡ firstState t .number → z .at ≡ wholeIn t from out .at
+  pub whole-length : marksOf n ≡ newMarks (firstState t .number) → z ≡ wholeIn t (getD n 0 0) out .at
   whole-length en = ap (λ (p : Page). p .at) (whole-page en)
 
-  pub whole-buffer : n ≡ firstState t .number → o₄ ≡ wholeIn t from out .buf
+  pub whole-buffer : marksOf n ≡ newMarks (firstState t .number) → o₄ ≡ wholeIn t (getD n 0 0) out .buf
   whole-buffer en = ap (λ (p : Page). p .buf) (whole-page en)
+
+-- a new desk
+module _ (t : Tape) (from m : ℕ) (out : Bytes) (n : List ℕ) (ef : getD n 0 0 ≡ from) (em : marksOf n ≡ newMarks m) where
+  pub new-length : {r : ℕ} → (marksOf n ≡ newMarks (firstState t .number) → r ≡ wholeIn t (getD n 0 0) out .at) → m ≡ firstState t .number → r ≡ wholeIn t from out .at
+  new-length h e = h (em ∙ ap newMarks e) ∙ ap (λ (f : ℕ). wholeIn t f out .at) ef
+
+  pub new-buffer : {last : Bytes} → (marksOf n ≡ newMarks (firstState t .number) → last ≡ wholeIn t (getD n 0 0) out .buf) → m ≡ firstState t .number → last ≡ wholeIn t from out .buf
+  new-buffer h e = h (em ∙ ap newMarks e) ∙ ap (λ (f : ℕ). wholeIn t f out .buf) ef
 
 -- ---- room or not
 

@@ -3,13 +3,15 @@ ghost use mathlib.Core.Path.{_≡_};
 ghost use Prim.Native.Nat.{_+_, _/_, _≤_, min};
 ghost use Rattle.tape.specs.File.{tapeIn};
 ghost use Rattle.lean.specs.Lean.{Solids};
+ghost use Rattle.marks.specs.Mark.{newMarks};
 ghost use Rattle.events.specs.Text.{firstState};
+ghost use Rattle.desk.specs.Desk.{marksOf};
+ghost use lib.ListN.{getD};
 ghost use Rattle.walk.specs.Asked.{wholeIn, Walked};
 ghost use Rattle.walk.specs.declared.Asked.the-variants.{Whole};
 use blocks::blocks;
-use marks::Marks;
-use sink::Sink;
-use sink::literal;
+use desk::Numbers;
+use desk::literal;
 use tape::Cursor;
 use tape::Kind;
 use tape::Sections;
@@ -36,6 +38,25 @@ fn first_number(file: &[u8], tape: Sections) -> u32
     1
 }
 
+// The whole text on a desk on which nothing is open; its length.
+fn write_on(
+    file: &[u8],
+    tape: Sections,
+    solids: &[u32],
+    desk: &mut Numbers,
+    out: &mut [u8],
+) -> usize
+    requires { ⌜ Solids (tapeIn tape (now file)) (now solids) ⌝ }
+    ensures { λ r. ⌜ (marksOf (now (desk .entry)) ≡ newMarks (firstState (tapeIn tape (now (file .entry))) .number) → r ≡ wholeIn (tapeIn tape (now (file .entry))) (getD (now (desk .entry)) 0 0) (now (out .entry)) .at) ⌝ }
+    ensures { λ _. ⌜ (marksOf (now (desk .entry)) ≡ newMarks (firstState (tapeIn tape (now (file .entry))) .number) → now (out .exit) ≡ wholeIn (tapeIn tape (now (file .entry))) (getD (now (desk .entry)) 0 0) (now (out .entry)) .buf) ⌝ }
+{
+    let first = Cursor::new(0).first_child(file, tape);
+    let a = literal(0, desk, out, b"<usx version=\"3.0\">");
+    let d = blocks(file, tape, solids, false, first, 1, a, desk, out);
+    let e = milestone::last_ends(file, tape, d, desk, out);
+    literal(e, desk, out, b"\n</usx>")
+}
+
 // The whole text through a window from one byte on; its length.
 fn write_text(
     file: &[u8],
@@ -49,17 +70,8 @@ fn write_text(
     ensures { λ r. ⌜ (number ≡ firstState (tapeIn tape (now (file .entry))) .number → r ≡ wholeIn (tapeIn tape (now (file .entry))) from (now (out .entry)) .at) ⌝ }
     ensures { λ _. ⌜ (number ≡ firstState (tapeIn tape (now (file .entry))) .number → now (out .exit) ≡ wholeIn (tapeIn tape (now (file .entry))) from (now (out .entry)) .buf) ⌝ }
 {
-    let sink = Sink {
-        at: 0,
-        from,
-        marks: Marks::new(number),
-    };
-    let first = Cursor::new(0).first_child(file, tape);
-    let a = literal(sink, out, b"<usx version=\"3.0\">");
-    let d = blocks(file, tape, solids, false, first, 1, a, out);
-    let e = milestone::last_ends(file, tape, d, out);
-    let z = literal(e, out, b"\n</usx>");
-    z.at
+    let mut desk = desk::new_desk(from, number);
+    write_on(file, tape, solids, &mut desk, out)
 }
 
 // The whole text, if there is room for it; its length.

@@ -8,7 +8,7 @@ use Rattle.tape.proofs.Walk.{left-turn, left-behind}
 use Rattle.lists.specs.Span.{nodesIn}
 use Rattle.events.specs.Emit.{emitAll}
 use Rattle.events.specs.Walk.{blocksAll}
-use Rattle.sink.specs.Desk.{deskIn}
+use Rattle.desk.specs.Desk.{deskOf}
 use Rattle.tables.specs.Rows.{depthAt}
 use Rattle.blocks.specs.Blocks.{uncut, below}
 use Rattle.blocks.proofs.Steps.{inner-zero, inner-deep, held-whole, held-full, held-bare, blocks-done, blocks-ended, blocks-skipped, blocks-side, blocks-peri, blocks-turned}
@@ -33,48 +33,48 @@ use Rattle.holders.proofs.has_block.Reads as has-block-reads
 use Rattle.blocks.proofs.holder_of.Reads as holder-of-reads
 use Rattle.holders.proofs.open_holder.Reads as open-holder-reads
 use Rattle.lists.proofs.member_of.Reads as member-of-reads
-use Rattle.sink.proofs.line.Reads as line-reads
+use Rattle.desk.proofs.line.Reads as line-reads
 use Rattle.tables.proofs.depth_at.Reads as depth-at-reads
 use Rattle.tape.proofs.Cursor.first_child.Reads as first-child-reads
 use Rattle.tape.proofs.Cursor.next_sibling.Reads as next-sibling-reads
 use Rattle.blocks.proofs.+blocks+full_holder+held+inner.{statement}
 use Rattle.blocks.proofs.+blocks+full_holder+held+inner.Tie.{close}
 
-abbrev μ-blocks : Measures 3 blocks-kinds.ps ℕ
+abbrev μ-blocks : Measures 4 blocks-kinds.ps ℕ
 μ-blocks κs a = 4 * (65 - a .1 .1 .1 .1 .1 .0) + 3
 
-abbrev μ-full-holder : Measures 3 full-holder-kinds.ps ℕ
+abbrev μ-full-holder : Measures 4 full-holder-kinds.ps ℕ
 μ-full-holder κs a = 4 * (65 - a .1 .1 .1 .1 .1 .0) + 1
 
-abbrev μ-held : Measures 3 held-kinds.ps ℕ
+abbrev μ-held : Measures 4 held-kinds.ps ℕ
 μ-held κs a = 4 * (65 - a .1 .1 .1 .1 .1 .0) + 2
 
-abbrev μ-inner : Measures 3 inner-kinds.ps ℕ
+abbrev μ-inner : Measures 4 inner-kinds.ps ℕ
 μ-inner κs a = 4 * (65 - a .1 .1 .1 .1 .1 .0) + 0
 
-abbrev blocks-at : ℕ → In 3 blocks-kinds.ps
-blocks-at t = and 3 blocks-kinds.ps (is 3 blocks-kinds.ps μ-blocks t) blocks.Pre
+abbrev blocks-at : ℕ → In 4 blocks-kinds.ps
+blocks-at t = and 4 blocks-kinds.ps (is 4 blocks-kinds.ps μ-blocks t) blocks.Pre
 
-abbrev blocks-below : ℕ → In 3 blocks-kinds.ps
-blocks-below t = and 3 blocks-kinds.ps (falls 3 blocks-kinds.ps _<_ μ-blocks t) blocks.Pre
+abbrev blocks-below : ℕ → In 4 blocks-kinds.ps
+blocks-below t = and 4 blocks-kinds.ps (falls 4 blocks-kinds.ps _<_ μ-blocks t) blocks.Pre
 
-abbrev full-holder-at : ℕ → In 3 full-holder-kinds.ps
-full-holder-at t = and 3 full-holder-kinds.ps (is 3 full-holder-kinds.ps μ-full-holder t) full-holder.Pre
+abbrev full-holder-at : ℕ → In 4 full-holder-kinds.ps
+full-holder-at t = and 4 full-holder-kinds.ps (is 4 full-holder-kinds.ps μ-full-holder t) full-holder.Pre
 
-abbrev full-holder-below : ℕ → In 3 full-holder-kinds.ps
-full-holder-below t = and 3 full-holder-kinds.ps (falls 3 full-holder-kinds.ps _<_ μ-full-holder t) full-holder.Pre
+abbrev full-holder-below : ℕ → In 4 full-holder-kinds.ps
+full-holder-below t = and 4 full-holder-kinds.ps (falls 4 full-holder-kinds.ps _<_ μ-full-holder t) full-holder.Pre
 
-abbrev held-at : ℕ → In 3 held-kinds.ps
-held-at t = and 3 held-kinds.ps (is 3 held-kinds.ps μ-held t) held.Pre
+abbrev held-at : ℕ → In 4 held-kinds.ps
+held-at t = and 4 held-kinds.ps (is 4 held-kinds.ps μ-held t) held.Pre
 
-abbrev held-below : ℕ → In 3 held-kinds.ps
-held-below t = and 3 held-kinds.ps (falls 3 held-kinds.ps _<_ μ-held t) held.Pre
+abbrev held-below : ℕ → In 4 held-kinds.ps
+held-below t = and 4 held-kinds.ps (falls 4 held-kinds.ps _<_ μ-held t) held.Pre
 
-abbrev inner-at : ℕ → In 3 inner-kinds.ps
-inner-at t = and 3 inner-kinds.ps (is 3 inner-kinds.ps μ-inner t) inner.Pre
+abbrev inner-at : ℕ → In 4 inner-kinds.ps
+inner-at t = and 4 inner-kinds.ps (is 4 inner-kinds.ps μ-inner t) inner.Pre
 
-abbrev inner-below : ℕ → In 3 inner-kinds.ps
-inner-below t = and 3 inner-kinds.ps (falls 3 inner-kinds.ps _<_ μ-inner t) inner.Pre
+abbrev inner-below : ℕ → In 4 inner-kinds.ps
+inner-below t = and 4 inner-kinds.ps (falls 4 inner-kinds.ps _<_ μ-inner t) inner.Pre
 
 abbrev blocks-calls : ℕ → blocks-lts.Claims
 blocks-calls t = (member-of-reads.Asked, member-of-reads.Learnt, next-sibling-reads.Asked, next-sibling-reads.Learnt, holder-of-reads.Asked, holder-of-reads.Learnt, held-below t, held.Post, block-turn-reads.Asked, block-turn-reads.Learnt)
@@ -91,10 +91,10 @@ inner-calls t = (depth-at-reads.Asked, depth-at-reads.Learnt, blocks-below t, bl
 -- ---- blocks
 
 abbrev blocks-Inv-loop : blocks-lts.InvT-loop
-blocks-Inv-loop file tape solids sifted level out₀ span s₀ step₀ out s step = (emitAll (deskIn (tapeIn tape file .source) s out) (blocksAll (below (tapeIn tape file) (depthAt level) level) (tapeIn tape file) (depthAt level) level (nodesIn (tapeIn tape file) (uncut sifted) step)) ≡ emitAll (deskIn (tapeIn tape file .source) s₀ out₀) (blocksAll (below (tapeIn tape file) (depthAt level) level) (tapeIn tape file) (depthAt level) level (nodesIn (tapeIn tape file) (uncut sifted) step₀))) × (length out ≡ length out₀)
+blocks-Inv-loop file tape solids sifted level at desk₀ out₀ span s₀ step₀ desk out s step = (emitAll (deskOf (tapeIn tape file .source) s desk out) (blocksAll (below (tapeIn tape file) (depthAt level) level) (tapeIn tape file) (depthAt level) level (nodesIn (tapeIn tape file) (uncut sifted) step)) ≡ emitAll (deskOf (tapeIn tape file .source) s₀ desk₀ out₀) (blocksAll (below (tapeIn tape file) (depthAt level) level) (tapeIn tape file) (depthAt level) level (nodesIn (tapeIn tape file) (uncut sifted) step₀))) × (length out ≡ length out₀)
 
 abbrev blocks-μ-loop : blocks-lts.MeasureT-loop
-blocks-μ-loop file tape solids sifted level out₀ span s₀ step₀ out s step = left (tapeIn tape file) step
+blocks-μ-loop file tape solids sifted level at desk₀ out₀ span s₀ step₀ desk out s step = left (tapeIn tape file) step
 
 blocks-loop-holds : (t : ℕ) → blocks-lts.Need-loop-holds (blocks-calls t) (blocks-at t) blocks.Post blocks-Inv-loop blocks-μ-loop
 blocks-loop-holds t c = (refl, refl)
@@ -181,7 +181,7 @@ blocks-loop-less-4 : (t : ℕ) → blocks-lts.Need-loop-less-4 (blocks-calls t) 
 blocks-loop-less-4 t c = search left-behind
 
 blocks-loop-again-4 : (t : ℕ) → blocks-lts.Need-loop-again-4 (blocks-calls t) (blocks-at t) blocks.Post blocks-Inv-loop blocks-μ-loop
-blocks-loop-again-4 t c = (blocks-turned _ _ _ _ _ _ _ _ (c .before .before .before .before .before .before .before .before .before .before .before .before .before .before .loop .inv .0) (search needs) (c .before .before .before .before .before .before .before .before .before .before .member-of .ensures) (search needs) (c .before .before .before .before .before .before .before .holder-of .ensures) (search needs) _ _ (c .before .before .before .block-turn .ensures .0), search needs)
+blocks-loop-again-4 t c = (blocks-turned _ _ _ _ _ _ _ _ (c .before .before .before .before .before .before .before .before .before .before .before .before .before .before .loop .inv .0) (search needs) (c .before .before .before .before .before .before .before .before .before .before .member-of .ensures) (search needs) (c .before .before .before .before .before .before .before .holder-of .ensures) (search needs) _ _ (c .before .before .block-turn .ensures .0), search needs)
 
 -- ---- full-holder
 
@@ -201,7 +201,7 @@ full-holder-same-length : (t : ℕ) → full-holder-lts.Need-same-length (full-h
 full-holder-same-length t c = search needs
 
 full-holder-returns : (t : ℕ) → full-holder-lts.Need-returns (full-holder-calls t) (full-holder-at t) full-holder.Post
-full-holder-returns t c = held-whole _ _ _ _ _ _ _ _ _ _ (c .before .before .before .before .before .before .before .before .before .before .before .open-holder .ensures) (c .before .before .before .before .before .before .before .before .first-child .ensures) (c .before .before .before .before .before .before .inner .ensures) (c .before .before .close-holder .ensures)
+full-holder-returns t c = held-whole _ _ _ _ _ _ _ _ _ _ _ _ (c .before .before .before .before .before .before .before .before .before .before .before .before .before .open-holder .ensures) (c .before .before .before .before .before .before .before .before .before .before .first-child .ensures) (c .before .before .before .before .before .before .before .inner .ensures) (c .before .before .close-holder .ensures)
 
 -- ---- held
 

@@ -16,7 +16,7 @@ same-length : tie.Need-same-length
 same-length c = search needs
 
 returns : tie.Need-returns
-returns c = run-opened _ _ _ _ _ _ _ (c .before .before .before .before .before .before .before .line .ensures) (c .before .before .literal .ensures)
+returns c = run-opened (c .before .before .before .before .before .before .before .before .before .before .before .before .args .level) _ _ _ (c .before .before .before .before .before .before .before .before .before .before .before .before .args .desk .now) _ _ (c .before .before .before .before .before .before .before .before .before .before .before .before .args .out .now) _ _ (c .before .before .before .before .before .before .before .before .line .ensures) (c .before .before .literal .ensures)
 
 pub open-run-spec : {M : Type 1} → statement M
 open-run-spec =

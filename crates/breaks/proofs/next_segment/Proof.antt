@@ -32,10 +32,7 @@ same-length : tie.Need-same-length
 same-length c = search needs
 
 returns : tie.Need-returns
-returns c = (
-  segments-turn _ _ _ _ (c .before .before .before .before .before .before .before .before .before .before .before .before .before .before .pre) (c .before .before .before .before .before .before .before .before .before .before .before .from .ensures .0) (c .before .before .before .before .before .before .before .before .before .before .find-pair .ensures) _ _ (c .before .before .before .before .before .before .before .literal .ensures) (c .before .before .before .before .part .ensures .0) _ _ (c .before .before .put-segment .ensures),
-  omega arith,
-)
+returns c = (λ source. segments-turn _ _ _ (c .before .before .before .before .before .before .before .before .before .before .before .before .before .before .before .before .pre) (c .before .before .before .before .before .before .before .before .before .before .before .before .before .from .ensures .0) (c .before .before .before .before .before .before .before .before .before .before .before .before .find-pair .ensures) (c .before .before .before .before .before .before .before .before .literal .ensures source) (c .before .before .before .before .before .part .ensures .0) (c .before .before .put-segment .ensures source), omega arith)
 
 pub next-segment-spec : {M : Type 1} → statement M
 next-segment-spec =

@@ -3,14 +3,11 @@ use borrow.Author.Needs.{needs}
 use Rattle.breaks.proofs.put_easy.Statement.{statement}
 use Rattle.breaks.proofs.put_easy.Tie as tie
 
-window-requires : tie.Need-window-requires
-window-requires c κs = search needs
+element-copy-out-t11 : tie.Need-element-copy-out-t11
+element-copy-out-t11 c = search needs
 
 put-easy-requires : tie.Need-put-easy-requires
 put-easy-requires c κs = search needs
-
-over-requires : tie.Need-over-requires
-over-requires c κs = search needs
 
 same-length : tie.Need-same-length
 same-length c = search needs
@@ -23,5 +20,4 @@ returns-2 c = search unbroken-hidden
 
 pub put-easy-spec : {M : Type 1} → statement M
 put-easy-spec =
-    tie.close
-    (tie.spec window-requires put-easy-requires over-requires same-length returns returns-2)
+    tie.close (tie.spec element-copy-out-t11 put-easy-requires same-length returns returns-2)

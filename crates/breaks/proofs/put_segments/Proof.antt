@@ -1,21 +1,21 @@
-use mathlib.Core.Path.{_≡_, refl}
+use mathlib.Core.Path.{_≡_, refl, _∙_}
 use Prim.Native.Nat.{_-_}
 use native.Mathlib.Omega.{arith}
 use lib.ListN.{length}
 use Rattle.parts.specs.Bytes.{Bytes}
 use Rattle.events.specs.Emit.{emitAll}
-use Rattle.sink.specs.Desk.{deskIn}
+use Rattle.desk.specs.Desk.{deskOf}
 use Rattle.breaks.specs.Broken.{breaksFrom}
-use Rattle.breaks.proofs.Written.{segments-on, segments-end}
+use Rattle.breaks.proofs.Written.{segments-end}
 use borrow.Author.Needs.{needs}
 use Rattle.breaks.proofs.put_segments.Statement.{statement}
 use Rattle.breaks.proofs.put_segments.Tie as tie
 
 abbrev Inv-loop : tie.InvT-loop
-Inv-loop s out₀ at₀ v₀ out at v = ((source : Bytes) → emitAll (deskIn source v out) (breaksFrom s at) ≡ emitAll (deskIn source v₀ out₀) (breaksFrom s at₀)) × (length out ≡ length out₀)
+Inv-loop s at desk₀ out₀ place₀ v₀ desk out place v = ((source : Bytes) → emitAll (deskOf source v desk out) (breaksFrom s place) ≡ emitAll (deskOf source v₀ desk₀ out₀) (breaksFrom s place₀)) × (length out ≡ length out₀)
 
 abbrev μ-loop : tie.MeasureT-loop
-μ-loop s out₀ at₀ v₀ out at v = length s - at
+μ-loop s at desk₀ out₀ place₀ v₀ desk out place v = length s - place
 
 find-pair-requires : tie.Need-find-pair-requires Inv-loop μ-loop
 find-pair-requires c κs = search needs
@@ -36,13 +36,13 @@ loop-less : tie.Need-loop-less Inv-loop μ-loop
 loop-less c = omega arith
 
 loop-again : tie.Need-loop-again Inv-loop μ-loop
-loop-again c = (segments-on _ _ _ _ _ _ _ _ (c .before .before .before .before .before .before .loop .inv .0) (c .before .before .before .next-segment .ensures .0), search needs)
+loop-again c = (λ source. c .before .before .next-segment .ensures .0 source ∙ c .before .before .before .before .before .before .loop .inv .0 source, search needs)
 
 same-length : tie.Need-same-length Inv-loop μ-loop
 same-length c = search needs
 
 returns : tie.Need-returns Inv-loop μ-loop
-returns c = segments-end _ _ _ _ (c .before .before .before .before .before .before .before .find-pair .ensures) (c .before .before .before .before .before .before .part .ensures .0) _ _ (c .before .before .before .before .put-segment .ensures) _ _ _ (c .before .loop .inv .0) (c .loop-test .left)
+returns c = λ source. segments-end _ _ _ (c .before .before .before .before .before .before .before .before .find-pair .ensures) (c .before .before .before .before .before .before .before .part .ensures .0) (c .before .before .before .before .put-segment .ensures source) _ (c .before .loop .inv .0 source) (c .loop-test .left)
 
 pub put-segments-spec : {M : Type 1} → statement M
 put-segments-spec =

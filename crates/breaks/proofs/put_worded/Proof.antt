@@ -3,14 +3,11 @@ use borrow.Author.Needs.{needs}
 use Rattle.breaks.proofs.put_worded.Statement.{statement}
 use Rattle.breaks.proofs.put_worded.Tie as tie
 
-window-requires : tie.Need-window-requires
-window-requires c κs = search needs
+element-copy-out-t11 : tie.Need-element-copy-out-t11
+element-copy-out-t11 c = search needs
 
 put-written-requires : tie.Need-put-written-requires
 put-written-requires c κs = search needs
-
-over-requires : tie.Need-over-requires
-over-requires c κs = search needs
 
 same-length : tie.Need-same-length
 same-length c = search needs
@@ -23,5 +20,4 @@ returns-2 c = search unbroken-hidden
 
 pub put-worded-spec : {M : Type 1} → statement M
 put-worded-spec =
-    tie.close
-    (tie.spec window-requires put-written-requires over-requires same-length returns returns-2)
+    tie.close (tie.spec element-copy-out-t11 put-written-requires same-length returns returns-2)

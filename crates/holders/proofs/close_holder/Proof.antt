@@ -22,13 +22,13 @@ same-length : tie.Need-same-length
 same-length c = search needs
 
 returns : tie.Need-returns
-returns c = side-closed _ _ _ _ _ _ _ (c .before .before .before .before .before .before .before .before .line .ensures) (c .before .before .before .before .before .if1 .taken) (c .before .before .literal .ensures)
+returns c = λ source. side-closed _ _ (c .before .before .before .before .before .before .before .before .before .line .ensures source) (c .before .before .before .before .before .before .if1 .taken) (c .before .before .literal .ensures source)
 
 same-length-2 : tie.Need-same-length-2
 same-length-2 c = search needs
 
 returns-2 : tie.Need-returns-2
-returns-2 c = peri-closed _ _ _ _ _ _ _ (c .before .before .before .before .before .before .before .before .line .ensures) (c .before .before .before .before .before .if1 .left) (c .before .before .literal2 .ensures)
+returns-2 c = λ source. peri-closed _ _ (c .before .before .before .before .before .before .before .before .before .line .ensures source) (c .before .before .before .before .before .before .if1 .left) (c .before .before .literal2 .ensures source)
 
 pub close-holder-spec : {M : Type 1} → statement M
 close-holder-spec =

@@ -8,7 +8,7 @@ use Rattle.tape.proofs.Walk.{left-turn, left-behind}
 use Rattle.lists.specs.Span.{nodesIn}
 use Rattle.events.specs.Walk.{nodeIn, inside as insideOf, inlineAll, noteAll}
 use Rattle.events.specs.Emit.{emitAll}
-use Rattle.sink.specs.Desk.{deskIn}
+use Rattle.desk.specs.Desk.{deskOf}
 use Rattle.turns.specs.Turn.{KeptAt, behindOf}
 use Rattle.inline.proofs.Steps.{marker-whole, marker-leaf, node-chapter, node-verse, node-marker, node-other, inside-zero, inside-inline, inside-note, inline-done, inline-ended, inline-entered, inline-plain, note-done, note-ended, note-entered, note-plain, kept-plain}
 use Rattle.turns.proofs.Laws.{kept-here}
@@ -51,50 +51,50 @@ use Rattle.turns.proofs.sort_in.Reads as sort-in-reads
 use Rattle.inline.proofs.+inline+inside+marker+node+note_inline.{statement}
 use Rattle.inline.proofs.+inline+inside+marker+node+note_inline.Tie.{close}
 
-abbrev μ-inline : Measures 3 inline-kinds.ps ℕ
+abbrev μ-inline : Measures 4 inline-kinds.ps ℕ
 μ-inline κs a = 4 * a .1 .1 .1 .1 .1 .1 .0 + 3
 
-abbrev μ-inside : Measures 3 inside-kinds.ps ℕ
+abbrev μ-inside : Measures 4 inside-kinds.ps ℕ
 μ-inside κs a = 4 * a .1 .1 .1 .1 .0 + 0
 
-abbrev μ-marker : Measures 3 marker-kinds.ps ℕ
+abbrev μ-marker : Measures 4 marker-kinds.ps ℕ
 μ-marker κs a = 4 * a .1 .1 .1 .1 .0 + 1
 
-abbrev μ-node : Measures 3 node-kinds.ps ℕ
+abbrev μ-node : Measures 4 node-kinds.ps ℕ
 μ-node κs a = 4 * a .1 .1 .1 .1 .0 + 2
 
-abbrev μ-note-inline : Measures 3 note-inline-kinds.ps ℕ
+abbrev μ-note-inline : Measures 4 note-inline-kinds.ps ℕ
 μ-note-inline κs a = 4 * a .1 .1 .1 .1 .1 .0 + 3
 
-abbrev inline-at : ℕ → In 3 inline-kinds.ps
-inline-at t = and 3 inline-kinds.ps (is 3 inline-kinds.ps μ-inline t) inline.Pre
+abbrev inline-at : ℕ → In 4 inline-kinds.ps
+inline-at t = and 4 inline-kinds.ps (is 4 inline-kinds.ps μ-inline t) inline.Pre
 
-abbrev inline-below : ℕ → In 3 inline-kinds.ps
-inline-below t = and 3 inline-kinds.ps (falls 3 inline-kinds.ps _<_ μ-inline t) inline.Pre
+abbrev inline-below : ℕ → In 4 inline-kinds.ps
+inline-below t = and 4 inline-kinds.ps (falls 4 inline-kinds.ps _<_ μ-inline t) inline.Pre
 
-abbrev inside-at : ℕ → In 3 inside-kinds.ps
-inside-at t = and 3 inside-kinds.ps (is 3 inside-kinds.ps μ-inside t) inside.Pre
+abbrev inside-at : ℕ → In 4 inside-kinds.ps
+inside-at t = and 4 inside-kinds.ps (is 4 inside-kinds.ps μ-inside t) inside.Pre
 
-abbrev inside-below : ℕ → In 3 inside-kinds.ps
-inside-below t = and 3 inside-kinds.ps (falls 3 inside-kinds.ps _<_ μ-inside t) inside.Pre
+abbrev inside-below : ℕ → In 4 inside-kinds.ps
+inside-below t = and 4 inside-kinds.ps (falls 4 inside-kinds.ps _<_ μ-inside t) inside.Pre
 
-abbrev marker-at : ℕ → In 3 marker-kinds.ps
-marker-at t = and 3 marker-kinds.ps (is 3 marker-kinds.ps μ-marker t) marker.Pre
+abbrev marker-at : ℕ → In 4 marker-kinds.ps
+marker-at t = and 4 marker-kinds.ps (is 4 marker-kinds.ps μ-marker t) marker.Pre
 
-abbrev marker-below : ℕ → In 3 marker-kinds.ps
-marker-below t = and 3 marker-kinds.ps (falls 3 marker-kinds.ps _<_ μ-marker t) marker.Pre
+abbrev marker-below : ℕ → In 4 marker-kinds.ps
+marker-below t = and 4 marker-kinds.ps (falls 4 marker-kinds.ps _<_ μ-marker t) marker.Pre
 
-abbrev node-at : ℕ → In 3 node-kinds.ps
-node-at t = and 3 node-kinds.ps (is 3 node-kinds.ps μ-node t) node.Pre
+abbrev node-at : ℕ → In 4 node-kinds.ps
+node-at t = and 4 node-kinds.ps (is 4 node-kinds.ps μ-node t) node.Pre
 
-abbrev node-below : ℕ → In 3 node-kinds.ps
-node-below t = and 3 node-kinds.ps (falls 3 node-kinds.ps _<_ μ-node t) node.Pre
+abbrev node-below : ℕ → In 4 node-kinds.ps
+node-below t = and 4 node-kinds.ps (falls 4 node-kinds.ps _<_ μ-node t) node.Pre
 
-abbrev note-inline-at : ℕ → In 3 note-inline-kinds.ps
-note-inline-at t = and 3 note-inline-kinds.ps (is 3 note-inline-kinds.ps μ-note-inline t) note-inline.Pre
+abbrev note-inline-at : ℕ → In 4 note-inline-kinds.ps
+note-inline-at t = and 4 note-inline-kinds.ps (is 4 note-inline-kinds.ps μ-note-inline t) note-inline.Pre
 
-abbrev note-inline-below : ℕ → In 3 note-inline-kinds.ps
-note-inline-below t = and 3 note-inline-kinds.ps (falls 3 note-inline-kinds.ps _<_ μ-note-inline t) note-inline.Pre
+abbrev note-inline-below : ℕ → In 4 note-inline-kinds.ps
+note-inline-below t = and 4 note-inline-kinds.ps (falls 4 note-inline-kinds.ps _<_ μ-note-inline t) note-inline.Pre
 
 abbrev inline-calls : ℕ → inline-lts.Claims
 inline-calls t = (sort-in-reads.Asked, sort-in-reads.Learnt, ask-reads.Asked, ask-reads.Learnt, follows-reads.Asked, follows-reads.Learnt, node-below t, node.Post, trims-after-reads.Asked, trims-after-reads.Learnt, next-sibling-reads.Asked, next-sibling-reads.Learnt, plain-turn-reads.Asked, plain-turn-reads.Learnt)
@@ -114,10 +114,10 @@ note-inline-calls t = (note-sort-reads.Asked, note-sort-reads.Learnt, ask-reads.
 -- ---- inline
 
 abbrev inline-Inv-loop : inline-lts.InvT-loop
-inline-Inv-loop file tape solids span parent depth outer out₀ s₀ step₀ kept₀ trim₀ known₀ out s step kept trim known = (emitAll (deskIn (tapeIn tape file .source) s out) (inlineAll (nodeIn (insideOf (tapeIn tape file) depth) (tapeIn tape file)) (tapeIn tape file) (behindOf (tapeIn tape file) parent outer known) trim (nodesIn (tapeIn tape file) span step)) ≡ emitAll (deskIn (tapeIn tape file .source) s₀ out₀) (inlineAll (nodeIn (insideOf (tapeIn tape file) depth) (tapeIn tape file)) (tapeIn tape file) (behindOf (tapeIn tape file) parent outer known₀) trim₀ (nodesIn (tapeIn tape file) span step₀))) × (KeptAt (tapeIn tape file) step kept × (length out ≡ length out₀))
+inline-Inv-loop file tape solids span parent depth outer at desk₀ out₀ s₀ step₀ kept₀ trim₀ known₀ desk out s step kept trim known = (emitAll (deskOf (tapeIn tape file .source) s desk out) (inlineAll (nodeIn (insideOf (tapeIn tape file) depth) (tapeIn tape file)) (tapeIn tape file) (behindOf (tapeIn tape file) parent outer known) trim (nodesIn (tapeIn tape file) span step)) ≡ emitAll (deskOf (tapeIn tape file .source) s₀ desk₀ out₀) (inlineAll (nodeIn (insideOf (tapeIn tape file) depth) (tapeIn tape file)) (tapeIn tape file) (behindOf (tapeIn tape file) parent outer known₀) trim₀ (nodesIn (tapeIn tape file) span step₀))) × (KeptAt (tapeIn tape file) step kept × (length out ≡ length out₀))
 
 abbrev inline-μ-loop : inline-lts.MeasureT-loop
-inline-μ-loop file tape solids span parent depth outer out₀ s₀ step₀ kept₀ trim₀ known₀ out s step kept trim known = left (tapeIn tape file) step
+inline-μ-loop file tape solids span parent depth outer at desk₀ out₀ s₀ step₀ kept₀ trim₀ known₀ desk out s step kept trim known = left (tapeIn tape file) step
 
 inline-loop-holds : (t : ℕ) → inline-lts.Need-loop-holds (inline-calls t) (inline-at t) inline.Post inline-Inv-loop inline-μ-loop
 inline-loop-holds t c = (refl, (search kept-here, refl))
@@ -168,7 +168,7 @@ inline-loop-less : (t : ℕ) → inline-lts.Need-loop-less (inline-calls t) (inl
 inline-loop-less t c = search left-turn
 
 inline-loop-again : (t : ℕ) → inline-lts.Need-loop-again (inline-calls t) (inline-at t) inline.Post inline-Inv-loop inline-μ-loop
-inline-loop-again t c = (search (inline-entered _ _ _ _ _ _ _ _ (c .before .before .before .before .before .before .before .before .before .before .before .before .before .before .loop .inv .0)), (search kept-here, search (needs, c .before .before .before .before .before .before .before .before .before .before .before .before .before .before .loop .inv, c .before .before .before .before .before .before .before .before .before .before .before .before .before .before .before .slice-known)))
+inline-loop-again t c = (search (inline-entered _ _ _ _ _ _ _ _ (c .before .before .before .before .before .before .before .before .before .before .before .before .before .before .before .loop .inv .0)), (search kept-here, search (needs, c .before .before .before .before .before .before .before .before .before .before .before .before .before .before .before .loop .inv, c .before .before .before .before .before .before .before .before .before .before .before .before .before .before .before .before .slice-known)))
 
 inline-enum-known-child : (t : ℕ) → inline-lts.Need-enum-known-child (inline-calls t) (inline-at t) inline.Post inline-Inv-loop inline-μ-loop
 inline-enum-known-child t c = search needs
@@ -232,7 +232,7 @@ marker-inside-requires : (t : ℕ) → marker-lts.Need-inside-requires (marker-c
 marker-inside-requires t c κs = search needs
 
 marker-close-marker-requires : (t : ℕ) → marker-lts.Need-close-marker-requires (marker-calls t) (marker-at t) marker.Post
-marker-close-marker-requires t c κs = c .before .before .before .before .before .before .before .before .before .before .before .before .before .before .before .before .pre .1
+marker-close-marker-requires t c κs = c .before .before .before .before .before .before .before .before .before .before .before .before .before .before .before .before .before .before .before .pre .1
 
 marker-write-leaf-requires : (t : ℕ) → marker-lts.Need-write-leaf-requires (marker-calls t) (marker-at t) marker.Post
 marker-write-leaf-requires t c κs = search needs
@@ -241,7 +241,7 @@ marker-same-length : (t : ℕ) → marker-lts.Need-same-length (marker-calls t) 
 marker-same-length t c = search needs
 
 marker-returns : (t : ℕ) → marker-lts.Need-returns (marker-calls t) (marker-at t) marker.Post
-marker-returns t c = marker-whole _ _ _ _ _ (c .before .before .before .before .before .before .before .before .before .before .before .before .before .before .before .role-of .ensures) (c .before .before .before .before .before .before .before .before .before .before .before .before .before .before .is-whole .ensures) (c .before .before .before .before .before .before .before .before .before .before .before .before .before .if1 .taken) _ (c .before .before .before .before .before .before .before .before .before .before .before .open-marker .ensures) (c .before .before .before .before .before .before .before .before .is-note .ensures) (c .before .before .before .before .before .before .inside .ensures) (c .before .before .close-marker .ensures)
+marker-returns t c = marker-whole _ _ _ _ _ (c .before .before .before .before .before .before .before .before .before .before .before .before .before .before .before .before .before .before .role-of .ensures) (c .before .before .before .before .before .before .before .before .before .before .before .before .before .before .before .before .before .is-whole .ensures) (c .before .before .before .before .before .before .before .before .before .before .before .before .before .before .before .before .if1 .taken) _ (c .before .before .before .before .before .before .before .before .before .before .before .before .before .open-marker .ensures) (c .before .before .before .before .before .before .before .before .before .before .is-note .ensures) (c .before .before .before .before .before .before .before .inside .ensures) (c .before .before .close-marker .ensures)
 
 marker-same-length-2 : (t : ℕ) → marker-lts.Need-same-length-2 (marker-calls t) (marker-at t) marker.Post
 marker-same-length-2 t c = search needs
@@ -290,10 +290,10 @@ node-returns-4 t c = search node-other
 -- ---- note-inline
 
 abbrev note-inline-Inv-loop : note-inline-lts.InvT-loop
-note-inline-Inv-loop file tape solids parent depth outer out₀ s₀ step₀ kept₀ trim₀ known₀ out s step kept trim known = (emitAll (deskIn (tapeIn tape file .source) s out) (noteAll (nodeIn (insideOf (tapeIn tape file) depth) (tapeIn tape file)) (tapeIn tape file) (parent .at + 1) (behindOf (tapeIn tape file) parent outer known) trim (walkFrom (tapeIn tape file) step)) ≡ emitAll (deskIn (tapeIn tape file .source) s₀ out₀) (noteAll (nodeIn (insideOf (tapeIn tape file) depth) (tapeIn tape file)) (tapeIn tape file) (parent .at + 1) (behindOf (tapeIn tape file) parent outer known₀) trim₀ (walkFrom (tapeIn tape file) step₀))) × (KeptAt (tapeIn tape file) step kept × (length out ≡ length out₀))
+note-inline-Inv-loop file tape solids parent depth outer at desk₀ out₀ s₀ step₀ kept₀ trim₀ known₀ desk out s step kept trim known = (emitAll (deskOf (tapeIn tape file .source) s desk out) (noteAll (nodeIn (insideOf (tapeIn tape file) depth) (tapeIn tape file)) (tapeIn tape file) (parent .at + 1) (behindOf (tapeIn tape file) parent outer known) trim (walkFrom (tapeIn tape file) step)) ≡ emitAll (deskOf (tapeIn tape file .source) s₀ desk₀ out₀) (noteAll (nodeIn (insideOf (tapeIn tape file) depth) (tapeIn tape file)) (tapeIn tape file) (parent .at + 1) (behindOf (tapeIn tape file) parent outer known₀) trim₀ (walkFrom (tapeIn tape file) step₀))) × (KeptAt (tapeIn tape file) step kept × (length out ≡ length out₀))
 
 abbrev note-inline-μ-loop : note-inline-lts.MeasureT-loop
-note-inline-μ-loop file tape solids parent depth outer out₀ s₀ step₀ kept₀ trim₀ known₀ out s step kept trim known = left (tapeIn tape file) step
+note-inline-μ-loop file tape solids parent depth outer at desk₀ out₀ s₀ step₀ kept₀ trim₀ known₀ desk out s step kept trim known = left (tapeIn tape file) step
 
 note-inline-loop-holds : (t : ℕ) → note-inline-lts.Need-loop-holds (note-inline-calls t) (note-inline-at t) note-inline.Post note-inline-Inv-loop note-inline-μ-loop
 note-inline-loop-holds t c = (refl, (search kept-here, refl))
@@ -344,7 +344,7 @@ note-inline-loop-less : (t : ℕ) → note-inline-lts.Need-loop-less (note-inlin
 note-inline-loop-less t c = search left-turn
 
 note-inline-loop-again : (t : ℕ) → note-inline-lts.Need-loop-again (note-inline-calls t) (note-inline-at t) note-inline.Post note-inline-Inv-loop note-inline-μ-loop
-note-inline-loop-again t c = (search (note-entered _ _ _ _ _ _ _ _ (c .before .before .before .before .before .before .before .before .before .before .before .before .before .before .loop .inv .0)), (search kept-here, search (needs, c .before .before .before .before .before .before .before .before .before .before .before .before .before .before .loop .inv, c .before .before .before .before .before .before .before .before .before .before .before .before .before .before .before .slice-known)))
+note-inline-loop-again t c = (search (note-entered _ _ _ _ _ _ _ _ (c .before .before .before .before .before .before .before .before .before .before .before .before .before .before .before .loop .inv .0)), (search kept-here, search (needs, c .before .before .before .before .before .before .before .before .before .before .before .before .before .before .before .loop .inv, c .before .before .before .before .before .before .before .before .before .before .before .before .before .before .before .before .slice-known)))
 
 note-inline-enum-known-child : (t : ℕ) → note-inline-lts.Need-enum-known-child (note-inline-calls t) (note-inline-at t) note-inline.Post note-inline-Inv-loop note-inline-μ-loop
 note-inline-enum-known-child t c = search needs

@@ -3,6 +3,9 @@ use borrow.Author.Needs.{needs}
 use Rattle.milestone.proofs.book.Statement.{statement}
 use Rattle.milestone.proofs.book.Tie as tie
 
+marks-of-requires : tie.Need-marks-of-requires
+marks-of-requires c κs = search needs
+
 book-code-requires : tie.Need-book-code-requires
 book-code-requires c κs = search needs
 
@@ -12,8 +15,8 @@ source-requires c κs = search needs
 part-requires : tie.Need-part-requires
 part-requires c κs = search needs
 
-window-requires : tie.Need-window-requires
-window-requires c κs = search needs
+element-copy-out-t15 : tie.Need-element-copy-out-t15
+element-copy-out-t15 c = search needs
 
 book-rest-requires : tie.Need-book-rest-requires
 book-rest-requires c κs = search needs
@@ -23,6 +26,9 @@ put-book-requires c κs = search needs
 
 named-book-requires : tie.Need-named-book-requires
 named-book-requires c κs = search needs
+
+keep-requires : tie.Need-keep-requires
+keep-requires c κs = search needs
 
 same-length : tie.Need-same-length
 same-length c = search needs
@@ -34,12 +40,14 @@ pub book-spec : {M : Type 1} → statement M
 book-spec =
     tie.close
     (tie.spec
+    marks-of-requires
     book-code-requires
     source-requires
     part-requires
-    window-requires
+    element-copy-out-t15
     book-rest-requires
     put-book-requires
     named-book-requires
+    keep-requires
     same-length
     returns)

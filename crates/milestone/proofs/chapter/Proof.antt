@@ -3,8 +3,11 @@ use borrow.Author.Needs.{needs}
 use Rattle.milestone.proofs.chapter.Statement.{statement}
 use Rattle.milestone.proofs.chapter.Tie as tie
 
-window-requires : tie.Need-window-requires
-window-requires c κs = search needs
+marks-of-requires : tie.Need-marks-of-requires
+marks-of-requires c κs = search needs
+
+element-copy-out-t15 : tie.Need-element-copy-out-t15
+element-copy-out-t15 c = search needs
 
 source-requires : tie.Need-source-requires
 source-requires c κs = search needs
@@ -18,6 +21,9 @@ put-chapter-requires c κs = search needs
 next-chapter-requires : tie.Need-next-chapter-requires
 next-chapter-requires c κs = search needs
 
+keep-requires : tie.Need-keep-requires
+keep-requires c κs = search needs
+
 same-length : tie.Need-same-length
 same-length c = search needs
 
@@ -28,10 +34,12 @@ pub chapter-spec : {M : Type 1} → statement M
 chapter-spec =
     tie.close
     (tie.spec
-    window-requires
+    marks-of-requires
+    element-copy-out-t15
     source-requires
     put-ends-requires
     put-chapter-requires
     next-chapter-requires
+    keep-requires
     same-length
     returns)

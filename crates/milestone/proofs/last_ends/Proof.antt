@@ -1,10 +1,13 @@
-use Rattle.milestone.proofs.Marked.{ends-laid}
+use Rattle.milestone.proofs.Marked.{ends-ended}
 use borrow.Author.Needs.{needs}
 use Rattle.milestone.proofs.last_ends.Statement.{statement}
 use Rattle.milestone.proofs.last_ends.Tie as tie
 
-window-requires : tie.Need-window-requires
-window-requires c κs = search needs
+marks-of-requires : tie.Need-marks-of-requires
+marks-of-requires c κs = search needs
+
+element-copy-out-t11 : tie.Need-element-copy-out-t11
+element-copy-out-t11 c = search needs
 
 source-requires : tie.Need-source-requires
 source-requires c κs = search needs
@@ -12,16 +15,27 @@ source-requires c κs = search needs
 put-ends-requires : tie.Need-put-ends-requires
 put-ends-requires c κs = search needs
 
-over-requires : tie.Need-over-requires
-over-requires c κs = search needs
+all-closed-requires : tie.Need-all-closed-requires
+all-closed-requires c κs = search needs
+
+keep-requires : tie.Need-keep-requires
+keep-requires c κs = search needs
 
 same-length : tie.Need-same-length
 same-length c = search needs
 
 returns : tie.Need-returns
-returns c = search ends-laid
+returns c = search ends-ended
 
 pub last-ends-spec : {M : Type 1} → statement M
 last-ends-spec =
     tie.close
-    (tie.spec window-requires source-requires put-ends-requires over-requires same-length returns)
+    (tie.spec
+    marks-of-requires
+    element-copy-out-t11
+    source-requires
+    put-ends-requires
+    all-closed-requires
+    keep-requires
+    same-length
+    returns)

@@ -3,11 +3,14 @@ use borrow.Author.Needs.{needs}
 use Rattle.milestone.proofs.verse.Statement.{statement}
 use Rattle.milestone.proofs.verse.Tie as tie
 
+marks-of-requires : tie.Need-marks-of-requires
+marks-of-requires c κs = search needs
+
 verse-label-requires : tie.Need-verse-label-requires
 verse-label-requires c κs = search needs
 
-window-requires : tie.Need-window-requires
-window-requires c κs = search needs
+element-copy-out-t17 : tie.Need-element-copy-out-t17
+element-copy-out-t17 c = search needs
 
 source-requires : tie.Need-source-requires
 source-requires c κs = search needs
@@ -21,6 +24,9 @@ put-verse-requires c κs = search needs
 next-verse-requires : tie.Need-next-verse-requires
 next-verse-requires c κs = search needs
 
+keep-requires : tie.Need-keep-requires
+keep-requires c κs = search needs
+
 same-length : tie.Need-same-length
 same-length c = search needs
 
@@ -31,11 +37,13 @@ pub verse-spec : {M : Type 1} → statement M
 verse-spec =
     tie.close
     (tie.spec
+    marks-of-requires
     verse-label-requires
-    window-requires
+    element-copy-out-t17
     source-requires
     end-verse-requires
     put-verse-requires
     next-verse-requires
+    keep-requires
     same-length
     returns)

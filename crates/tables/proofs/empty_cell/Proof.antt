@@ -3,8 +3,8 @@ use borrow.Author.Needs.{needs}
 use Rattle.tables.proofs.empty_cell.Statement.{statement}
 use Rattle.tables.proofs.empty_cell.Tie as tie
 
-window-requires : tie.Need-window-requires
-window-requires c κs = search needs
+element-copy-out-t12 : tie.Need-element-copy-out-t12
+element-copy-out-t12 c = search needs
 
 marker-name-requires : tie.Need-marker-name-requires
 marker-name-requires c κs = search needs
@@ -18,9 +18,6 @@ slice-aggregate-put-run c = search needs
 put-run-requires : tie.Need-put-run-requires
 put-run-requires c κs = search needs
 
-over-requires : tie.Need-over-requires
-over-requires c κs = search needs
-
 same-length : tie.Need-same-length
 same-length c = search needs
 
@@ -31,11 +28,10 @@ pub empty-cell-spec : {M : Type 1} → statement M
 empty-cell-spec =
     tie.close
     (tie.spec
-    window-requires
+    element-copy-out-t12
     marker-name-requires
     put-cell-requires
     slice-aggregate-put-run
     put-run-requires
-    over-requires
     same-length
     returns)

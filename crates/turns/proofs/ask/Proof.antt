@@ -2,39 +2,28 @@ use Rattle.turns.proofs.Laws.{ask-follows, ask-ends, ask-yes, ask-no}
 use borrow.Author.Needs.{needs}
 use Rattle.turns.proofs.ask.Statement.{statement}
 use Rattle.turns.proofs.ask.Tie as tie
-use Rattle.turns.proofs.ask.Reads as reads
-use Rattle.turns.proofs.ask.Lts as lts
-use Rattle.render.proofs.followed.Reads as followed-reads
 
--- src/lib.rt:153:28
 enum-told : tie.Need-enum-told
 enum-told c = search needs
 
--- src/lib.rt:154:25
 enum-told-2 : tie.Need-enum-told-2
 enum-told-2 c = search needs
 
--- src/lib.rt:156:16
 enum-told-3 : tie.Need-enum-told-3
 enum-told-3 c = search needs
 
--- src/lib.rt:156:16
 followed-requires : tie.Need-followed-requires
 followed-requires c κs = search needs
 
--- src/lib.rt:141:1
 returns : tie.Need-returns
 returns c = search ask-follows
 
--- src/lib.rt:141:1
 returns-2 : tie.Need-returns-2
 returns-2 c = search ask-ends
 
--- src/lib.rt:141:1
 returns-3 : tie.Need-returns-3
 returns-3 c = search ask-yes
 
--- src/lib.rt:141:1
 returns-4 : tie.Need-returns-4
 returns-4 c = search ask-no
 

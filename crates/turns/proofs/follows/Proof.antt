@@ -2,30 +2,22 @@ use Rattle.turns.proofs.Laws.{follows-yes, follows-no, follows-unasked}
 use borrow.Author.Needs.{needs}
 use Rattle.turns.proofs.follows.Statement.{statement}
 use Rattle.turns.proofs.follows.Tie as tie
-use Rattle.turns.proofs.follows.Reads as reads
-use Rattle.turns.proofs.follows.Lts as lts
 
--- src/lib.rt:170:28
 enum-told : tie.Need-enum-told
 enum-told c = search needs
 
--- src/lib.rt:171:25
 enum-told-2 : tie.Need-enum-told-2
 enum-told-2 c = search needs
 
--- src/lib.rt:172:28
 enum-told-3 : tie.Need-enum-told-3
 enum-told-3 c = search needs
 
--- src/lib.rt:166:1
 returns : tie.Need-returns
 returns c = search follows-yes
 
--- src/lib.rt:166:1
 returns-2 : tie.Need-returns-2
 returns-2 c = search follows-no
 
--- src/lib.rt:166:1
 returns-3 : tie.Need-returns-3
 returns-3 c = search follows-unasked
 

@@ -2,60 +2,43 @@ use Rattle.turns.proofs.Laws.{note-turn-words, turn-left, note-trim-wor
 use borrow.Author.Needs.{needs}
 use Rattle.turns.proofs.note_turn.Statement.{statement}
 use Rattle.turns.proofs.note_turn.Tie as tie
-use Rattle.turns.proofs.note_turn.Reads as reads
-use Rattle.turns.proofs.note_turn.Lts as lts
-use Rattle.turns.proofs.note_words.Reads as note-words-reads
-use Rattle.turns.proofs.passed_turn.Reads as passed-turn-reads
 
--- src/lib.rt:507:13
 enum-told : tie.Need-enum-told
 enum-told c = search needs
 
--- src/lib.rt:496:25
 note-words-requires : tie.Need-note-words-requires
 note-words-requires c κs = search needs
 
--- src/lib.rt:509:26
 enum-told-2 : tie.Need-enum-told-2
 enum-told-2 c = search needs
 
--- src/lib.rt:509:26
 passed-turn-requires : tie.Need-passed-turn-requires
 passed-turn-requires c κs = search needs
 
--- src/lib.rt:510:26
 enum-told-3 : tie.Need-enum-told-3
 enum-told-3 c = search needs
 
--- src/lib.rt:510:26
 passed-turn-requires-2 : tie.Need-passed-turn-requires-2
 passed-turn-requires-2 c κs = search needs
 
--- src/lib.rt:511:27
 enum-told-4 : tie.Need-enum-told-4
 enum-told-4 c = search needs
 
--- src/lib.rt:511:27
 passed-turn-requires-3 : tie.Need-passed-turn-requires-3
 passed-turn-requires-3 c κs = search needs
 
--- src/lib.rt:472:1
 same-length : tie.Need-same-length
 same-length c = search needs
 
--- src/lib.rt:472:1
 returns : tie.Need-returns
 returns c = (search note-turn-words, (search needs, (search turn-left, (search needs, (search note-trim-words, (search note-keeps-words, search note-learnt-words))))))
 
--- src/lib.rt:472:1
 returns-2 : tie.Need-returns-2
 returns-2 c = (search note-turn-passed, (search needs, (search turn-left, (search needs, (search note-trim-passed, (search note-keeps-passed, search note-learnt-passed))))))
 
--- src/lib.rt:472:1
 returns-3 : tie.Need-returns-3
 returns-3 c = (search note-turn-anchor, (search needs, (search turn-left, (search needs, (search note-trim-anchor, (search note-keeps-anchor, search note-learnt-anchor))))))
 
--- src/lib.rt:472:1
 returns-4 : tie.Need-returns-4
 returns-4 c = (search note-turn-skipped, (search needs, (search turn-left, (search needs, (search note-trim-skipped, (search note-keeps-skipped, search note-learnt-skipped))))))
 

@@ -2,65 +2,46 @@ use Rattle.turns.proofs.Laws.{plain-anchor, anchor-kept, next-anchor, t
 use borrow.Author.Needs.{needs}
 use Rattle.turns.proofs.plain_turn.Statement.{statement}
 use Rattle.turns.proofs.plain_turn.Tie as tie
-use Rattle.turns.proofs.plain_turn.Reads as reads
-use Rattle.turns.proofs.plain_turn.Lts as lts
-use Rattle.turns.proofs.anchor_turn.Reads as anchor-turn-reads
-use Rattle.turns.proofs.passed_turn.Reads as passed-turn-reads
-use Rattle.turns.proofs.words_turn.Reads as words-turn-reads
 
--- src/lib.rt:373:81
 enum-told : tie.Need-enum-told
 enum-told c = search needs
 
--- src/lib.rt:373:26
 anchor-turn-requires : tie.Need-anchor-turn-requires
 anchor-turn-requires c κs = search needs
 
--- src/lib.rt:385:13
 enum-told-2 : tie.Need-enum-told-2
 enum-told-2 c = search needs
 
--- src/lib.rt:374:25
 words-turn-requires : tie.Need-words-turn-requires
 words-turn-requires c κs = search needs
 
--- src/lib.rt:387:26
 enum-told-3 : tie.Need-enum-told-3
 enum-told-3 c = search needs
 
--- src/lib.rt:387:26
 passed-turn-requires : tie.Need-passed-turn-requires
 passed-turn-requires c κs = search needs
 
--- src/lib.rt:388:27
 enum-told-4 : tie.Need-enum-told-4
 enum-told-4 c = search needs
 
--- src/lib.rt:388:27
 passed-turn-requires-2 : tie.Need-passed-turn-requires-2
 passed-turn-requires-2 c κs = search needs
 
--- src/lib.rt:348:1
 same-length : tie.Need-same-length
 same-length c = search needs
 
--- src/lib.rt:348:1
 returns : tie.Need-returns
 returns c = (search plain-anchor, (search anchor-kept, (search needs, (search next-anchor, (search trim-anchor, (search keeps-anchor, search learnt-anchor))))))
 
--- src/lib.rt:348:1
 same-length-2 : tie.Need-same-length-2
 same-length-2 c = search needs
 
--- src/lib.rt:348:1
 returns-2 : tie.Need-returns-2
 returns-2 c = (search plain-words, (search needs, (search turn-left, (search next-words, (search trim-words, (search keeps-words, search learnt-words))))))
 
--- src/lib.rt:348:1
 returns-3 : tie.Need-returns-3
 returns-3 c = (search plain-passed, (search needs, (search turn-left, (search next-passed, (search trim-passed, (search keeps-passed, search learnt-passed))))))
 
--- src/lib.rt:348:1
 returns-4 : tie.Need-returns-4
 returns-4 c = (search plain-skipped, (search needs, (search turn-left, (search next-skipped, (search trim-skipped, (search keeps-skipped, search learnt-skipped))))))
 

@@ -2,57 +2,40 @@ use Rattle.turns.proofs.Sorts.{in-all, in-end, in-skipped, in-listed}
 use borrow.Author.Needs.{needs}
 use Rattle.turns.proofs.sort_in.Statement.{statement}
 use Rattle.turns.proofs.sort_in.Tie as tie
-use Rattle.turns.proofs.sort_in.Reads as reads
-use Rattle.turns.proofs.sort_in.Lts as lts
-use Rattle.lists.proofs.member_of.Reads as member-of-reads
-use Rattle.tape.proofs.Cursor.kind.Reads as kind-reads
-use Rattle.turns.proofs.sort_of.Reads as sort-of-reads
 
--- src/lib.rt:95:24
 kind-requires : tie.Need-kind-requires
 kind-requires c κs = search needs
 
--- src/lib.rt:95:9
 sort-of-requires : tie.Need-sort-of-requires
 sort-of-requires c κs = search needs
 
--- src/lib.rt:95:9
 returns : tie.Need-returns
 returns c = search in-all
 
--- src/lib.rt:97:11
 member-of-requires : tie.Need-member-of-requires
 member-of-requires c κs = search needs
 
--- src/lib.rt:98:24
 enum-told : tie.Need-enum-told
 enum-told c = search needs
 
--- src/lib.rt:99:40
 enum-told-2 : tie.Need-enum-told-2
 enum-told-2 c = search needs
 
--- src/lib.rt:100:35
 enum-told-3 : tie.Need-enum-told-3
 enum-told-3 c = search needs
 
--- src/lib.rt:100:35
 kind-requires-2 : tie.Need-kind-requires-2
 kind-requires-2 c κs = search needs
 
--- src/lib.rt:100:27
 sort-of-requires-2 : tie.Need-sort-of-requires-2
 sort-of-requires-2 c κs = search needs
 
--- src/lib.rt:90:1
 returns-2 : tie.Need-returns-2
 returns-2 c = search in-end
 
--- src/lib.rt:90:1
 returns-3 : tie.Need-returns-3
 returns-3 c = search in-skipped
 
--- src/lib.rt:90:1
 returns-4 : tie.Need-returns-4
 returns-4 c = search in-listed
 

@@ -3,17 +3,17 @@ use lib.ListN.{length}
 use Rattle.tape.specs.File.{tapeIn}
 use Rattle.tape.specs.Tree.{left}
 use Rattle.tape.proofs.Walk.{left-turn}
-use Rattle.sink.specs.Desk.{deskIn}
+use Rattle.desk.specs.Desk.{deskOf}
 use Rattle.tables.proofs.Parts.{cellsOn, cells-end, cells-turn, cells-past}
 use borrow.Author.Needs.{needs}
 use Rattle.tables.proofs.full.cells_along.Statement.{statement}
 use Rattle.tables.proofs.full.cells_along.Tie as tie
 
 abbrev Inv-loop : tie.InvT-loop
-Inv-loop file tape solids level depth out₀ s₀ step₀ out s step = (cellsOn (tapeIn tape file) depth level (deskIn (tapeIn tape file .source) s out) step ≡ cellsOn (tapeIn tape file) depth level (deskIn (tapeIn tape file .source) s₀ out₀) step₀) × (length out ≡ length out₀)
+Inv-loop file tape solids level depth at desk₀ out₀ s₀ step₀ desk out s step = (cellsOn (tapeIn tape file) depth level (deskOf (tapeIn tape file .source) s desk out) step ≡ cellsOn (tapeIn tape file) depth level (deskOf (tapeIn tape file .source) s₀ desk₀ out₀) step₀) × (length out ≡ length out₀)
 
 abbrev μ-loop : tie.MeasureT-loop
-μ-loop file tape solids level depth out₀ s₀ step₀ out s step = left (tapeIn tape file) step
+μ-loop file tape solids level depth at desk₀ out₀ s₀ step₀ desk out s step = left (tapeIn tape file) step
 
 loop-holds : tie.Need-loop-holds Inv-loop μ-loop
 loop-holds c = (refl, refl)

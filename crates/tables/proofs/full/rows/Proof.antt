@@ -3,7 +3,7 @@ use lib.ListN.{length}
 use Rattle.tape.specs.File.{tapeIn}
 use Rattle.tape.specs.Tree.{left}
 use Rattle.tape.proofs.Walk.{left-turn}
-use Rattle.sink.specs.Desk.{deskIn}
+use Rattle.desk.specs.Desk.{deskOf}
 use Rattle.tables.specs.Rows.{depthAt}
 use Rattle.tables.proofs.Parts.{rowsOn, rows-end, rows-cut, rows-skip, rows-stop, rows-turn}
 use borrow.Author.Needs.{needs}
@@ -11,10 +11,10 @@ use Rattle.tables.proofs.full.rows.Statement.{statement}
 use Rattle.tables.proofs.full.rows.Tie as tie
 
 abbrev Inv-loop : tie.InvT-loop
-Inv-loop file tape solids span level out₀ s₀ step₀ out s step = (rowsOn (tapeIn tape file) span (depthAt level) level (deskIn (tapeIn tape file .source) s out) step ≡ rowsOn (tapeIn tape file) span (depthAt level) level (deskIn (tapeIn tape file .source) s₀ out₀) step₀) × (length out ≡ length out₀)
+Inv-loop file tape solids span level at desk₀ out₀ s₀ step₀ desk out s step = (rowsOn (tapeIn tape file) span (depthAt level) level (deskOf (tapeIn tape file .source) s desk out) step ≡ rowsOn (tapeIn tape file) span (depthAt level) level (deskOf (tapeIn tape file .source) s₀ desk₀ out₀) step₀) × (length out ≡ length out₀)
 
 abbrev μ-loop : tie.MeasureT-loop
-μ-loop file tape solids span level out₀ s₀ step₀ out s step = left (tapeIn tape file) step
+μ-loop file tape solids span level at desk₀ out₀ s₀ step₀ desk out s step = left (tapeIn tape file) step
 
 loop-holds : tie.Need-loop-holds Inv-loop μ-loop
 loop-holds c = (refl, refl)

@@ -12,14 +12,11 @@ enum-told c = search needs
 enum-known-a : tie.Need-enum-known-a
 enum-known-a c = search needs
 
-window-requires : tie.Need-window-requires
-window-requires c κs = search needs
+element-copy-out-t13 : tie.Need-element-copy-out-t13
+element-copy-out-t13 c = search needs
 
 put-old-requires : tie.Need-put-old-requires
 put-old-requires c κs = search needs
-
-over-requires : tie.Need-over-requires
-over-requires c κs = search needs
 
 returns : tie.Need-returns
 returns c = search old-none
@@ -37,9 +34,8 @@ old-figure-spec =
     legacy-requires
     enum-told
     enum-known-a
-    window-requires
+    element-copy-out-t13
     put-old-requires
-    over-requires
     returns
     same-length
     returns-2)

@@ -33,17 +33,14 @@ enum-told-7 c = search needs
 enum-told-8 : tie.Need-enum-told-8
 enum-told-8 c = search needs
 
-window-requires : tie.Need-window-requires
-window-requires c κs = search needs
+element-copy-out-t20 : tie.Need-element-copy-out-t20
+element-copy-out-t20 c = search needs
 
 marker-name-requires : tie.Need-marker-name-requires
 marker-name-requires c κs = search needs
 
 put-ms-requires : tie.Need-put-ms-requires
 put-ms-requires c κs = search needs
-
-over-requires : tie.Need-over-requires
-over-requires c κs = search needs
 
 enum-told-9 : tie.Need-enum-told-9
 enum-told-9 c = search needs
@@ -116,10 +113,9 @@ write-leaf-spec =
     book-requires
     enum-told-7
     enum-told-8
-    window-requires
+    element-copy-out-t20
     marker-name-requires
     put-ms-requires
-    over-requires
     enum-told-9
     enum-told-10
     slice-aggregate-named

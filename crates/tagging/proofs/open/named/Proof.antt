@@ -3,8 +3,8 @@ use borrow.Author.Needs.{needs}
 use Rattle.tagging.proofs.open.named.Statement.{statement}
 use Rattle.tagging.proofs.open.named.Tie as tie
 
-window-requires : tie.Need-window-requires
-window-requires c κs = search needs
+element-copy-out-t14 : tie.Need-element-copy-out-t14
+element-copy-out-t14 c = search needs
 
 put-run-requires : tie.Need-put-run-requires
 put-run-requires c κs = search needs
@@ -18,9 +18,6 @@ put-run-requires-2 c κs = search needs
 put-run-requires-3 : tie.Need-put-run-requires-3
 put-run-requires-3 c κs = search needs
 
-over-requires : tie.Need-over-requires
-over-requires c κs = search needs
-
 same-length : tie.Need-same-length
 same-length c = search needs
 
@@ -31,11 +28,10 @@ pub named-spec : {M : Type 1} → statement M
 named-spec =
     tie.close
     (tie.spec
-    window-requires
+    element-copy-out-t14
     put-run-requires
     marker-name-requires
     put-run-requires-2
     put-run-requires-3
-    over-requires
     same-length
     returns)

@@ -3,17 +3,14 @@ use borrow.Author.Needs.{needs}
 use Rattle.tagging.proofs.open.open_char.Statement.{statement}
 use Rattle.tagging.proofs.open.open_char.Tie as tie
 
-window-requires : tie.Need-window-requires
-window-requires c κs = search needs
+element-copy-out-t10 : tie.Need-element-copy-out-t10
+element-copy-out-t10 c = search needs
 
 marker-name-requires : tie.Need-marker-name-requires
 marker-name-requires c κs = search needs
 
 put-char-requires : tie.Need-put-char-requires
 put-char-requires c κs = search needs
-
-over-requires : tie.Need-over-requires
-over-requires c κs = search needs
 
 same-length : tie.Need-same-length
 same-length c = search needs
@@ -24,10 +21,4 @@ returns c = search char-opened
 pub open-char-spec : {M : Type 1} → statement M
 open-char-spec =
     tie.close
-    (tie.spec
-    window-requires
-    marker-name-requires
-    put-char-requires
-    over-requires
-    same-length
-    returns)
+    (tie.spec element-copy-out-t10 marker-name-requires put-char-requires same-length returns)

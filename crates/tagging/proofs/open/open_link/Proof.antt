@@ -9,17 +9,14 @@ enum-told c = search needs
 enum-known-link : tie.Need-enum-known-link
 enum-known-link c = search needs
 
-window-requires : tie.Need-window-requires
-window-requires c κs = search needs
+element-copy-out-t12 : tie.Need-element-copy-out-t12
+element-copy-out-t12 c = search needs
 
 source-requires : tie.Need-source-requires
 source-requires c κs = search needs
 
 put-link-requires : tie.Need-put-link-requires
 put-link-requires c κs = search needs
-
-over-requires : tie.Need-over-requires
-over-requires c κs = search needs
 
 returns : tie.Need-returns
 returns c = search link-shut
@@ -36,10 +33,9 @@ open-link-spec =
     (tie.spec
     enum-told
     enum-known-link
-    window-requires
+    element-copy-out-t12
     source-requires
     put-link-requires
-    over-requires
     returns
     same-length
     returns-2)

@@ -27,26 +27,20 @@ enum-told-3 c = search needs
 enum-told-4 : tie.Need-enum-told-4
 enum-told-4 c = search needs
 
-window-requires : tie.Need-window-requires
-window-requires c κs = search needs
+element-copy-out-t29 : tie.Need-element-copy-out-t29
+element-copy-out-t29 c = search needs
 
 put-figure-requires : tie.Need-put-figure-requires
 put-figure-requires c κs = search needs
 
-over-requires : tie.Need-over-requires
-over-requires c κs = search needs
-
 enum-told-5 : tie.Need-enum-told-5
 enum-told-5 c = search needs
 
-window-requires-2 : tie.Need-window-requires-2
-window-requires-2 c κs = search needs
+element-copy-out-t35 : tie.Need-element-copy-out-t35
+element-copy-out-t35 c = search needs
 
 put-ref-requires : tie.Need-put-ref-requires
 put-ref-requires c κs = search needs
-
-over-requires-2 : tie.Need-over-requires-2
-over-requires-2 c κs = search needs
 
 enum-told-6 : tie.Need-enum-told-6
 enum-told-6 c = search needs
@@ -54,17 +48,14 @@ enum-told-6 c = search needs
 enum-told-7 : tie.Need-enum-told-7
 enum-told-7 c = search needs
 
-window-requires-3 : tie.Need-window-requires-3
-window-requires-3 c κs = search needs
+element-copy-out-t41 : tie.Need-element-copy-out-t41
+element-copy-out-t41 c = search needs
 
 marker-name-requires : tie.Need-marker-name-requires
 marker-name-requires c κs = search needs
 
 put-note-requires : tie.Need-put-note-requires
 put-note-requires c κs = search needs
-
-over-requires-3 : tie.Need-over-requires-3
-over-requires-3 c κs = search needs
 
 enum-told-8 : tie.Need-enum-told-8
 enum-told-8 c = search needs
@@ -150,19 +141,16 @@ open-marker-spec =
     unknown-requires-2
     enum-told-3
     enum-told-4
-    window-requires
+    element-copy-out-t29
     put-figure-requires
-    over-requires
     enum-told-5
-    window-requires-2
+    element-copy-out-t35
     put-ref-requires
-    over-requires-2
     enum-told-6
     enum-told-7
-    window-requires-3
+    element-copy-out-t41
     marker-name-requires
     put-note-requires
-    over-requires-3
     enum-told-8
     enum-told-9
     open-char-linked-requires

@@ -1,0 +1,23 @@
+use Rattle.desk.proofs.Holding.{a-chapter, no-chapter}
+use borrow.Author.Needs.{needs}
+use Rattle.desk.proofs.held.chapter_numbers.Statement.{statement}
+use Rattle.desk.proofs.held.chapter_numbers.Tie as tie
+
+enum-told : tie.Need-enum-told
+enum-told c = search needs
+
+enum-known-held : tie.Need-enum-known-held
+enum-known-held c = search needs
+
+wide-requires : tie.Need-wide-requires
+wide-requires c κs = search needs
+
+returns : tie.Need-returns
+returns c = search no-chapter
+
+returns-2 : tie.Need-returns-2
+returns-2 c = search a-chapter
+
+pub chapter-numbers-spec : {M : Type 1} → statement M
+chapter-numbers-spec =
+    tie.close (tie.spec enum-told enum-known-held wide-requires returns returns-2)
