@@ -22,15 +22,15 @@ use Rattle.lists.specs.declared.Member.the-variants.{Listed}
 use Rattle.lists.specs.declared.Stop.the-variants.{Block, NoRow}
 use Rattle.lists.specs.declared.Folds.{Folds}
 use Rattle.lists.proofs.Nodes.{nodes-go}
-use Rattle.tags.specs.Items.{start, close, line, valueOf, attrBytes, attrsBytes, bytesOf}
-use Rattle.tags.specs.Names.{nameOf}
+use Rattle.tags.specs.Items.{start, close, line}
 use Rattle.events.specs.Event.{Event, item, chapter, rawly, element}
 use Rattle.events.specs.Walk.{styled, Place, aRow, aChapter, aSidebar, aPeriph, aBlock, aVerse, dropped, placeOf, isFigure, nodeIn, inside, inlineAll, tableE, blockTurn, blocksAll, blocksOn}
 use Rattle.events.specs.Emit.{Desk, emit, emitAll}
 use Rattle.events.proofs.Emits.{between, then, besides-on}
 use Rattle.events.proofs.Turns.{blocks-turn}
-use Rattle.desk.specs.Desk.{deskOf, putOn}
-use Rattle.desk.proofs.Chains.{item-on}
+use Rattle.desk.specs.Desk.{deskOf}
+use Rattle.desk.specs.Stroke.{opens, key, piece, endValue, ends, closes, strokesOfAttr, strokesOfAttrs, strokesOf, Drew}
+use Rattle.desk.proofs.Strokes.{drew-two, drew-item}
 use Rattle.turns.specs.Turn.{behindOf}
 use Rattle.turns.specs.declared.Behind.the-variants.{Ends}
 use Rattle.tables.specs.Rows.{isNoRow}
@@ -170,36 +170,26 @@ run-nodes t sifted c hm hb =
     ap (upTo (isTopLevelBlock t)) (nodes-go t (uncut sifted) refl (sym hm) refl refl)
     ∙ up-to-go (isTopLevelBlock t) (c .at) (nodesIn t (uncut sifted) (nextSibling t (c .at))) hb
 
-para-opens : bytesOf (start 5 (styled (b "p"))) ≡ b "<para style=\"p\">"
-unfolding bytesOf nameOf styled attrsBytes attrBytes valueOf rawly
-para-opens = refl
-
-para-closes : bytesOf (close 5) ≡ b "</para>"
-unfolding bytesOf nameOf
-para-closes = refl
-
-pub run-opened : (l : ℕ) (at a r : ℕ) (desk da dr : List ℕ) (out mid last : Bytes)
-    → ((source : Bytes) → deskOf source a da mid ≡ emit (deskOf source at desk out) (item (line l)))
-    → ((source : Bytes) → deskOf source r dr last ≡ putOn (deskOf source a da mid) (b "<para style=\"p\">"))
-    → (source : Bytes) → deskOf source r dr last ≡ emitAll (deskOf source at desk out) (runOpens l)
-unfolding runOpens emitAll
-run-opened l at a r desk da dr out mid last ea er source =
-    er source ∙ ap (putOn (deskOf source a da mid)) (sym para-opens) ∙ item-on (deskOf source a da mid) (start 5 (styled (b "p")))
-    ∙ ap (λ (u : Desk). emit u (item (start 5 (styled (b "p"))))) (ea source)
+pub run-opened : (l at : ℕ) {a z r : ℕ} (d d₁ d₂ d₃ : List ℕ) (out : Bytes) {o₁ o₂ last : Bytes} → ((source : Bytes) → deskOf source a d₁ o₁ ≡ emit (deskOf source at d out) (item (line l)))
+    → Drew a d₁ o₁ (opens 5 ∷ key (b "style") ∷ piece true (b "p") ∷ endValue ∷ []) z d₂ o₂ → Drew z d₂ o₂ (ends ∷ []) r d₃ last
+    → (source : Bytes) → deskOf source r d₃ last ≡ emitAll (deskOf source at d out) (runOpens l)
+unfolding runOpens emitAll strokesOf strokesOfAttrs strokesOfAttr styled rawly
+run-opened l at d d₁ d₂ d₃ out ea e₁ e₂ source =
+    drew-item d₁ d₃ (start 5 (styled (b "p"))) (drew-two d₁ d₂ d₃ e₁ e₂) source ∙ ap (λ (u : Desk). emit u (item (start 5 (styled (b "p"))))) (ea source)
 
 pub run-whole : (t : Tape) (sifted : Bool) (c : Cursor) (d level : ℕ) {j : ℕ} (at a e r : ℕ) (desk da de dr : List ℕ) (out mid now last : Bytes)
     → ((source : Bytes) → deskOf source a da mid ≡ emitAll (deskOf source at desk out) (runOpens level)) → j ≡ d
     → deskOf (t .source) e de now ≡ emitAll (deskOf (t .source) a da mid) (inlineAll (nodeIn (inside t j) t) t (behindOf t c false Ends) true (nodesIn t (record { cut = true; sifted = sifted }) (At c)))
-    → ((source : Bytes) → deskOf source r dr last ≡ putOn (deskOf source e de now) (b "</para>"))
+    → Drew e de now (closes 5 ∷ []) r dr last
     → memberOf t (uncut sifted) (c .at) ≡ Listed → isTopLevelBlock t (c .at) ≡ false
     → deskOf (t .source) r dr last ≡ emitAll (deskOf (t .source) at desk out) (runIn t d level (c .at) (nodesIn t (uncut sifted) (nextSibling t (c .at))))
-unfolding runOpens runIn element emitAll behindOf
+unfolding runOpens runIn element emitAll behindOf strokesOf
 run-whole t sifted c d level at a e r desk da de dr out mid now last ea ed ee er hm hb =
     between (deskOf (t .source) at desk out) (runOpens level) (inlineAll (nodeIn (inside t d) t) t false true (c .at ∷ upTo (isTopLevelBlock t) (nodesIn t (uncut sifted) (nextSibling t (c .at))))) (item (close 5) ∷ [])
     (ea (t .source))
     (ee ∙ ap (λ (i : ℕ). emitAll (deskOf (t .source) a da mid) (inlineAll (nodeIn (inside t i) t) t false true (nodesIn t (record { cut = true; sifted = sifted }) (At c)))) ed
     ∙ ap (λ (is : List ℕ). emitAll (deskOf (t .source) a da mid) (inlineAll (nodeIn (inside t d) t) t false true is)) (run-nodes t sifted c hm hb))
-    (er (t .source) ∙ ap (putOn (deskOf (t .source) e de now)) (sym para-closes) ∙ item-on (deskOf (t .source) e de now) (close 5))
+    (drew-item de dr (close 5) er (t .source))
 
 pub verse-turn : (t : Tape) (sifted : Bool) (c : Cursor) (d level : ℕ) (s r : Desk)
     → (memberOf t (uncut sifted) (c .at) ≡ Listed → isTopLevelBlock t (c .at) ≡ false → r ≡ emitAll s (runIn t d level (c .at) (nodesIn t (uncut sifted) (nextSibling t (c .at)))))

@@ -20,8 +20,10 @@ ghost use Rattle.tables.specs.Rows.{depthAt};
 ghost use Rattle.holders.specs.Holders.{attrsOf, elementNo};
 ghost use Rattle.blocks.specs.Blocks.{uncut, holderOf, below, holderIn, runOpens, runIn, stepBehind};
 use desk::Numbers;
+use desk::close_tag;
+use desk::end_tag;
 use desk::line;
-use desk::literal;
+use desk::open_styled;
 use holders::close_holder;
 use holders::empty_holder;
 use holders::has_block;
@@ -120,7 +122,8 @@ fn open_run(level: usize, at: usize, desk: &mut Numbers, out: &mut [u8]) -> usiz
     ensures { λ r. ⌜ ((source : Bytes) → deskOf source r (now (desk .exit)) (now (out .exit)) ≡ emitAll (deskOf source at (now (desk .entry)) (now (out .entry))) (runOpens level)) ⌝ }
 {
     let a = line(at, desk, out, level);
-    literal(a, desk, out, b"<para style=\"p\">")
+    let z = open_styled(a, desk, out, desk::Element::Para, b"p");
+    end_tag(z, desk, out)
 }
 
 // A verse and what follows it up to the next block, in a paragraph of its own.
@@ -155,7 +158,7 @@ fn verse_para(
         desk,
         out,
     );
-    literal(e, desk, out, b"</para>")
+    close_tag(e, desk, out, desk::Element::Para)
 }
 
 // Such a paragraph, and the list behind it.

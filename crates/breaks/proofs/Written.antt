@@ -8,7 +8,7 @@ use lib.ListN.{length, take, drop, getD, length-drop}
 use lib.Seq.{drop-drop, take-all}
 use lib.Dec.{ltb}
 use borrow.Author.Tests.{lt-ltb, le-ltb, ltb-true, ltb-false}
-use Rattle.parts.specs.Bytes.{Bytes, b, begins, find}
+use Rattle.parts.specs.Bytes.{Bytes, begins, find}
 use Rattle.parts.proofs.Laws.{first-le}
 use Rattle.chars.specs.Escape.{escape}
 use Rattle.words.specs.Words.{trim}
@@ -20,13 +20,14 @@ use Rattle.prose.specs.Easy.{easy, innerOf, edged}
 use Rattle.prose.proofs.Easy.{easy-whole, easy-written}
 use Rattle.window.specs.Page.{pageOf, paint}
 use Rattle.window.specs.declared.Window.{Window}
-use Rattle.tags.specs.Items.{text, empty, bytesOf, attrsBytes}
-use Rattle.tags.specs.Names.{nameOf}
+use Rattle.tags.specs.Items.{text, empty, bytesOf}
 use Rattle.events.specs.Event.{Event, item}
 use Rattle.events.specs.Walk.{unbroken, breaks, segmented, broken}
 use Rattle.events.specs.Emit.{Desk, emit, emitAll}
-use Rattle.desk.specs.Desk.{deskOf, putOn}
-use Rattle.desk.proofs.Chains.{item-on, desk-item}
+use Rattle.desk.specs.Desk.{deskOf}
+use Rattle.desk.specs.Stroke.{opens, shuts, strokesOfAttrs, strokesOf, Drew}
+use Rattle.desk.proofs.Chains.{desk-item}
+use Rattle.desk.proofs.Strokes.{drew-two, drew-item}
 use Rattle.breaks.specs.Broken.{segment, breaksFrom}
 
 -- ---- whole
@@ -78,9 +79,10 @@ bodies : (s : Bytes) → segments s ≡ map segment (splitBreaks s)
 unfolding segment
 bodies s = segments-bodies s
 
-break-on : (d : Desk) → putOn d (b "<optbreak />") ≡ emit d (item (empty 15 []))
-unfolding bytesOf attrsBytes nameOf
-break-on d = item-on d (empty 15 [])
+pub break-put : {at a r : ℕ} (d d₁ d₂ : List ℕ) {out o₁ last : Bytes} → Drew at d out (opens 15 ∷ []) a d₁ o₁ → Drew a d₁ o₁ (shuts ∷ []) r d₂ last
+    → (source : Bytes) → deskOf source r d₂ last ≡ emit (deskOf source at d out) (item (empty 15 []))
+unfolding strokesOf strokesOfAttrs
+break-put d d₁ d₂ e₁ e₂ = drew-item d d₂ (empty 15 []) (drew-two d d₁ d₂ e₁ e₂)
 
 -- the pieces of a text by its first `//`
 module _ (s : Bytes) {n : ℕ} (en : n ≡ find (47 ∷ 47 ∷ []) s) where
@@ -135,11 +137,11 @@ from-here s at h = rw (lt-ltb at (length s) h)
 
 -- a turn: the break, and the segment behind it
 pub segments-turn : (s : Bytes) (place : ℕ) (d : Desk) → place < length s → {rest : Bytes} → rest ≡ drop (place + 2) s → {n : ℕ} → n ≡ find (47 ∷ 47 ∷ []) rest
-    → {mid : Desk} → mid ≡ putOn d (b "<optbreak />") → {p : Bytes} → p ≡ take n rest → {last : Desk} → last ≡ emit mid (item (text (segment p)))
+    → {mid : Desk} → mid ≡ emit d (item (empty 15 [])) → {p : Bytes} → p ≡ take n rest → {last : Desk} → last ≡ emit mid (item (text (segment p)))
     → emitAll last (breaksFrom s (place + 2 + n)) ≡ emitAll d (breaksFrom s place)
 unfolding emitAll
 segments-turn s place d h {rest} er {n} en em {p} ep el =
-    ap (λ (x : Desk). emitAll x (breaksFrom s (place + 2 + n))) (el ∙ ap (λ (x : Desk). emit x (item (text (segment p)))) (em ∙ break-on d) ∙ ap (λ (q : Bytes). emit (emit d (item (empty 15 []))) (item (text (segment q)))) ep)
+    ap (λ (x : Desk). emitAll x (breaksFrom s (place + 2 + n))) (el ∙ ap (λ (x : Desk). emit x (item (text (segment p)))) em ∙ ap (λ (q : Bytes). emit (emit d (item (empty 15 []))) (item (text (segment q)))) ep)
     ∙ ap (λ (es : List Event). emitAll (emit (emit d (item (empty 15 []))) (item (text (segment (take n rest))))) es) (sym (ap (λ (q : Bytes). breaksFrom q n) er ∙ shifted s place n h))
     ∙ ap (emitAll d) (sym (from-here s place h ∙ ap (λ (q : Bytes). breaks (map segment (splitBreaks q))) (sym er) ∙ next-rest rest en))
 

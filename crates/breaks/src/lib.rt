@@ -1,19 +1,22 @@
 // Normalized text, whole or broken at `//`.
 ghost use mathlib.Core.Path.{_≡_};
 ghost use mathlib.Core.Bool.{true};
+ghost use mathlib.Core.List.{[]};
 ghost use Prim.Native.Nat.{_<_};
 ghost use lib.ListN.{length};
 ghost use Rattle.parts.specs.Bytes.{Bytes};
 ghost use Rattle.texts.specs.Text.{segments};
 ghost use Rattle.prose.specs.Easy.{easy, innerOf};
-ghost use Rattle.tags.specs.Items.{text};
+ghost use Rattle.tags.specs.Items.{text, empty};
 ghost use Rattle.events.specs.Event.{item};
 ghost use Rattle.events.specs.Walk.{unbroken, segmented, broken};
 ghost use Rattle.events.specs.Emit.{emit, emitAll};
 ghost use Rattle.desk.specs.Desk.{deskOf};
 ghost use Rattle.breaks.specs.Broken.{segment, breaksFrom};
+use desk::Element;
 use desk::Numbers;
-use desk::literal;
+use desk::open_tag;
+use desk::shut_tag;
 use texts::Normalized;
 use window::Window;
 
@@ -61,6 +64,14 @@ fn put_segment(s: &[u8], at: usize, desk: &mut Numbers, out: &mut [u8]) -> usize
     w.at
 }
 
+// A break between two segments.
+fn put_break(at: usize, desk: &mut Numbers, out: &mut [u8]) -> usize
+    ensures { λ r. ⌜ ((source : Bytes) → deskOf source r (now (desk .exit)) (now (out .exit)) ≡ emit (deskOf source at (now (desk .entry)) (now (out .entry))) (item (empty 15 []))) ⌝ }
+{
+    let a = open_tag(at, desk, out, Element::Optbreak);
+    shut_tag(a, desk, out)
+}
+
 // Where the walk along segments stands: how much is written, and the place of the next `//`.
 struct Passed {
     at: usize,
@@ -77,14 +88,14 @@ fn next_segment(s: &[u8], place: usize, at: usize, desk: &mut Numbers, out: &mut
     let rest = parts::from(s, start);
     let n = parts::find_pair(rest, b'/');
     let next = start + n;
-    let w = literal(at, desk, out, b"<optbreak />");
+    let w = put_break(at, desk, out);
     Passed {
         at: put_segment(parts::part(rest, 0, n), w, desk, out),
         place: next,
     }
 }
 
-// The segments of a text, `<optbreak />` between.
+// The segments of a text, a break between two.
 fn put_segments(s: &[u8], at: usize, desk: &mut Numbers, out: &mut [u8]) -> usize
     ensures { λ r. ⌜ ((source : Bytes) → deskOf source r (now (desk .exit)) (now (out .exit)) ≡ emitAll (deskOf source at (now (desk .entry)) (now (out .entry))) (segmented (segments (now (s .entry))))) ⌝ }
 {

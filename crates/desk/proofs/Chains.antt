@@ -1,16 +1,16 @@
 -- Runs painted one behind the other, and the desk that they make.
 use mathlib.Core.Path.{_≡_, sym, ap, _∙_}
-use mathlib.Core.List.{List, _++_, append-nil, [], _∷_}
+use mathlib.Core.List.{List, _++_, append-nil}
 use Prim.Native.Nat.{ℕ}
 use Rattle.parts.specs.Bytes.{Bytes}
 use Rattle.window.specs.Page.{Page, pageOf, paint}
 use Rattle.window.specs.declared.Window.{Window}
 use Rattle.window.proofs.Paint.{paint-two, paint-from}
 use lib.ListN.{getD}
-use Rattle.tags.specs.Items.{Item, render, bytesOf, line}
+use Rattle.tags.specs.Items.{Item, render, bytesOf}
 use Rattle.events.specs.Event.{item}
 use Rattle.events.specs.Pairing.{itemsOf, after}
-use Rattle.events.specs.Emit.{Desk, emit, emitAll}
+use Rattle.events.specs.Emit.{Desk, emit}
 use Rattle.desk.specs.Desk.{stateIn, marksOf, deskOf, putOn}
 
 module _ (p : Page) {a c d : Page} (x y z : Bytes) where
@@ -19,9 +19,6 @@ module _ (p : Page) {a c d : Page} (x y z : Bytes) where
 
 pub paint-four : (p : Page) {a c d e : Page} (x y z w : Bytes) → a ≡ paint p x → c ≡ paint a y → d ≡ paint c z → e ≡ paint d w → e ≡ paint p (x ++ (y ++ (z ++ w)))
 paint-four p {a} x y z w ea ec ed ee = paint-two p x (y ++ (z ++ w)) ea (paint-three a y z w ec ed ee)
-
-pub paint-five : (p : Page) {a c d e f : Page} (x y z w v : Bytes) → a ≡ paint p x → c ≡ paint a y → d ≡ paint c z → e ≡ paint d w → f ≡ paint e v → f ≡ paint p (x ++ (y ++ (z ++ (w ++ v))))
-paint-five p {a} x y z w v ea ec ed ee ef = paint-two p x (y ++ (z ++ (w ++ v))) ea (paint-four a y z w v ec ed ee ef)
 
 -- an item is its bytes
 pub item-on : (d : Desk) (i : Item) → putOn d (bytesOf i) ≡ emit d (item i)
@@ -41,10 +38,3 @@ desk-on at {v} d out {last} x ev source =
 pub desk-item : (at : ℕ) {v : Window} (d : List ℕ) (out : Bytes) {last : Bytes} (i : Item) → pageOf v last ≡ paint (record { at = at; from = getD d 0 0; buf = out }) (bytesOf i)
     → (source : Bytes) → deskOf source (v .at) d last ≡ emit (deskOf source at d out) (item i)
 desk-item at d out i ev source = desk-on at d out (bytesOf i) ev source ∙ item-on (deskOf source at d out) i
-
--- an item on a line of its own
-pub on-line : (level at mid-at : ℕ) {r : ℕ} (d mid-d last-d : List ℕ) (out mid : Bytes) {last : Bytes} → ((source : Bytes) → deskOf source mid-at mid-d mid ≡ emit (deskOf source at d out) (item (line level)))
-    → (i : Item) → ((source : Bytes) → deskOf source r last-d last ≡ putOn (deskOf source mid-at mid-d mid) (bytesOf i))
-    → (source : Bytes) → deskOf source r last-d last ≡ emitAll (deskOf source at d out) (item (line level) ∷ item i ∷ [])
-unfolding emitAll
-on-line level at mid-at d mid-d last-d out mid ea i er source = er source ∙ item-on (deskOf source mid-at mid-d mid) i ∙ ap (λ (z : Desk). emit z (item i)) (ea source)

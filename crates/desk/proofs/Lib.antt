@@ -1,3 +1,5 @@
 pub mod Chains
 pub mod Holding
-pub mod Idents
+pub mod Shown
+pub mod Strokes
+pub mod Groups

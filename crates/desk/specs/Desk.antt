@@ -2,7 +2,7 @@
 use mathlib.Core.Bool.{Bool, true, cond}
 use Prim.Native.Nat.{ℕ, _*_, _^_}
 use mathlib.Core.Path.{_≡_}
-use mathlib.Core.List.{List, [], _∷_, _++_}
+use mathlib.Core.List.{List}
 use lib.ListN.{replicate, getD}
 use lib.Dec.{eqb, ltb}
 use Rattle.words.specs.declared.Part.{Part}

@@ -1,22 +1,14 @@
-// Runs that stand in no source, and new lines.
+// New lines.
 ghost use mathlib.Core.Path.{_≡_};
 ghost use Rattle.parts.specs.Bytes.{Bytes};
 ghost use Rattle.tags.specs.Items.{line as lineItem};
 ghost use Rattle.window.specs.Page.{pageOf, paint};
 ghost use Rattle.events.specs.Event.{item};
 ghost use Rattle.events.specs.Emit.{emit};
-ghost use Rattle.desk.specs.Desk.{deskOf, putOn, indent};
+ghost use Rattle.desk.specs.Desk.{deskOf, indent};
 use crate::held::Numbers;
 use window::Window;
 use window::put_run;
-
-// A run that opens and ends nothing.
-pub fn literal(at: usize, desk: &mut Numbers, out: &mut [u8], run: &[u8]) -> usize
-    ensures { λ r. ⌜ ((source : Bytes) → deskOf source r (now (desk .exit)) (now (out .exit)) ≡ putOn (deskOf source at (now (desk .entry)) (now (out .entry))) (now (run .entry))) ⌝ }
-{
-    let w = put_run(Window { at, from: desk[0] }, out, run);
-    w.at
-}
 
 // Two spaces a level.
 fn put_indent(w: Window, out: &mut [u8], level: usize) -> Window

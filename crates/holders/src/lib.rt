@@ -1,31 +1,38 @@
 // The tags of sidebars and periphs, and whether they have blocks to hold.
 ghost use mathlib.Core.Path.{_≡_};
-ghost use mathlib.Core.List.{[], _∷_, _++_};
+ghost use mathlib.Core.Bool.{true, false};
+ghost use mathlib.Core.List.{[], _∷_};
 ghost use Rattle.parts.specs.Bytes.{Bytes, b};
-ghost use Rattle.window.specs.Page.{pageOf, paint};
 ghost use Rattle.tape.specs.File.{tapeIn};
 ghost use Rattle.render.specs.First.{any};
 ghost use Rattle.render.specs.Note.{periphAlt};
-ghost use Rattle.tags.specs.Names.{nameOf};
-ghost use Rattle.tags.specs.Items.{attrsBytes, line as lineItem, close, start, empty};
+ghost use Rattle.tags.specs.Items.{line as lineItem, close, start, empty};
 ghost use Rattle.events.specs.Event.{item, perhaps};
 ghost use Rattle.events.specs.Emit.{emit, emitAll};
 ghost use Rattle.desk.specs.Desk.{deskOf};
+ghost use Rattle.desk.specs.Stroke.{opens, strokesOfAttrs, Drew};
 ghost use Rattle.lists.specs.Span.{nodesIn};
 ghost use Rattle.holders.specs.Holders.{isBlockOrRow, sidebarAttrs, periphAttrs, attrsOf, elementNo};
+use desk::Element;
 use desk::Numbers;
+use desk::close_tag;
+use desk::end_tag;
+use desk::end_value;
+use desk::key;
 use desk::line;
-use desk::literal;
+use desk::open_styled;
+use desk::open_tag;
+use desk::shut_tag;
 use lists::Member;
 use lists::Span;
 use lists::member_of;
+use tagging::put_unclosed;
 use tape::Cursor;
 use tape::Sections;
 use tape::Step;
 use values::put_category;
 use values::put_collected;
 use window::Window;
-use window::put_run;
 use words::Set;
 
 // Whether a node is a block or a row.
@@ -63,51 +70,81 @@ pub fn has_block(file: &[u8], tape: Sections, span: Span, first: Step) -> bool
 }
 
 // A sidebar's tag up to its end: style, category, closed.
-fn put_sidebar(w: Window, out: &mut [u8], file: &[u8], tape: Sections, c: Cursor) -> Window
-    ensures { λ r. ⌜ pageOf r (now (out .exit)) ≡ paint (pageOf w (now (out .entry))) (b "<sidebar" ++ attrsBytes (sidebarAttrs (tapeIn tape (now (file .entry))) (c .at))) ⌝ }
+fn put_sidebar(
+    at: usize,
+    desk: &mut Numbers,
+    out: &mut [u8],
+    file: &[u8],
+    tape: Sections,
+    c: Cursor,
+) -> usize
+    ensures { λ r. ⌜ Drew at (now (desk .entry)) (now (out .entry)) (opens (elementNo true) ∷ strokesOfAttrs (sidebarAttrs (tapeIn tape (now (file .entry))) (c .at))) r (now (desk .exit)) (now (out .exit)) ⌝ }
 {
-    let a = tagging::put_style(w, out, b"<sidebar style=\"", c.marker_name(file, tape));
-    let d = put_category(a, out, file, tape, c);
-    tagging::put_unclosed(d, out, file, tape, c)
+    let a = open_styled(at, desk, out, Element::Sidebar, c.marker_name(file, tape));
+    let d = put_category(a, desk, out, file, tape, c);
+    put_unclosed(d, desk, out, file, tape, c)
 }
 
 // A periph's alt: the words of its first text.
-fn put_alt(w: Window, out: &mut [u8], file: &[u8], tape: Sections, c: Cursor) -> Window
-    ensures { λ r. ⌜ pageOf r (now (out .exit)) ≡ paint (pageOf w (now (out .entry))) (attrsBytes (perhaps (b "alt") (periphAlt (tapeIn tape (now (file .entry))) (c .at)))) ⌝ }
+fn put_alt(
+    at: usize,
+    desk: &mut Numbers,
+    out: &mut [u8],
+    file: &[u8],
+    tape: Sections,
+    c: Cursor,
+) -> usize
+    ensures { λ r. ⌜ Drew at (now (desk .entry)) (now (out .entry)) (strokesOfAttrs (perhaps (b "alt") (periphAlt (tapeIn tape (now (file .entry))) (c .at)))) r (now (desk .exit)) (now (out .exit)) ⌝ }
 {
     let text = render::leading_text(file, tape, c);
     if words::is_blank(text, Set::Unicode) {
-        return w;
+        return at;
     }
-    let a = put_run(w, out, b" alt=\"");
-    let d = prose::put_words(a, out, text, true);
-    put_run(d, out, b"\"")
+    let a = key(at, desk, out, b"alt");
+    let w = prose::put_words(
+        Window {
+            at: a,
+            from: desk[0],
+        },
+        out,
+        text,
+        true,
+    );
+    end_value(w.at, desk, out)
 }
 
 // A periph's tag up to its end: alt and its attributes.
-fn put_periph(w: Window, out: &mut [u8], file: &[u8], tape: Sections, c: Cursor) -> Window
-    ensures { λ r. ⌜ pageOf r (now (out .exit)) ≡ paint (pageOf w (now (out .entry))) (b "<periph" ++ attrsBytes (periphAttrs (tapeIn tape (now (file .entry))) (c .at))) ⌝ }
+fn put_periph(
+    at: usize,
+    desk: &mut Numbers,
+    out: &mut [u8],
+    file: &[u8],
+    tape: Sections,
+    c: Cursor,
+) -> usize
+    ensures { λ r. ⌜ Drew at (now (desk .entry)) (now (out .entry)) (opens (elementNo false) ∷ strokesOfAttrs (periphAttrs (tapeIn tape (now (file .entry))) (c .at))) r (now (desk .exit)) (now (out .exit)) ⌝ }
 {
-    let a = put_run(w, out, b"<periph");
-    let d = put_alt(a, out, file, tape, c);
-    put_collected(d, out, file, tape, c, b"periph")
+    let a = open_tag(at, desk, out, Element::Periph);
+    let d = put_alt(a, desk, out, file, tape, c);
+    put_collected(d, desk, out, file, tape, c, b"periph")
 }
 
 // A holder's tag up to its end.
 fn put_holder(
-    w: Window,
+    at: usize,
+    desk: &mut Numbers,
     out: &mut [u8],
     file: &[u8],
     tape: Sections,
     c: Cursor,
     sidebar: bool,
-) -> Window
-    ensures { λ r. ⌜ pageOf r (now (out .exit)) ≡ paint (pageOf w (now (out .entry))) (b "<" ++ (nameOf (elementNo sidebar) ++ attrsBytes (attrsOf (tapeIn tape (now (file .entry))) (c .at) sidebar))) ⌝ }
+) -> usize
+    ensures { λ r. ⌜ Drew at (now (desk .entry)) (now (out .entry)) (opens (elementNo sidebar) ∷ strokesOfAttrs (attrsOf (tapeIn tape (now (file .entry))) (c .at) sidebar)) r (now (desk .exit)) (now (out .exit)) ⌝ }
 {
     if sidebar {
-        put_sidebar(w, out, file, tape, c)
+        put_sidebar(at, desk, out, file, tape, c)
     } else {
-        put_periph(w, out, file, tape, c)
+        put_periph(at, desk, out, file, tape, c)
     }
 }
 
@@ -123,9 +160,8 @@ pub fn open_holder(
 ) -> usize
     ensures { λ r. ⌜ deskOf (tapeIn tape (now (file .entry)) .source) r (now (desk .exit)) (now (out .exit)) ≡ emit (deskOf (tapeIn tape (now (file .entry)) .source) at (now (desk .entry)) (now (out .entry))) (item (start (elementNo sidebar) (attrsOf (tapeIn tape (now (file .entry))) (c .at) sidebar))) ⌝ }
 {
-    let a = put_holder(Window { at, from: desk[0] }, out, file, tape, c, sidebar);
-    let z = put_run(a, out, b">");
-    z.at
+    let a = put_holder(at, desk, out, file, tape, c, sidebar);
+    end_tag(a, desk, out)
 }
 
 // A holder with nothing inside.
@@ -140,9 +176,8 @@ pub fn empty_holder(
 ) -> usize
     ensures { λ r. ⌜ deskOf (tapeIn tape (now (file .entry)) .source) r (now (desk .exit)) (now (out .exit)) ≡ emit (deskOf (tapeIn tape (now (file .entry)) .source) at (now (desk .entry)) (now (out .entry))) (item (empty (elementNo sidebar) (attrsOf (tapeIn tape (now (file .entry))) (c .at) sidebar))) ⌝ }
 {
-    let a = put_holder(Window { at, from: desk[0] }, out, file, tape, c, sidebar);
-    let z = put_run(a, out, b" />");
-    z.at
+    let a = put_holder(at, desk, out, file, tape, c, sidebar);
+    shut_tag(a, desk, out)
 }
 
 // A holder's end on its line.
@@ -157,8 +192,8 @@ pub fn close_holder(
 {
     let a = line(at, desk, out, level);
     if sidebar {
-        literal(a, desk, out, b"</sidebar>")
+        close_tag(a, desk, out, Element::Sidebar)
     } else {
-        literal(a, desk, out, b"</periph>")
+        close_tag(a, desk, out, Element::Periph)
     }
 }

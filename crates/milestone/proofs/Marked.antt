@@ -13,9 +13,8 @@ use Rattle.words.specs.Words.{words, joined, isBlank, bytesOf}
 use Rattle.words.specs.declared.Set.the-variants.{Unicode}
 use Rattle.words.specs.declared.Part.{Part}
 use Rattle.texts.proofs.Texts.{joined-blank, joined-some}
-use Rattle.window.specs.Page.{Page, pageOf, paint}
+use Rattle.window.specs.Page.{pageOf, paint}
 use Rattle.window.specs.declared.Window.{Window}
-use Rattle.window.proofs.Paint.{paint-two, paint-from}
 use Rattle.tape.specs.File.{tapeIn}
 use Rattle.tape.specs.declared.Sections.{Sections}
 use Rattle.tape.specs.declared.Step.{Step}
@@ -24,150 +23,149 @@ use Rattle.render.specs.Label.{labelOf, IsLabel}
 use Rattle.render.specs.Note.{stepText, remainder, bookCode, bookRest, IsCode}
 use Rattle.render.proofs.Notes.{rest-words}
 use Rattle.fold.specs.Fold.{foldedNumber}
-use Rattle.tags.specs.Names.{nameOf}
-use Rattle.tags.specs.Items.{Item, empty, valueOf, attrBytes, attrsBytes, bytesOf as itemBytes, render}
-use Rattle.tags.proofs.Rendered.{render-append, attrs-append}
+use Rattle.tags.specs.Items.{Item, empty, render}
 use Rattle.marks.specs.Mark.{namedBook, nextChapter, nextVerse, allClosed}
 use Rattle.marks.specs.declared.Marks.{Marks}
 use Rattle.events.specs.Event.{Event, perhaps, rawly, escaped, chapter as chapterEvent, verse as verseEvent, book as bookEvent}
 use Rattle.events.specs.Pairing.{State, chapterId, verseId, after, endOf, chapterAttrs, verseAttrs, bookAttrs, bookItems, itemsOf, lastEnds}
 use Rattle.events.specs.Emit.{Desk, emit}
-use Rattle.desk.specs.Desk.{chapterIn, verseIn, stateIn, marksOf, Kept, deskOf, ended, shownAs}
-use Rattle.desk.proofs.Chains.{paint-three, paint-four}
-use Rattle.desk.proofs.Idents.{shown-decimal}
+use Rattle.desk.specs.Desk.{chapterIn, verseIn, stateIn, marksOf, Kept, deskOf, putOn, ended}
+use Rattle.desk.specs.Stroke.{Stroke, opens, key, piece, endValue, ends, shuts, closes, words as said, strokesOfAttr, strokesOfAttrs, strokesOf, strokesOfAll, ink, strokes, Drew}
+use Rattle.desk.proofs.Strokes.{drew-two, drew-one, attrs-append, ink-items}
+use Rattle.milestone.proofs.Idents.{drew-as, drew-three}
 
--- ---- runs
+-- ---- parts of tags
 
-module _ (p : Page) {q r z : Page} where
-  pub chapter-head : (n : ℕ) → q ≡ paint p (b "<chapter number=\"") → r ≡ paint q (decimal n) → z ≡ paint r (b "\" style=\"c\"")
-      → z ≡ paint p (b "<chapter number=\"" ++ (decimal n ++ b "\" style=\"c\""))
-  chapter-head n eq er ez = paint-three p (b "<chapter number=\"") (decimal n) (b "\" style=\"c\"") eq er ez
+-- a tag's front, an attribute and a style
+pub tag-head : {at a z r : ℕ} (d d₁ d₂ d₃ : List ℕ) {out o₁ o₂ last : Bytes} (n : ℕ) (k : Bytes) (raw : Bool) (v style : Bytes) → Drew at d out (opens n ∷ []) a d₁ o₁
+    → Drew a d₁ o₁ (key k ∷ piece raw v ∷ endValue ∷ []) z d₂ o₂ → Drew z d₂ o₂ (key (b "style") ∷ piece true style ∷ endValue ∷ []) r d₃ last
+    → Drew at d out (opens n ∷ key k ∷ piece raw v ∷ endValue ∷ key (b "style") ∷ piece true style ∷ endValue ∷ []) r d₃ last
+tag-head d d₁ d₂ d₃ n k raw v style e₁ e₂ e₃ = drew-three d d₁ d₂ d₃ e₁ e₂ e₃
 
-  pub chapter-sid : (code : Bytes) (n : ℕ) → q ≡ paint p (b " sid=\"") → r ≡ paint q (shownAs false (chapterId code n)) → z ≡ paint r (b "\" />")
-      → z ≡ paint p (b " sid=\"" ++ (shownAs false (chapterId code n) ++ b "\" />"))
-  chapter-sid code n eq er ez = paint-three p (b " sid=\"") (shownAs false (chapterId code n)) (b "\" />") eq er ez
+-- an identifier that is the last of a tag
+pub sid-shut : {at a z r : ℕ} (d d₁ d₂ d₃ : List ℕ) {out o₁ o₂ last : Bytes} (i : Bytes) → Drew at d out (key (b "sid") ∷ []) a d₁ o₁ → Drew a d₁ o₁ (piece false i ∷ []) z d₂ o₂
+    → Drew z d₂ o₂ (endValue ∷ shuts ∷ []) r d₃ last → Drew at d out (key (b "sid") ∷ piece false i ∷ endValue ∷ shuts ∷ []) r d₃ last
+sid-shut d d₁ d₂ d₃ i e₁ e₂ e₃ = drew-three d d₁ d₂ d₃ e₁ e₂ e₃
 
-  pub verse-head : (label : Bytes) → q ≡ paint p (b "<verse number=\"") → r ≡ paint q (escape true label) → z ≡ paint r (b "\" style=\"v\"")
-      → z ≡ paint p (b "<verse number=\"" ++ (escape true label ++ b "\" style=\"v\""))
-  verse-head label eq er ez = paint-three p (b "<verse number=\"") (escape true label) (b "\" style=\"v\"") eq er ez
-
-  pub verse-sid : (code : Bytes) (n : ℕ) (label : Bytes) → q ≡ paint p (b " sid=\"") → r ≡ paint q (shownAs false (verseId code n label)) → z ≡ paint r (b "\"")
-      → z ≡ paint p (b " sid=\"" ++ (shownAs false (verseId code n label) ++ b "\""))
-  verse-sid code n label eq er ez = paint-three p (b " sid=\"") (shownAs false (verseId code n label)) (b "\"") eq er ez
-
-  pub book-head : (code : Bytes) → q ≡ paint p (b "<book code=\"") → r ≡ paint q code → z ≡ paint r (b "\" style=\"id\"")
-      → z ≡ paint p (b "<book code=\"" ++ (code ++ b "\" style=\"id\""))
-  book-head code eq er ez = paint-three p (b "<book code=\"") code (b "\" style=\"id\"") eq er ez
-
-  pub book-held : (rest : Bytes) → q ≡ paint p (b ">") → r ≡ paint q (escape false (joined (words Unicode rest))) → z ≡ paint r (b "</book>")
-      → z ≡ paint p (b ">" ++ (escape false (joined (words Unicode rest)) ++ b "</book>"))
-  book-held rest eq er ez = paint-three p (b ">") (escape false (joined (words Unicode rest))) (b "</book>") eq er ez
-
-pub verse-tail : (c : Sections) (file : Bytes) (published : Step) (p : Page) {q r : Page}
-    → q ≡ paint p (attrsBytes (perhaps (b "pubnumber") (foldedNumber (tapeIn c file) published))) → r ≡ paint q (b " />")
-    → r ≡ paint p (attrsBytes (perhaps (b "pubnumber") (foldedNumber (tapeIn c file) published)) ++ b " />")
-verse-tail c file published p eq er = paint-two p (attrsBytes (perhaps (b "pubnumber") (foldedNumber (tapeIn c file) published))) (b " />") eq er
+-- an identifier before the last attributes of a tag
+pub sid-rest : {at a z r : ℕ} (d d₁ d₂ d₃ : List ℕ) {out o₁ o₂ last : Bytes} (i : Bytes) {x : List Stroke} → Drew at d out (key (b "sid") ∷ piece false i ∷ endValue ∷ []) a d₁ o₁ → Drew a d₁ o₁ x z d₂ o₂
+    → Drew z d₂ o₂ (shuts ∷ []) r d₃ last → Drew at d out (key (b "sid") ∷ piece false i ∷ endValue ∷ (x ++ (shuts ∷ []))) r d₃ last
+sid-rest d d₁ d₂ d₃ i e₁ e₂ e₃ = drew-three d d₁ d₂ d₃ e₁ e₂ e₃
 
 -- ---- tags
 
-decimal-plain : (n : ℕ) → escape true (decimal n) ≡ decimal n
-unfolding shownAs
-decimal-plain n = shown-decimal false n
+chapter-strokes : (code : Bytes) (n : ℕ) (alt published : Option Bytes)
+    → (opens 3 ∷ key (b "number") ∷ piece false (decimal n) ∷ endValue ∷ key (b "style") ∷ piece true (b "c") ∷ endValue ∷ [])
+    ++ (strokesOfAttrs (perhaps (b "altnumber") alt) ++ (strokesOfAttrs (perhaps (b "pubnumber") published) ++ (key (b "sid") ∷ piece false (chapterId code n) ∷ endValue ∷ shuts ∷ [])))
+    ≡ strokesOf (empty 3 (chapterAttrs code n alt published))
+unfolding strokesOf strokesOfAttrs strokesOfAttr chapterAttrs escaped rawly
+chapter-strokes code n alt published = simp (attrs-append, append-assoc)
 
-chapter-bytes : (code : Bytes) (n : ℕ) (alt published : Option Bytes)
-    → (b "<chapter number=\"" ++ (decimal n ++ b "\" style=\"c\""))
-    ++ (attrsBytes (perhaps (b "altnumber") alt) ++ (attrsBytes (perhaps (b "pubnumber") published) ++ (b " sid=\"" ++ (shownAs false (chapterId code n) ++ b "\" />"))))
-    ≡ itemBytes (empty 3 (chapterAttrs code n alt published))
-unfolding itemBytes nameOf attrsBytes attrBytes valueOf chapterAttrs escaped rawly shownAs
-chapter-bytes code n alt published = simp (attrs-append, decimal-plain, append-assoc, append-nil)
-
-verse-bytes : (code : Bytes) (n : ℕ) (label : Bytes) (alt published : Option Bytes)
-    → (b "<verse number=\"" ++ (escape true label ++ b "\" style=\"v\""))
-    ++ (attrsBytes (perhaps (b "altnumber") alt) ++ ((b " sid=\"" ++ (shownAs false (verseId code n label) ++ b "\"")) ++ (attrsBytes (perhaps (b "pubnumber") published) ++ b " />")))
-    ≡ itemBytes (empty 4 (verseAttrs code n label alt published))
-unfolding itemBytes nameOf attrsBytes attrBytes valueOf verseAttrs escaped rawly shownAs
-verse-bytes code n label alt published = simp (attrs-append, append-assoc)
+verse-strokes : (code : Bytes) (n : ℕ) (label : Bytes) (alt published : Option Bytes)
+    → (opens 4 ∷ key (b "number") ∷ piece false label ∷ endValue ∷ key (b "style") ∷ piece true (b "v") ∷ endValue ∷ [])
+    ++ (strokesOfAttrs (perhaps (b "altnumber") alt) ++ (key (b "sid") ∷ piece false (verseId code n label) ∷ endValue ∷ (strokesOfAttrs (perhaps (b "pubnumber") published) ++ (shuts ∷ []))))
+    ≡ strokesOf (empty 4 (verseAttrs code n label alt published))
+unfolding strokesOf strokesOfAttrs strokesOfAttr verseAttrs escaped rawly
+verse-strokes code n label alt published = simp (attrs-append, append-assoc)
 
 module _ (c : Sections) (file : Bytes) (code : Part) (n : ℕ) where
-  pub chapter-tag : (alt published : Step) (p q r u : Page) {v : Page} → q ≡ paint p (b "<chapter number=\"" ++ (decimal n ++ b "\" style=\"c\""))
-      → r ≡ paint q (attrsBytes (perhaps (b "altnumber") (foldedNumber (tapeIn c file) alt)))
-      → u ≡ paint r (attrsBytes (perhaps (b "pubnumber") (foldedNumber (tapeIn c file) published)))
-      → {s k : Bytes} → s ≡ tapeIn c file .source → k ≡ part s (code .start) (code .len)
-      → v ≡ paint u (b " sid=\"" ++ (shownAs false (chapterId k n) ++ b "\" />"))
-      → v ≡ paint p (itemBytes (empty 3 (chapterAttrs (bytesOf (tapeIn c file .source) code) n (foldedNumber (tapeIn c file) alt) (foldedNumber (tapeIn c file) published))))
-  chapter-tag alt published p q r u eq er eu {s} {k} es ek ev =
-      let here : k ≡ bytesOf (tapeIn c file .source) code = ek ∙ ap (λ (z : Bytes). part z (code .start) (code .len)) es in
-      paint-four p (b "<chapter number=\"" ++ (decimal n ++ b "\" style=\"c\"")) (attrsBytes (perhaps (b "altnumber") (foldedNumber (tapeIn c file) alt)))
-      (attrsBytes (perhaps (b "pubnumber") (foldedNumber (tapeIn c file) published))) (b " sid=\"" ++ (shownAs false (chapterId k n) ++ b "\" />")) eq er eu ev
-      ∙ ap (paint p) (chapter-bytes k n (foldedNumber (tapeIn c file) alt) (foldedNumber (tapeIn c file) published))
-      ∙ ap (λ (z : Bytes). paint p (itemBytes (empty 3 (chapterAttrs z n (foldedNumber (tapeIn c file) alt) (foldedNumber (tapeIn c file) published))))) here
+  pub chapter-tag : {at a z u r : ℕ} (d d₁ d₂ d₃ d₄ : List ℕ) {out o₁ o₂ o₃ last : Bytes} (alt published : Step) {s k : Bytes} → s ≡ tapeIn c file .source → k ≡ part s (code .start) (code .len)
+      → Drew at d out (opens 3 ∷ key (b "number") ∷ piece false (decimal n) ∷ endValue ∷ key (b "style") ∷ piece true (b "c") ∷ endValue ∷ []) a d₁ o₁
+      → Drew a d₁ o₁ (strokesOfAttrs (perhaps (b "altnumber") (foldedNumber (tapeIn c file) alt))) z d₂ o₂
+      → Drew z d₂ o₂ (strokesOfAttrs (perhaps (b "pubnumber") (foldedNumber (tapeIn c file) published))) u d₃ o₃
+      → Drew u d₃ o₃ (key (b "sid") ∷ piece false (chapterId k n) ∷ endValue ∷ shuts ∷ []) r d₄ last
+      → Drew at d out (strokesOf (empty 3 (chapterAttrs (bytesOf (tapeIn c file .source) code) n (foldedNumber (tapeIn c file) alt) (foldedNumber (tapeIn c file) published)))) r d₄ last
+  chapter-tag d d₁ d₂ d₃ d₄ alt published {k = k} es ek e₁ e₂ e₃ e₄ =
+      let other : Option Bytes = foldedNumber (tapeIn c file) alt in
+      let shown : Option Bytes = foldedNumber (tapeIn c file) published in
+      drew-as d d₄
+      (chapter-strokes k n other shown ∙ ap (λ (x : Bytes). strokesOf (empty 3 (chapterAttrs x n other shown))) (ek ∙ ap (λ (x : Bytes). part x (code .start) (code .len)) es))
+      (drew-two d d₁ d₄ e₁ (drew-three d₁ d₂ d₃ d₄ e₂ e₃ e₄))
 
-  pub verse-tag : (label : Part) (alt published : Step) {s l k : Bytes} → s ≡ tapeIn c file .source → l ≡ part s (label .start) (label .len) → k ≡ part s (code .start) (code .len)
-      → (p q r u : Page) {v : Page} → q ≡ paint p (b "<verse number=\"" ++ (escape true l ++ b "\" style=\"v\""))
-      → r ≡ paint q (attrsBytes (perhaps (b "altnumber") (foldedNumber (tapeIn c file) alt)))
-      → u ≡ paint r (b " sid=\"" ++ (shownAs false (verseId k n l) ++ b "\""))
-      → v ≡ paint u (attrsBytes (perhaps (b "pubnumber") (foldedNumber (tapeIn c file) published)) ++ b " />")
-      → v ≡ paint p (itemBytes (empty 4 (verseAttrs (bytesOf (tapeIn c file .source) code) n (bytesOf (tapeIn c file .source) label) (foldedNumber (tapeIn c file) alt) (foldedNumber (tapeIn c file) published))))
-  verse-tag label alt published {s} {l} {k} es el ek p q r u eq er eu ev =
-      let book : k ≡ bytesOf (tapeIn c file .source) code = ek ∙ ap (λ (z : Bytes). part z (code .start) (code .len)) es in
-      let name : l ≡ bytesOf (tapeIn c file .source) label = el ∙ ap (λ (z : Bytes). part z (label .start) (label .len)) es in
-      paint-four p (b "<verse number=\"" ++ (escape true l ++ b "\" style=\"v\"")) (attrsBytes (perhaps (b "altnumber") (foldedNumber (tapeIn c file) alt)))
-      (b " sid=\"" ++ (shownAs false (verseId k n l) ++ b "\"")) (attrsBytes (perhaps (b "pubnumber") (foldedNumber (tapeIn c file) published)) ++ b " />") eq er eu ev
-      ∙ ap (paint p) (verse-bytes k n l (foldedNumber (tapeIn c file) alt) (foldedNumber (tapeIn c file) published))
-      ∙ ap (λ (z : Bytes). paint p (itemBytes (empty 4 (verseAttrs z n l (foldedNumber (tapeIn c file) alt) (foldedNumber (tapeIn c file) published))))) book
-      ∙ ap (λ (z : Bytes). paint p (itemBytes (empty 4 (verseAttrs (bytesOf (tapeIn c file .source) code) n z (foldedNumber (tapeIn c file) alt) (foldedNumber (tapeIn c file) published))))) name
+  pub verse-tag : {at a z r : ℕ} (d d₁ d₂ d₃ : List ℕ) {out o₁ o₂ last : Bytes} (label : Part) (alt published : Step) {s l k : Bytes} → s ≡ tapeIn c file .source
+      → l ≡ part s (label .start) (label .len) → k ≡ part s (code .start) (code .len)
+      → Drew at d out (opens 4 ∷ key (b "number") ∷ piece false l ∷ endValue ∷ key (b "style") ∷ piece true (b "v") ∷ endValue ∷ []) a d₁ o₁
+      → Drew a d₁ o₁ (strokesOfAttrs (perhaps (b "altnumber") (foldedNumber (tapeIn c file) alt))) z d₂ o₂
+      → Drew z d₂ o₂ (key (b "sid") ∷ piece false (verseId k n l) ∷ endValue ∷ (strokesOfAttrs (perhaps (b "pubnumber") (foldedNumber (tapeIn c file) published)) ++ (shuts ∷ []))) r d₃ last
+      → Drew at d out (strokesOf (empty 4 (verseAttrs (bytesOf (tapeIn c file .source) code) n (bytesOf (tapeIn c file .source) label) (foldedNumber (tapeIn c file) alt) (foldedNumber (tapeIn c file) published)))) r d₃ last
+  verse-tag d d₁ d₂ d₃ label alt published {l = l} {k = k} es el ek e₁ e₂ e₃ =
+      let other : Option Bytes = foldedNumber (tapeIn c file) alt in
+      let shown : Option Bytes = foldedNumber (tapeIn c file) published in
+      drew-as d d₃
+      (verse-strokes k n l other shown
+      ∙ ap (λ (x : Bytes). strokesOf (empty 4 (verseAttrs x n l other shown))) (ek ∙ ap (λ (x : Bytes). part x (code .start) (code .len)) es)
+      ∙ ap (λ (x : Bytes). strokesOf (empty 4 (verseAttrs (bytesOf (tapeIn c file .source) code) n x other shown))) (el ∙ ap (λ (x : Bytes). part x (label .start) (label .len)) es))
+      (drew-three d d₁ d₂ d₃ e₁ e₂ e₃)
 
 -- ---- a book
 
-book-bare : (code : Bytes) → (b "<book code=\"" ++ (code ++ b "\" style=\"id\"")) ++ b " />" ≡ render (bookItems code [])
-unfolding render bookItems itemBytes nameOf attrsBytes attrBytes valueOf bookAttrs rawly
-book-bare code = ap (λ (z : Bytes). b "<book code=\"" ++ z) (sym (append-nil (((code ++ b "\"") ++ b " style=\"id\"") ++ b " />") ∙ ap (λ (z : Bytes). z ++ b " />") (append-assoc code (b "\"") (b " style=\"id\""))))
+-- a text of words
+pub words-drawn : (at : ℕ) {v : Window} (d : List ℕ) (out : Bytes) {last : Bytes} (t : Bytes) → pageOf v last ≡ paint (record { at = at; from = getD d 0 0; buf = out }) (escape false t)
+    → Drew at d out (said t ∷ []) (v .at) d last
+unfolding ink
+words-drawn at d out t ev = drew-one at d out (said t) ev
+
+pub book-held : {at a z r : ℕ} (d d₁ d₂ d₃ : List ℕ) {out o₁ o₂ last : Bytes} (t : Bytes) → Drew at d out (ends ∷ []) a d₁ o₁ → Drew a d₁ o₁ (said t ∷ []) z d₂ o₂ → Drew z d₂ o₂ (closes 2 ∷ []) r d₃ last
+    → Drew at d out (ends ∷ said t ∷ closes 2 ∷ []) r d₃ last
+book-held d d₁ d₂ d₃ t e₁ e₂ e₃ = drew-three d d₁ d₂ d₃ e₁ e₂ e₃
+
+book-bare : (code : Bytes) → opens 2 ∷ key (b "code") ∷ piece true code ∷ endValue ∷ key (b "style") ∷ piece true (b "id") ∷ endValue ∷ shuts ∷ [] ≡ strokesOfAll (bookItems code [])
+unfolding strokesOfAll strokesOf strokesOfAttrs strokesOfAttr bookItems bookAttrs rawly
+book-bare code = refl
 
 book-full : (code rest : Bytes) → 0 < length rest
-    → (b "<book code=\"" ++ (code ++ b "\" style=\"id\"")) ++ (b ">" ++ (escape false rest ++ b "</book>")) ≡ render (bookItems code rest)
-unfolding render bookItems itemBytes nameOf attrsBytes attrBytes valueOf bookAttrs rawly
+    → opens 2 ∷ key (b "code") ∷ piece true code ∷ endValue ∷ key (b "style") ∷ piece true (b "id") ∷ endValue ∷ ends ∷ said rest ∷ closes 2 ∷ [] ≡ strokesOfAll (bookItems code rest)
+unfolding strokesOfAll strokesOf strokesOfAttrs strokesOfAttr bookItems bookAttrs rawly
 book-full code [] h = absurd (omega arith)
-book-full code (x ∷ rest) h =
-    let held : Bytes = escape false (x ∷ rest) ++ b "</book>" in
-    ap (λ (z : Bytes). b "<book code=\"" ++ z)
-    (sym (ap (λ (z : Bytes). (z ++ b ">") ++ held) (append-assoc code (b "\"") (b " style=\"id\"")) ∙ append-assoc (code ++ b "\" style=\"id\"") (b ">") held))
+book-full code (x ∷ rest) h = refl
 
-module _ (code rest : Bytes) (p q : Page) {r : Page} (eq : q ≡ paint p (b "<book code=\"" ++ (code ++ b "\" style=\"id\""))) {y : Bool} (ey : y ≡ isBlank Unicode rest) where
-  pub book-alone : y ≡ true → r ≡ paint q (b " />") → r ≡ paint p (render (bookItems code (joined (words Unicode rest))))
-  book-alone h er =
-      paint-two p (b "<book code=\"" ++ (code ++ b "\" style=\"id\"")) (b " />") eq er
-      ∙ ap (paint p) (book-bare code ∙ ap (λ (z : Bytes). render (bookItems code z)) (sym (joined-blank Unicode rest (sym ey ∙ h))))
+module _ {at a r : ℕ} (d d₁ d₂ : List ℕ) {out o₁ last : Bytes} (code rest : Bytes)
+    (e₁ : Drew at d out (opens 2 ∷ key (b "code") ∷ piece true code ∷ endValue ∷ key (b "style") ∷ piece true (b "id") ∷ endValue ∷ []) a d₁ o₁) {y : Bool} (ey : y ≡ isBlank Unicode rest) where
+  pub book-alone : y ≡ true → Drew a d₁ o₁ (shuts ∷ []) r d₂ last → Drew at d out (strokesOfAll (bookItems code (joined (words Unicode rest)))) r d₂ last
+  book-alone h e₂ =
+      drew-as d d₂ (book-bare code ∙ ap (λ (z : Bytes). strokesOfAll (bookItems code z)) (sym (joined-blank Unicode rest (sym ey ∙ h)))) (drew-two d d₁ d₂ e₁ e₂)
 
-  pub book-around : y ≡ false → r ≡ paint q (b ">" ++ (escape false (joined (words Unicode rest)) ++ b "</book>")) → r ≡ paint p (render (bookItems code (joined (words Unicode rest))))
-  book-around h er =
-      paint-two p (b "<book code=\"" ++ (code ++ b "\" style=\"id\"")) (b ">" ++ (escape false (joined (words Unicode rest)) ++ b "</book>")) eq er
-      ∙ ap (paint p) (book-full code (joined (words Unicode rest)) (joined-some Unicode rest (sym ey ∙ h)))
+  pub book-around : y ≡ false → Drew a d₁ o₁ (ends ∷ said (joined (words Unicode rest)) ∷ closes 2 ∷ []) r d₂ last → Drew at d out (strokesOfAll (bookItems code (joined (words Unicode rest)))) r d₂ last
+  book-around h e₂ = drew-as d d₂ (book-full code (joined (words Unicode rest)) (joined-some Unicode rest (sym ey ∙ h))) (drew-two d d₁ d₂ e₁ e₂)
+
+-- ---- items
+
+items-append : (x y : List Item) → strokesOfAll (x ++ y) ≡ strokesOfAll x ++ strokesOfAll y
+unfolding strokesOfAll
+items-append [] y = refl
+items-append (i ∷ x) y = ap (λ (z : List Stroke). strokesOf i ++ z) (items-append x y) ∙ sym (append-assoc (strokesOf i) (strokesOfAll x) (strokesOfAll y))
+
+items-one : (is : List Item) (i : Item) → strokesOfAll is ++ strokesOf i ≡ strokesOfAll (is ++ (i ∷ []))
+unfolding strokesOfAll
+items-one is i = sym (items-append is (i ∷ []) ∙ ap (λ (z : List Stroke). strokesOfAll is ++ z) (append-nil (strokesOf i)))
+
+-- what is open ends, the verse first
+pub ends-put : {at a r : ℕ} (d d₁ d₂ : List ℕ) {out o₁ last : Bytes} (source : Bytes) (m : Marks) → Drew at d out (strokesOfAll (endOf 4 (verseIn source (m .verse)))) a d₁ o₁
+    → Drew a d₁ o₁ (strokesOfAll (endOf 3 (chapterIn source (m .chapter)))) r d₂ last → Drew at d out (strokesOfAll (lastEnds (stateIn source m))) r d₂ last
+unfolding lastEnds stateIn
+ends-put d d₁ d₂ source m e₁ e₂ = drew-as d d₂ (sym (items-append (endOf 4 (verseIn source (m .verse))) (endOf 3 (chapterIn source (m .chapter))))) (drew-two d d₁ d₂ e₁ e₂)
 
 -- ---- the page and the marks together
 
-desk-made : {p q : Page} {s z : State} → p ≡ q → s ≡ z → _≡_ {A = Desk} (record { page = p; state = s }) (record { page = q; state = z })
-desk-made {p} {q} {s} {z} ep es = ap (λ (u : Page). record { page = u; state = s }) ep ∙ ap (λ (u : State). record { page = q; state = u }) es
-
--- bytes through the window of a desk, and the record that its numbers hold behind them
-desk-kept : (source : Bytes) (at : ℕ) (d : List ℕ) (out x : Bytes) {last-d : List ℕ} {last : Bytes} {v : Window} {m : Marks} {s : State}
-    → pageOf v last ≡ paint (record { at = at; from = getD d 0 0; buf = out }) x → Kept d m last-d → stateIn source m ≡ s
-    → deskOf source (v .at) last-d last ≡ record { page = paint (record { at = at; from = getD d 0 0; buf = out }) x; state = s }
-desk-kept source at d out x {last = last} {v = v} ev k es =
-    let from : v .from ≡ getD d 0 0 = ap (λ (p : Page). p .from) ev ∙ paint-from (record { at = at; from = getD d 0 0; buf = out }) x in
-    desk-made (ap (λ (f : ℕ). record { at = v .at; from = f; buf = last }) (k .from ∙ sym from) ∙ ev) (ap (stateIn source) (k .marks) ∙ es)
+-- strokes, and the record that the numbers hold behind them
+desk-kept : (source : Bytes) {at r : ℕ} (d mid-d last-d : List ℕ) {out last : Bytes} (is : List Item) {m : Marks} {s : State}
+    → Drew at d out (strokesOfAll is) r mid-d last → Kept mid-d m last-d → stateIn source m ≡ s
+    → deskOf source r last-d last ≡ record { page = paint (record { at = at; from = getD d 0 0; buf = out }) (render is); state = s }
+unfolding strokes putOn
+desk-kept source {at} {r} d mid-d last-d {out} {last} is {s = s} e k es =
+    ap (λ (f : ℕ). record { page = record { at = r; from = f; buf = last }; state = stateIn source (marksOf last-d) }) (k .from)
+    ∙ ap (λ (z : State). record { page = record { at = r; from = getD mid-d 0 0; buf = last }; state = z }) (ap (stateIn source) (k .marks) ∙ es)
+    ∙ ap (λ (w : Desk). record { page = w .page; state = s }) (e .on source)
+    ∙ ap (λ (x : Bytes). record { page = paint (record { at = at; from = getD d 0 0; buf = out }) x; state = s }) (ink-items is)
 
 -- an event: its items on the page, and the record behind it
-emitted-by : (source : Bytes) (at : ℕ) (d : List ℕ) (out : Bytes) {last-d : List ℕ} {last : Bytes} {v : Window} {m n : Marks} (e : Event) → m ≡ marksOf d
-    → pageOf v last ≡ paint (record { at = at; from = getD d 0 0; buf = out }) (render (itemsOf (stateIn source m) e)) → Kept d n last-d → stateIn source n ≡ after (stateIn source m) e
-    → deskOf source (v .at) last-d last ≡ emit (deskOf source at d out) e
+emitted-by : (source : Bytes) {at r : ℕ} (d mid-d last-d : List ℕ) {out last : Bytes} {m n : Marks} (e : Event) → m ≡ marksOf d
+    → Drew at d out (strokesOfAll (itemsOf (stateIn source m) e)) r mid-d last → Kept mid-d n last-d → stateIn source n ≡ after (stateIn source m) e
+    → deskOf source r last-d last ≡ emit (deskOf source at d out) e
 unfolding emit
-emitted-by source at d out {m = m} e em ev k es =
-    desk-kept source at d out (render (itemsOf (stateIn source m) e)) ev k es
+emitted-by source {at} d mid-d last-d {out} {m = m} e em ev k es =
+    desk-kept source d mid-d last-d (itemsOf (stateIn source m) e) ev k es
     ∙ ap (λ (z : Marks). emit (record { page = record { at = at; from = getD d 0 0; buf = out }; state = stateIn source z }) e) em
-
-one-bytes : (is : List Item) (i : Item) → render is ++ itemBytes i ≡ render (is ++ (i ∷ []))
-unfolding render
-one-bytes is i = sym (render-append is (i ∷ []) ∙ ap (λ (z : Bytes). render is ++ z) (append-nil (itemBytes i)))
 
 module _ (source : Bytes) (m : Marks) where
   chapter-state : (n : ℕ) (alt published : Option Bytes) → stateIn source (nextChapter m n) ≡ after (stateIn source m) (chapterEvent n alt published)
@@ -186,93 +184,68 @@ module _ (source : Bytes) (m : Marks) where
   unfolding stateIn allClosed chapterIn verseIn
   closed-state = refl
 
--- what is open ends, the verse first
-pub ends-put : (source : Bytes) (m : Marks) (p q : Page) {r : Page} → q ≡ paint p (render (endOf 4 (verseIn source (m .verse))))
-    → r ≡ paint q (render (endOf 3 (chapterIn source (m .chapter)))) → r ≡ paint p (render (lastEnds (stateIn source m)))
-unfolding lastEnds stateIn
-ends-put source m p q eq er =
-    let ends : List Item = endOf 4 (verseIn source (m .verse)) in
-    let shuts : List Item = endOf 3 (chapterIn source (m .chapter)) in
-    paint-two p (render ends) (render shuts) eq er ∙ ap (paint p) (sym (render-append ends shuts))
-
 chapter-items : (s : State) (n : ℕ) (alt published : Option Bytes)
-    → render (lastEnds s) ++ itemBytes (empty 3 (chapterAttrs (s .book) n alt published)) ≡ render (itemsOf s (chapterEvent n alt published))
+    → strokesOfAll (lastEnds s) ++ strokesOf (empty 3 (chapterAttrs (s .book) n alt published)) ≡ strokesOfAll (itemsOf s (chapterEvent n alt published))
 unfolding lastEnds itemsOf
 chapter-items s n alt published =
     let tag : Item = empty 3 (chapterAttrs (s .book) n alt published) in
-    one-bytes (lastEnds s) tag ∙ ap render (append-assoc (endOf 4 (s .verse)) (endOf 3 (s .chapter)) (tag ∷ []))
+    items-one (lastEnds s) tag ∙ ap strokesOfAll (append-assoc (endOf 4 (s .verse)) (endOf 3 (s .chapter)) (tag ∷ []))
 
--- what was painted from a source
-through : (p : Page) {q : Page} {source s : Bytes} (f : Bytes → Bytes) → s ≡ source → q ≡ paint p (f s) → q ≡ paint p (f source)
-through p f es eq = eq ∙ ap (λ (z : Bytes). paint p (f z)) es
-
-module _ (c : Sections) (file : Bytes) (at : ℕ) (d : List ℕ) (out : Bytes) {last-d : List ℕ} {last : Bytes} {v : Window} {m n : Marks} (em : m ≡ marksOf d) where
-  pub chapter-emitted : (i : ℕ) (alt published : Step) {s : Bytes} → s ≡ tapeIn c file .source
-      → (q : Page) → q ≡ paint (record { at = at; from = getD d 0 0; buf = out }) (render (lastEnds (stateIn s m)))
-      → pageOf v last ≡ paint q (itemBytes (empty 3 (chapterAttrs (bytesOf (tapeIn c file .source) (m .book)) i (foldedNumber (tapeIn c file) alt) (foldedNumber (tapeIn c file) published))))
-      → n ≡ nextChapter m i → Kept d n last-d
-      → deskOf (tapeIn c file .source) (v .at) last-d last
+module _ {at a r : ℕ} (d d₁ d₂ last-d : List ℕ) {out o₁ last : Bytes} (c : Sections) (file : Bytes) {m n : Marks} (em : m ≡ marksOf d) where
+  pub chapter-emitted : (i : ℕ) (alt published : Step) {s : Bytes} → s ≡ tapeIn c file .source → Drew at d out (strokesOfAll (lastEnds (stateIn s m))) a d₁ o₁
+      → Drew a d₁ o₁ (strokesOf (empty 3 (chapterAttrs (bytesOf (tapeIn c file .source) (m .book)) i (foldedNumber (tapeIn c file) alt) (foldedNumber (tapeIn c file) published)))) r d₂ last
+      → n ≡ nextChapter m i → Kept d₂ n last-d
+      → deskOf (tapeIn c file .source) r last-d last
       ≡ emit (deskOf (tapeIn c file .source) at d out) (chapterEvent i (foldedNumber (tapeIn c file) alt) (foldedNumber (tapeIn c file) published))
   unfolding stateIn
-  chapter-emitted i alt published es q eq ev en k =
+  chapter-emitted i alt published es e₁ e₂ en k =
       let source : Bytes = tapeIn c file .source in
-      let state : State = stateIn source m in
       let other : Option Bytes = foldedNumber (tapeIn c file) alt in
       let shown : Option Bytes = foldedNumber (tapeIn c file) published in
-      let p : Page = record { at = at; from = getD d 0 0; buf = out } in
-      let first : q ≡ paint p (render (lastEnds state)) = through p (λ (z : Bytes). render (lastEnds (stateIn z m))) es eq in
-      emitted-by source at d out (chapterEvent i other shown) em
-      (paint-two p (render (lastEnds state)) (itemBytes (empty 3 (chapterAttrs (state .book) i other shown))) first ev ∙ ap (paint p) (chapter-items state i other shown))
+      emitted-by source d d₂ last-d (chapterEvent i other shown) em
+      (drew-as d d₂ (chapter-items (stateIn source m) i other shown) (drew-two d d₁ d₂ (drew-as d d₁ (ap (λ (z : Bytes). strokesOfAll (lastEnds (stateIn z m))) es) e₁) e₂))
       k (ap (stateIn source) en ∙ chapter-state source m i other shown)
 
   pub verse-emitted : (i : ℕ) (alt published : Step) {label : Part} → IsLabel (tapeIn c file) i label → {s : Bytes} → s ≡ tapeIn c file .source
-      → (q : Page) → q ≡ paint (record { at = at; from = getD d 0 0; buf = out }) (render (endOf 4 (verseIn s (m .verse))))
-      → pageOf v last ≡ paint q (itemBytes (empty 4 (verseAttrs (bytesOf (tapeIn c file .source) (m .book)) (m .number) (bytesOf (tapeIn c file .source) label) (foldedNumber (tapeIn c file) alt) (foldedNumber (tapeIn c file) published))))
-      → n ≡ nextVerse m label → Kept d n last-d
-      → deskOf (tapeIn c file .source) (v .at) last-d last
+      → Drew at d out (strokesOfAll (endOf 4 (verseIn s (m .verse)))) a d₁ o₁
+      → Drew a d₁ o₁ (strokesOf (empty 4 (verseAttrs (bytesOf (tapeIn c file .source) (m .book)) (m .number) (bytesOf (tapeIn c file .source) label) (foldedNumber (tapeIn c file) alt) (foldedNumber (tapeIn c file) published)))) r d₂ last
+      → n ≡ nextVerse m label → Kept d₂ n last-d
+      → deskOf (tapeIn c file .source) r last-d last
       ≡ emit (deskOf (tapeIn c file .source) at d out) (verseEvent (labelOf (tapeIn c file) i) (foldedNumber (tapeIn c file) alt) (foldedNumber (tapeIn c file) published))
   unfolding stateIn itemsOf
-  verse-emitted i alt published {label} is es q eq ev en k =
+  verse-emitted i alt published {label} is es e₁ e₂ en k =
       let source : Bytes = tapeIn c file .source in
       let name : Bytes = part source (label .start) (label .len) in
       let other : Option Bytes = foldedNumber (tapeIn c file) alt in
       let shown : Option Bytes = foldedNumber (tapeIn c file) published in
-      let ends : List Item = endOf 4 (verseIn source (m .verse)) in
-      let tag : Item = empty 4 (verseAttrs (bytesOf source (m .book)) (m .number) name other shown) in
-      let p : Page = record { at = at; from = getD d 0 0; buf = out } in
-      let first : q ≡ paint p (render ends) = through p (λ (z : Bytes). render (endOf 4 (verseIn z (m .verse)))) es eq in
-      emitted-by source at d out (verseEvent name other shown) em
-      (paint-two p (render ends) (itemBytes tag) first ev ∙ ap (paint p) (one-bytes ends tag))
+      emitted-by source d d₂ last-d (verseEvent name other shown) em
+      (drew-as d d₂ (items-one (endOf 4 (verseIn source (m .verse))) (empty 4 (verseAttrs (bytesOf source (m .book)) (m .number) name other shown)))
+      (drew-two d d₁ d₂ (drew-as d d₁ (ap (λ (z : Bytes). strokesOfAll (endOf 4 (verseIn z (m .verse)))) es) e₁) e₂))
       k (ap (stateIn source) en ∙ verse-state source m label other shown)
       ∙ ap (λ (z : Bytes). emit (deskOf source at d out) (verseEvent z other shown)) (is .bytes)
 
+module _ {at r : ℕ} (d d₁ last-d : List ℕ) {out last : Bytes} (c : Sections) (file : Bytes) {m n : Marks} (em : m ≡ marksOf d) where
   pub book-emitted : (i : ℕ) {p : Part} → IsCode (tapeIn c file) i p → {s code : Bytes} → s ≡ tapeIn c file .source → code ≡ part s (p .start) (p .len)
       → {rest : Bytes} → rest ≡ remainder (stepText (tapeIn c file) (firstText (tapeIn c file) i))
-      → pageOf v last ≡ paint (record { at = at; from = getD d 0 0; buf = out }) (render (bookItems code (joined (words Unicode rest))))
-      → n ≡ namedBook m p → Kept d n last-d
-      → deskOf (tapeIn c file .source) (v .at) last-d last
+      → Drew at d out (strokesOfAll (bookItems code (joined (words Unicode rest)))) r d₁ last
+      → n ≡ namedBook m p → Kept d₁ n last-d
+      → deskOf (tapeIn c file .source) r last-d last
       ≡ emit (deskOf (tapeIn c file .source) at d out) (bookEvent (bookCode (tapeIn c file) i) (bookRest (tapeIn c file) i))
   unfolding itemsOf
-  book-emitted i {p} is {s} {code} es ec {rest} er ev en k =
+  book-emitted i {p} is {s} {code} es ec {rest} er e₁ en k =
       let source : Bytes = tapeIn c file .source in
       let name : Bytes = part source (p .start) (p .len) in
       let named : code ≡ name = ec ∙ ap (λ (z : Bytes). part z (p .start) (p .len)) es in
-      let behind : joined (words Unicode rest) ≡ bookRest (tapeIn c file) i = rest-words (tapeIn c file) i er in
-      let start : Page = record { at = at; from = getD d 0 0; buf = out } in
-      emitted-by source at d out (bookEvent name (bookRest (tapeIn c file) i)) em
-      (ev
-      ∙ ap (λ (z : Bytes). paint start (render (bookItems z (joined (words Unicode rest))))) named
-      ∙ ap (λ (z : Bytes). paint start (render (bookItems name z))) behind)
+      emitted-by source d d₁ last-d (bookEvent name (bookRest (tapeIn c file) i)) em
+      (drew-as d d₁
+      (ap (λ (z : Bytes). strokesOfAll (bookItems z (joined (words Unicode rest)))) named ∙ ap (λ (z : Bytes). strokesOfAll (bookItems name z)) (rest-words (tapeIn c file) i er)) e₁)
       k (ap (stateIn source) en ∙ book-state source m p (bookRest (tapeIn c file) i))
       ∙ ap (λ (z : Bytes). emit (deskOf source at d out) (bookEvent z (bookRest (tapeIn c file) i))) (is .bytes)
 
-  pub ends-ended : {s : Bytes} → s ≡ tapeIn c file .source → pageOf v last ≡ paint (record { at = at; from = getD d 0 0; buf = out }) (render (lastEnds (stateIn s m)))
-      → n ≡ allClosed m → Kept d n last-d
-      → deskOf (tapeIn c file .source) (v .at) last-d last ≡ ended (deskOf (tapeIn c file .source) at d out)
+  pub ends-ended : {s : Bytes} → s ≡ tapeIn c file .source → Drew at d out (strokesOfAll (lastEnds (stateIn s m))) r d₁ last → n ≡ allClosed m → Kept d₁ n last-d
+      → deskOf (tapeIn c file .source) r last-d last ≡ ended (deskOf (tapeIn c file .source) at d out)
   unfolding ended
-  ends-ended es ev en k =
+  ends-ended es e₁ en k =
       let source : Bytes = tapeIn c file .source in
-      let p : Page = record { at = at; from = getD d 0 0; buf = out } in
-      desk-kept source at d out (render (lastEnds (stateIn source m))) (through p (λ (z : Bytes). render (lastEnds (stateIn z m))) es ev)
-      k (ap (stateIn source) en ∙ closed-state source m)
-      ∙ ap (λ (z : Marks). ended (record { page = p; state = stateIn source z })) em
+      desk-kept source d d₁ last-d (lastEnds (stateIn source m)) (drew-as d d₁ (ap (λ (z : Bytes). strokesOfAll (lastEnds (stateIn z m))) es) e₁) k (ap (stateIn source) en ∙ closed-state source m)
+      ∙ ap (λ (z : Marks). ended (record { page = record { at = at; from = getD d 0 0; buf = out }; state = stateIn source z })) em

@@ -1,60 +1,80 @@
 // Chapters, verses and books: the marks go on with the text.
 ghost use mathlib.Core.Path.{_≡_};
 ghost use mathlib.Core.Bool.{true, false};
-ghost use mathlib.Core.List.{_++_};
+ghost use mathlib.Core.List.{[], _∷_, _++_};
 ghost use Rattle.parts.specs.Bytes.{b};
-ghost use Rattle.chars.specs.Escape.{escape};
 ghost use Rattle.chars.specs.Decimal.{decimal};
-ghost use Rattle.window.specs.Page.{pageOf, paint};
 ghost use Rattle.tape.specs.File.{tapeIn};
 ghost use Rattle.render.specs.Label.{labelOf};
 ghost use Rattle.render.specs.Note.{bookCode, bookRest};
 ghost use Rattle.fold.specs.Fold.{foldedNumber};
-ghost use Rattle.tags.specs.Items.{render, bytesOf as itemBytes, empty, attrsBytes};
+ghost use Rattle.tags.specs.Items.{empty};
 ghost use Rattle.words.specs.Words.{words, joined, bytesOf};
 ghost use Rattle.words.specs.declared.Set.the-variants.{Unicode};
 ghost use Rattle.events.specs.Event.{perhaps, chapter as chapterEvent, verse as verseEvent, book as bookEvent};
 ghost use Rattle.events.specs.Pairing.{chapterId, verseId, chapterAttrs, verseAttrs, bookItems, lastEnds};
 ghost use Rattle.events.specs.Emit.{emit};
-ghost use Rattle.desk.specs.Desk.{stateIn, deskOf, ended, shownAs};
+ghost use Rattle.desk.specs.Desk.{stateIn, deskOf, ended};
+ghost use Rattle.desk.specs.Stroke.{opens, key as keyStroke, piece as pieceStroke, endValue, ends, shuts, closes, words as wordsStroke, strokesOfAttrs, strokesOf, strokesOfAll, Drew};
+
+mod ident;
+
+use desk::Element;
 use desk::Numbers;
-use desk::end_chapter;
-use desk::end_verse;
-use desk::put_chapter_id;
-use desk::put_verse_id;
+use desk::attr;
+use desk::close_tag;
+use desk::digits;
+use desk::end_tag;
+use desk::end_value;
+use desk::key;
+use desk::open_tag;
+use desk::open_verse;
+use desk::shut_tag;
+use desk::shut_value;
+use ident::chapter_id;
+use ident::end_chapter;
+use ident::end_verse;
+use ident::verse_id;
 use marks::Marks;
 use tape::Cursor;
 use tape::Sections;
 use tape::Step;
 use values::put_numbered;
 use window::Window;
-use window::escape_xml_attr;
-use window::put_number;
-use window::put_run;
 use words::Part;
 use words::Set;
 
-// A chapter's number and style.
-fn put_chapter_head(w: Window, out: &mut [u8], number: u32) -> Window
-    ensures { λ r. ⌜ pageOf r (now (out .exit)) ≡ paint (pageOf w (now (out .entry))) (b "<chapter number=\"" ++ (decimal number ++ b "\" style=\"c\"")) ⌝ }
+// A number of a chapter as an attribute.
+fn put_number(at: usize, desk: &mut Numbers, out: &mut [u8], number: u32) -> usize
+    ensures { λ r. ⌜ Drew at (now (desk .entry)) (now (out .entry)) (keyStroke (b "number") ∷ pieceStroke false (decimal number) ∷ endValue ∷ []) r (now (desk .exit)) (now (out .exit)) ⌝ }
 {
-    let a = put_run(w, out, b"<chapter number=\"");
-    let c = put_number(a, out, number);
-    put_run(c, out, b"\" style=\"c\"")
+    let a = key(at, desk, out, b"number");
+    let z = digits(a, desk, out, number);
+    end_value(z, desk, out)
+}
+
+// The front of a chapter's tag: its number and style.
+fn put_chapter_head(at: usize, desk: &mut Numbers, out: &mut [u8], number: u32) -> usize
+    ensures { λ r. ⌜ Drew at (now (desk .entry)) (now (out .entry)) (opens 3 ∷ keyStroke (b "number") ∷ pieceStroke false (decimal number) ∷ endValue ∷ keyStroke (b "style") ∷ pieceStroke true (b "c") ∷ endValue ∷ []) r (now (desk .exit)) (now (out .exit)) ⌝ }
+{
+    let a = open_tag(at, desk, out, Element::Chapter);
+    let z = put_number(a, desk, out, number);
+    attr(z, desk, out, b"style", b"c", true)
 }
 
 // A chapter's identifier and the tag's end.
-fn put_chapter_sid(w: Window, out: &mut [u8], code: &[u8], number: u32) -> Window
-    ensures { λ r. ⌜ pageOf r (now (out .exit)) ≡ paint (pageOf w (now (out .entry))) (b " sid=\"" ++ (shownAs false (chapterId (now (code .entry)) number) ++ b "\" />")) ⌝ }
+fn put_chapter_sid(at: usize, desk: &mut Numbers, out: &mut [u8], code: &[u8], number: u32) -> usize
+    ensures { λ r. ⌜ Drew at (now (desk .entry)) (now (out .entry)) (keyStroke (b "sid") ∷ pieceStroke false (chapterId (now (code .entry)) number) ∷ endValue ∷ shuts ∷ []) r (now (desk .exit)) (now (out .exit)) ⌝ }
 {
-    let a = put_run(w, out, b" sid=\"");
-    let c = put_chapter_id(a, out, code, number, false);
-    put_run(c, out, b"\" />")
+    let a = key(at, desk, out, b"sid");
+    let c = chapter_id(a, desk, out, code, number, false);
+    shut_value(c, desk, out)
 }
 
 // The tag of a chapter: number, style, altnumber, pubnumber, sid.
 fn put_chapter(
-    w: Window,
+    at: usize,
+    desk: &mut Numbers,
     out: &mut [u8],
     file: &[u8],
     tape: Sections,
@@ -62,45 +82,55 @@ fn put_chapter(
     number: u32,
     alt: Step,
     published: Step,
-) -> Window
-    ensures { λ r. ⌜ pageOf r (now (out .exit)) ≡ paint (pageOf w (now (out .entry))) (itemBytes (empty 3 (chapterAttrs (bytesOf (tapeIn tape (now (file .entry)) .source) code) number (foldedNumber (tapeIn tape (now (file .entry))) alt) (foldedNumber (tapeIn tape (now (file .entry))) published)))) ⌝ }
+) -> usize
+    ensures { λ r. ⌜ Drew at (now (desk .entry)) (now (out .entry)) (strokesOf (empty 3 (chapterAttrs (bytesOf (tapeIn tape (now (file .entry)) .source) code) number (foldedNumber (tapeIn tape (now (file .entry))) alt) (foldedNumber (tapeIn tape (now (file .entry))) published)))) r (now (desk .exit)) (now (out .exit)) ⌝ }
 {
-    let a = put_chapter_head(w, out, number);
-    let c = put_numbered(a, out, file, tape, b"altnumber", alt);
-    let d = put_numbered(c, out, file, tape, b"pubnumber", published);
     let book = parts::part(tape::source(file, tape), code.start, code.len);
-    put_chapter_sid(d, out, book, number)
-}
-
-// A verse's number and style.
-fn put_verse_head(w: Window, out: &mut [u8], label: &[u8]) -> Window
-    ensures { λ r. ⌜ pageOf r (now (out .exit)) ≡ paint (pageOf w (now (out .entry))) (b "<verse number=\"" ++ (escape true (now (label .entry)) ++ b "\" style=\"v\"")) ⌝ }
-{
-    let a = put_run(w, out, b"<verse number=\"");
-    let c = escape_xml_attr(a, out, label);
-    put_run(c, out, b"\" style=\"v\"")
+    let a = put_chapter_head(at, desk, out, number);
+    let c = put_numbered(a, desk, out, file, tape, b"altnumber", alt);
+    let d = put_numbered(c, desk, out, file, tape, b"pubnumber", published);
+    put_chapter_sid(d, desk, out, book, number)
 }
 
 // A verse's identifier.
-fn put_verse_sid(w: Window, out: &mut [u8], code: &[u8], number: u32, label: &[u8]) -> Window
-    ensures { λ r. ⌜ pageOf r (now (out .exit)) ≡ paint (pageOf w (now (out .entry))) (b " sid=\"" ++ (shownAs false (verseId (now (code .entry)) number (now (label .entry))) ++ b "\"")) ⌝ }
+fn put_verse_sid(
+    at: usize,
+    desk: &mut Numbers,
+    out: &mut [u8],
+    code: &[u8],
+    number: u32,
+    label: &[u8],
+) -> usize
+    ensures { λ r. ⌜ Drew at (now (desk .entry)) (now (out .entry)) (keyStroke (b "sid") ∷ pieceStroke false (verseId (now (code .entry)) number (now (label .entry))) ∷ endValue ∷ []) r (now (desk .exit)) (now (out .exit)) ⌝ }
 {
-    let a = put_run(w, out, b" sid=\"");
-    let c = put_verse_id(a, out, code, number, label, false);
-    put_run(c, out, b"\"")
+    let a = key(at, desk, out, b"sid");
+    let c = verse_id(a, desk, out, code, number, label, false);
+    end_value(c, desk, out)
 }
 
-// A verse's published number and the tag's end.
-fn put_verse_tail(w: Window, out: &mut [u8], file: &[u8], tape: Sections, published: Step) -> Window
-    ensures { λ r. ⌜ pageOf r (now (out .exit)) ≡ paint (pageOf w (now (out .entry))) (attrsBytes (perhaps (b "pubnumber") (foldedNumber (tapeIn tape (now (file .entry))) published)) ++ b " />") ⌝ }
+// A verse's identifier and published number, and the tag's end.
+fn put_verse_tail(
+    at: usize,
+    desk: &mut Numbers,
+    out: &mut [u8],
+    file: &[u8],
+    tape: Sections,
+    code: &[u8],
+    number: u32,
+    label: &[u8],
+    published: Step,
+) -> usize
+    ensures { λ r. ⌜ Drew at (now (desk .entry)) (now (out .entry)) (keyStroke (b "sid") ∷ pieceStroke false (verseId (now (code .entry)) number (now (label .entry))) ∷ endValue ∷ (strokesOfAttrs (perhaps (b "pubnumber") (foldedNumber (tapeIn tape (now (file .entry))) published)) ++ (shuts ∷ []))) r (now (desk .exit)) (now (out .exit)) ⌝ }
 {
-    let a = put_numbered(w, out, file, tape, b"pubnumber", published);
-    put_run(a, out, b" />")
+    let a = put_verse_sid(at, desk, out, code, number, label);
+    let z = put_numbered(a, desk, out, file, tape, b"pubnumber", published);
+    shut_tag(z, desk, out)
 }
 
 // The tag of a verse: number, style, altnumber, sid, pubnumber.
 fn put_verse(
-    w: Window,
+    at: usize,
+    desk: &mut Numbers,
     out: &mut [u8],
     file: &[u8],
     tape: Sections,
@@ -109,26 +139,25 @@ fn put_verse(
     label: Part,
     alt: Step,
     published: Step,
-) -> Window
-    ensures { λ r. ⌜ pageOf r (now (out .exit)) ≡ paint (pageOf w (now (out .entry))) (itemBytes (empty 4 (verseAttrs (bytesOf (tapeIn tape (now (file .entry)) .source) code) number (bytesOf (tapeIn tape (now (file .entry)) .source) label) (foldedNumber (tapeIn tape (now (file .entry))) alt) (foldedNumber (tapeIn tape (now (file .entry))) published)))) ⌝ }
+) -> usize
+    ensures { λ r. ⌜ Drew at (now (desk .entry)) (now (out .entry)) (strokesOf (empty 4 (verseAttrs (bytesOf (tapeIn tape (now (file .entry)) .source) code) number (bytesOf (tapeIn tape (now (file .entry)) .source) label) (foldedNumber (tapeIn tape (now (file .entry))) alt) (foldedNumber (tapeIn tape (now (file .entry))) published)))) r (now (desk .exit)) (now (out .exit)) ⌝ }
 {
     let source = tape::source(file, tape);
     let name = parts::part(source, label.start, label.len);
     let book = parts::part(source, code.start, code.len);
-    let a = put_verse_head(w, out, name);
-    let c = put_numbered(a, out, file, tape, b"altnumber", alt);
-    let d = put_verse_sid(c, out, book, number, name);
-    put_verse_tail(d, out, file, tape, published)
+    let a = open_verse(at, desk, out, name);
+    let c = put_numbered(a, desk, out, file, tape, b"altnumber", alt);
+    put_verse_tail(c, desk, out, file, tape, book, number, name, published)
 }
 
 // The ends of what is open, the verse's first.
-fn put_ends(w: Window, out: &mut [u8], source: &[u8], m: Marks) -> Window
-    ensures { λ r. ⌜ pageOf r (now (out .exit)) ≡ paint (pageOf w (now (out .entry))) (render (lastEnds (stateIn (now (source .entry)) m))) ⌝ }
+fn put_ends(at: usize, desk: &mut Numbers, out: &mut [u8], source: &[u8], m: Marks) -> usize
+    ensures { λ r. ⌜ Drew at (now (desk .entry)) (now (out .entry)) (strokesOfAll (lastEnds (stateIn (now (source .entry)) m))) r (now (desk .exit)) (now (out .exit)) ⌝ }
 {
     let verse = m.verse;
-    let a = end_verse(w, out, source, verse);
+    let a = end_verse(at, desk, out, source, verse);
     let chapter = m.chapter;
-    end_chapter(a, out, source, chapter)
+    end_chapter(a, desk, out, source, chapter)
 }
 
 // A chapter ends what is open and opens itself.
@@ -145,15 +174,10 @@ pub fn chapter(
     ensures { λ r. ⌜ deskOf (tapeIn tape (now (file .entry)) .source) r (now (desk .exit)) (now (out .exit)) ≡ emit (deskOf (tapeIn tape (now (file .entry)) .source) at (now (desk .entry)) (now (out .entry))) (chapterEvent number (foldedNumber (tapeIn tape (now (file .entry))) alt) (foldedNumber (tapeIn tape (now (file .entry))) published)) ⌝ }
 {
     let m = desk::marks_of(*desk);
-    let a = put_ends(
-        Window { at, from: desk[0] },
-        out,
-        tape::source(file, tape),
-        m,
-    );
-    let d = put_chapter(a, out, file, tape, m.book, number, alt, published);
+    let a = put_ends(at, desk, out, tape::source(file, tape), m);
+    let d = put_chapter(a, desk, out, file, tape, m.book, number, alt, published);
     desk::keep(desk, marks::next_chapter(m, number));
-    d.at
+    d
 }
 
 // A verse ends the one that is open and opens itself.
@@ -172,44 +196,58 @@ pub fn verse(
     let m = desk::marks_of(*desk);
     let label = render::verse_label(file, tape, c);
     let held = m.verse;
-    let a = end_verse(
-        Window { at, from: desk[0] },
+    let a = end_verse(at, desk, out, tape::source(file, tape), held);
+    let d = put_verse(
+        a,
+        desk,
         out,
-        tape::source(file, tape),
-        held,
+        file,
+        tape,
+        m.book,
+        m.number,
+        label,
+        alt,
+        published,
     );
-    let d = put_verse(a, out, file, tape, m.book, m.number, label, alt, published);
     desk::keep(desk, marks::next_verse(m, label));
-    d.at
+    d
 }
 
-// A book's tag up to its style; the code is raw.
-fn put_book_head(w: Window, out: &mut [u8], code: &[u8]) -> Window
-    ensures { λ r. ⌜ pageOf r (now (out .exit)) ≡ paint (pageOf w (now (out .entry))) (b "<book code=\"" ++ (now (code .entry) ++ b "\" style=\"id\"")) ⌝ }
+// The front of a book's tag: its code, which is raw, and its style.
+fn put_book_head(at: usize, desk: &mut Numbers, out: &mut [u8], code: &[u8]) -> usize
+    ensures { λ r. ⌜ Drew at (now (desk .entry)) (now (out .entry)) (opens 2 ∷ keyStroke (b "code") ∷ pieceStroke true (now (code .entry)) ∷ endValue ∷ keyStroke (b "style") ∷ pieceStroke true (b "id") ∷ endValue ∷ []) r (now (desk .exit)) (now (out .exit)) ⌝ }
 {
-    let a = put_run(w, out, b"<book code=\"");
-    let c = put_run(a, out, code);
-    put_run(c, out, b"\" style=\"id\"")
+    let a = open_tag(at, desk, out, Element::Book);
+    let z = attr(a, desk, out, b"code", code, true);
+    attr(z, desk, out, b"style", b"id", true)
+}
+
+// A text of words.
+fn put_text(at: usize, desk: &mut Numbers, out: &mut [u8], text: &[u8]) -> usize
+    ensures { λ r. ⌜ Drew at (now (desk .entry)) (now (out .entry)) (wordsStroke (joined (words Unicode (now (text .entry)))) ∷ []) r (now (desk .exit)) (now (out .exit)) ⌝ }
+{
+    let w = prose::put_words(Window { at, from: desk[0] }, out, text, false);
+    w.at
 }
 
 // What a book holds and its end.
-fn put_book_rest(w: Window, out: &mut [u8], rest: &[u8]) -> Window
-    ensures { λ r. ⌜ pageOf r (now (out .exit)) ≡ paint (pageOf w (now (out .entry))) (b ">" ++ (escape false (joined (words Unicode (now (rest .entry)))) ++ b "</book>")) ⌝ }
+fn put_book_rest(at: usize, desk: &mut Numbers, out: &mut [u8], rest: &[u8]) -> usize
+    ensures { λ r. ⌜ Drew at (now (desk .entry)) (now (out .entry)) (ends ∷ wordsStroke (joined (words Unicode (now (rest .entry)))) ∷ closes 2 ∷ []) r (now (desk .exit)) (now (out .exit)) ⌝ }
 {
-    let a = put_run(w, out, b">");
-    let c = prose::put_words(a, out, rest, false);
-    put_run(c, out, b"</book>")
+    let a = end_tag(at, desk, out);
+    let c = put_text(a, desk, out, rest);
+    close_tag(c, desk, out, Element::Book)
 }
 
 // The tag of a book, and the text behind its code where there is one.
-fn put_book(w: Window, out: &mut [u8], code: &[u8], rest: &[u8]) -> Window
-    ensures { λ r. ⌜ pageOf r (now (out .exit)) ≡ paint (pageOf w (now (out .entry))) (render (bookItems (now (code .entry)) (joined (words Unicode (now (rest .entry)))))) ⌝ }
+fn put_book(at: usize, desk: &mut Numbers, out: &mut [u8], code: &[u8], rest: &[u8]) -> usize
+    ensures { λ r. ⌜ Drew at (now (desk .entry)) (now (out .entry)) (strokesOfAll (bookItems (now (code .entry)) (joined (words Unicode (now (rest .entry)))))) r (now (desk .exit)) (now (out .exit)) ⌝ }
 {
-    let a = put_book_head(w, out, code);
+    let a = put_book_head(at, desk, out, code);
     if words::is_blank(rest, Set::Unicode) {
-        put_run(a, out, b" />")
+        shut_tag(a, desk, out)
     } else {
-        put_book_rest(a, out, rest)
+        put_book_rest(a, desk, out, rest)
     }
 }
 
@@ -227,14 +265,9 @@ pub fn book(
     let m = desk::marks_of(*desk);
     let p = render::book_code(file, tape, c);
     let code = parts::part(tape::source(file, tape), p.start, p.len);
-    let w = put_book(
-        Window { at, from: desk[0] },
-        out,
-        code,
-        render::book_rest(file, tape, c),
-    );
+    let z = put_book(at, desk, out, code, render::book_rest(file, tape, c));
     desk::keep(desk, m.named_book(p));
-    w.at
+    z
 }
 
 // The ends of what is still open, before the last new line.
@@ -248,12 +281,7 @@ pub fn last_ends(
     ensures { λ r. ⌜ deskOf (tapeIn tape (now (file .entry)) .source) r (now (desk .exit)) (now (out .exit)) ≡ ended (deskOf (tapeIn tape (now (file .entry)) .source) at (now (desk .entry)) (now (out .entry))) ⌝ }
 {
     let m = desk::marks_of(*desk);
-    let w = put_ends(
-        Window { at, from: desk[0] },
-        out,
-        tape::source(file, tape),
-        m,
-    );
+    let z = put_ends(at, desk, out, tape::source(file, tape), m);
     desk::keep(desk, marks::all_closed(m));
-    w.at
+    z
 }

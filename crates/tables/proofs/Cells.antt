@@ -1,14 +1,9 @@
 -- Tags of cells, rows and tables.
-use mathlib.Core.Path.{_≡_, refl, sym, ap, _∙_}
+use mathlib.Core.Path.{_≡_, ap, _∙_}
 use mathlib.Core.Bool.{Bool, true, false}
-use mathlib.Core.List.{List, [], _∷_, _++_, append-assoc}
+use mathlib.Core.List.{List, [], _∷_}
 use Prim.Native.Nat.{ℕ}
-use lib.ListN.{getD}
 use Rattle.parts.specs.Bytes.{Bytes, b}
-use Rattle.chars.specs.Escape.{escape, escapedByte}
-use Rattle.window.specs.Page.{Page, pageOf, paint}
-use Rattle.window.specs.declared.Window.{Window}
-use Rattle.window.proofs.Paint.{paint-two}
 use Rattle.tape.specs.File.{Tape, kindAt, infoAt}
 use Rattle.tape.specs.Name.{markerName}
 use Rattle.tape.specs.declared.kinds.Kind.{Kind}
@@ -19,14 +14,13 @@ use Rattle.render.specs.Note.{cellAlign, alignWord}
 use Rattle.render.specs.declared.note.Align.{Align}
 use Rattle.render.specs.declared.note.Align.the-variants.{Start, Center, End}
 use Rattle.render.proofs.Shapes.{kind-is, kind-not}
-use Rattle.tags.specs.Items.{Item, start, empty, close, line, valueOf, attrBytes, attrsBytes, bytesOf}
-use Rattle.tags.specs.Names.{nameOf}
+use Rattle.tags.specs.Items.{Item, start, empty, close, line}
 use Rattle.events.specs.Event.{item, rawly, escaped}
 use Rattle.events.specs.Walk.{isKnown, isCell, style, styled}
 use Rattle.events.specs.Emit.{Desk, emit, emitAll}
-use Rattle.desk.specs.Desk.{deskOf, putOn}
-use Rattle.desk.proofs.Chains.{paint-three, item-on, desk-item}
-use Rattle.tagging.proofs.Written.{start-styled, empty-styled}
+use Rattle.desk.specs.Desk.{deskOf}
+use Rattle.desk.specs.Stroke.{opens, key, piece, endValue, ends, shuts, closes, strokesOfAttr, strokesOfAttrs, strokesOf, Drew}
+use Rattle.desk.proofs.Strokes.{drew-two, drew-item}
 use Rattle.tables.specs.Rows.{rowOpens, rowCloses, tableOpens, tableCloses}
 
 -- ---- which children are cells
@@ -50,91 +44,59 @@ module _ (t : Tape) (k : ℕ) {z : Kind} (ek : z .code ≡ kindAt t k) where
 
 -- ---- the tag of a cell
 
-module _ (p : Page) {q : Page} {a : Align} where
-  pub align-start : a ≡ Start → q ≡ paint p (b "\" align=\"start\"") → q ≡ paint p (b "\" align=\"" ++ (alignWord a ++ b "\""))
-  unfolding alignWord
+module _ {at r : ℕ} (d last-d : List ℕ) {out last : Bytes} {a : Align} where
+  pub align-start : a ≡ Start → Drew at d out (key (b "align") ∷ piece false (b "start") ∷ endValue ∷ []) r last-d last → Drew at d out (strokesOfAttr (escaped (b "align") (alignWord a))) r last-d last
+  unfolding alignWord strokesOfAttr escaped
   align-start h e = rw h e
 
-  pub align-center : a ≡ Center → q ≡ paint p (b "\" align=\"center\"") → q ≡ paint p (b "\" align=\"" ++ (alignWord a ++ b "\""))
-  unfolding alignWord
+  pub align-center : a ≡ Center → Drew at d out (key (b "align") ∷ piece false (b "center") ∷ endValue ∷ []) r last-d last → Drew at d out (strokesOfAttr (escaped (b "align") (alignWord a))) r last-d last
+  unfolding alignWord strokesOfAttr escaped
   align-center h e = rw h e
 
-  pub align-end : a ≡ End → q ≡ paint p (b "\" align=\"end\"") → q ≡ paint p (b "\" align=\"" ++ (alignWord a ++ b "\""))
-  unfolding alignWord
+  pub align-end : a ≡ End → Drew at d out (key (b "align") ∷ piece false (b "end") ∷ endValue ∷ []) r last-d last → Drew at d out (strokesOfAttr (escaped (b "align") (alignWord a))) r last-d last
+  unfolding alignWord strokesOfAttr escaped
   align-end h e = rw h e
 
--- style and alignment, up to the end of the tag
-abbrev cellBytes : Bytes → Bytes
-cellBytes name = b "<cell style=\"" ++ (name ++ (b "\" align=\"" ++ (alignWord (cellAlign name) ++ b "\"")))
+module _ {at a r : ℕ} (d d₁ d₂ : List ℕ) {out mid last : Bytes} where
+  pub cell-front : (name : Bytes) {x : Align} → Drew at d out (opens 12 ∷ key (b "style") ∷ piece true name ∷ endValue ∷ []) a d₁ mid → x ≡ cellAlign name
+      → Drew a d₁ mid (strokesOfAttr (escaped (b "align") (alignWord x))) r d₂ last
+      → Drew at d out (opens 12 ∷ strokesOfAttrs (rawly (b "style") name ∷ escaped (b "align") (alignWord (cellAlign name)) ∷ [])) r d₂ last
+  unfolding strokesOfAttrs strokesOfAttr rawly
+  cell-front name e ex f = drew-two d d₁ d₂ e (rw ex at f)
 
-pub cell-put : (p : Page) {q u r : Page} (name : Bytes) {a : Align} → q ≡ paint p (b "<cell style=\"") → u ≡ paint q name → a ≡ cellAlign name
-    → r ≡ paint u (b "\" align=\"" ++ (alignWord a ++ b "\""))
-    → r ≡ paint p (b "<cell style=\"" ++ (name ++ (b "\" align=\"" ++ (alignWord (cellAlign name) ++ b "\""))))
-cell-put p name eq eu ea er =
-    paint-three p (b "<cell style=\"") name (b "\" align=\"" ++ (alignWord (cellAlign name) ++ b "\"")) eq eu (rw ea at er)
+  module _ (t : Tape) (k : ℕ) {name : Bytes} (en : name ≡ markerName t k)
+      (e : Drew at d out (opens 12 ∷ strokesOfAttrs (rawly (b "style") name ∷ escaped (b "align") (alignWord (cellAlign name)) ∷ [])) a d₁ mid) where
+    pub cell-opened : Drew a d₁ mid (ends ∷ []) r d₂ last
+        → deskOf (t .source) r d₂ last ≡ emit (deskOf (t .source) at d out) (item (start 12 (style t k ∷ escaped (b "align") (alignWord (cellAlign (markerName t k))) ∷ [])))
+    unfolding style strokesOf
+    cell-opened f = drew-item d d₂ (start 12 _) (drew-two d d₁ d₂ (rw en at e) f) (t .source)
 
--- an alignment as an attribute: no byte of it is escaped
-align-bytes : (a : Align) (z : Bytes) → (b "\" align=\"" ++ (alignWord a ++ b "\"")) ++ z ≡ b "\"" ++ (attrsBytes (escaped (b "align") (alignWord a) ∷ []) ++ z)
-unfolding alignWord attrsBytes attrBytes valueOf escaped escape escapedByte
-align-bytes Start z = refl
-align-bytes Center z = refl
-align-bytes End z = refl
-
-module _ (name : Bytes) where
-  cell-tail : (z : Bytes) → cellBytes name ++ z
-      ≡ b "<cell style=\"" ++ (name ++ (b "\"" ++ (attrsBytes (escaped (b "align") (alignWord (cellAlign name)) ∷ []) ++ z)))
-  cell-tail z =
-      ap (λ (x : Bytes). b "<cell style=\"" ++ x) (append-assoc name (b "\" align=\"" ++ (alignWord (cellAlign name) ++ b "\"")) z)
-      ∙ ap (λ (x : Bytes). b "<cell style=\"" ++ (name ++ x)) (align-bytes (cellAlign name) z)
-
-  start-cell : cellBytes name ++ b ">" ≡ bytesOf (start 12 (rawly (b "style") name ∷ escaped (b "align") (alignWord (cellAlign name)) ∷ []))
-  unfolding nameOf
-  start-cell = cell-tail (b ">") ∙ sym (start-styled 12 name (escaped (b "align") (alignWord (cellAlign name)) ∷ []))
-
-  empty-cell : cellBytes name ++ b " />" ≡ bytesOf (empty 12 (rawly (b "style") name ∷ escaped (b "align") (alignWord (cellAlign name)) ∷ []))
-  unfolding nameOf
-  empty-cell = cell-tail (b " />") ∙ sym (empty-styled 12 name (escaped (b "align") (alignWord (cellAlign name)) ∷ []))
-
-module _ (t : Tape) (k at : ℕ) (d : List ℕ) (out : Bytes) {last name : Bytes} {v : Window} {p : Page} (en : name ≡ markerName t k)
-    (ep : p ≡ paint (record { at = at; from = getD d 0 0; buf = out }) (b "<cell style=\"" ++ (name ++ (b "\" align=\"" ++ (alignWord (cellAlign name) ++ b "\""))))) where
-  cell-behind : (z : Bytes) {x : Bytes} → pageOf v last ≡ paint p z → cellBytes (markerName t k) ++ z ≡ x → pageOf v last ≡ paint (record { at = at; from = getD d 0 0; buf = out }) x
-  cell-behind z ev ez =
-      let start : Page = record { at = at; from = getD d 0 0; buf = out } in
-      paint-two start (cellBytes (markerName t k)) z (rw en at ep) ev ∙ ap (paint start) ez
-
-  pub cell-opened : pageOf v last ≡ paint p (b ">")
-      → deskOf (t .source) (v .at) d last
-      ≡ emit (deskOf (t .source) at d out) (item (start 12 (style t k ∷ escaped (b "align") (alignWord (cellAlign (markerName t k))) ∷ [])))
-  unfolding style
-  cell-opened ev =
-      desk-item at d out (start 12 (style t k ∷ escaped (b "align") (alignWord (cellAlign (markerName t k))) ∷ [])) (cell-behind (b ">") ev (start-cell (markerName t k))) (t .source)
-
-  pub cell-emptied : pageOf v last ≡ paint p (b " />")
-      → deskOf (t .source) (v .at) d last
-      ≡ emit (deskOf (t .source) at d out) (item (empty 12 (style t k ∷ escaped (b "align") (alignWord (cellAlign (markerName t k))) ∷ [])))
-  unfolding style
-  cell-emptied ev =
-      desk-item at d out (empty 12 (style t k ∷ escaped (b "align") (alignWord (cellAlign (markerName t k))) ∷ [])) (cell-behind (b " />") ev (empty-cell (markerName t k))) (t .source)
+    pub cell-emptied : Drew a d₁ mid (shuts ∷ []) r d₂ last
+        → deskOf (t .source) r d₂ last ≡ emit (deskOf (t .source) at d out) (item (empty 12 (style t k ∷ escaped (b "align") (alignWord (cellAlign (markerName t k))) ∷ [])))
+    unfolding style strokesOf
+    cell-emptied f = drew-item d d₂ (empty 12 _) (drew-two d d₁ d₂ (rw en at e) f) (t .source)
 
 -- ---- tags on lines of their own
 
-module _ (level : ℕ) (d : Desk) {m e : Desk} (em : m ≡ emit d (item (line level))) where
-  on-line : (i : Item) → e ≡ putOn m (bytesOf i) → e ≡ emitAll d (item (line level) ∷ item i ∷ [])
+module _ (source : Bytes) (level : ℕ) (w : Desk) {a r : ℕ} (d₁ d₂ : List ℕ) {mid last : Bytes} (ea : deskOf source a d₁ mid ≡ emit w (item (line level))) where
+  line-item : (i : Item) → Drew a d₁ mid (strokesOf i) r d₂ last → deskOf source r d₂ last ≡ emitAll w (item (line level) ∷ item i ∷ [])
   unfolding emitAll
-  on-line i ee = ee ∙ item-on m i ∙ ap (λ (z : Desk). emit z (item i)) em
+  line-item i e = drew-item d₁ d₂ i e source ∙ ap (λ (v : Desk). emit v (item i)) ea
 
-  pub row-opened : e ≡ putOn m (b "<row style=\"tr\">") → e ≡ emitAll d (rowOpens level)
-  unfolding rowOpens styled bytesOf nameOf attrsBytes attrBytes valueOf rawly
-  row-opened ee = on-line (start 11 (styled (b "tr"))) ee
+  pub row-closed : Drew a d₁ mid (closes 11 ∷ []) r d₂ last → deskOf source r d₂ last ≡ emitAll w (rowCloses level)
+  unfolding rowCloses strokesOf
+  row-closed e = line-item (close 11) e
 
-  pub row-closed : e ≡ putOn m (b "</row>") → e ≡ emitAll d (rowCloses level)
-  unfolding rowCloses bytesOf nameOf
-  row-closed ee = on-line (close 11) ee
+  pub table-closed : Drew a d₁ mid (closes 10 ∷ []) r d₂ last → deskOf source r d₂ last ≡ emitAll w (tableCloses level)
+  unfolding tableCloses strokesOf
+  table-closed e = line-item (close 10) e
 
-  pub table-opened : e ≡ putOn m (b "<table>") → e ≡ emitAll d (tableOpens level)
-  unfolding tableOpens bytesOf nameOf attrsBytes
-  table-opened ee = on-line (start 10 []) ee
+  module _ {z : ℕ} (d₃ : List ℕ) {now : Bytes} where
+    pub row-opened : Drew a d₁ mid (opens 11 ∷ key (b "style") ∷ piece true (b "tr") ∷ endValue ∷ []) z d₃ now → Drew z d₃ now (ends ∷ []) r d₂ last
+        → deskOf source r d₂ last ≡ emitAll w (rowOpens level)
+    unfolding rowOpens styled rawly strokesOf strokesOfAttrs strokesOfAttr
+    row-opened e f = line-item (start 11 (styled (b "tr"))) (drew-two d₁ d₃ d₂ e f)
 
-  pub table-closed : e ≡ putOn m (b "</table>") → e ≡ emitAll d (tableCloses level)
-  unfolding tableCloses bytesOf nameOf
-  table-closed ee = on-line (close 10) ee
+    pub table-opened : Drew a d₁ mid (opens 10 ∷ []) z d₃ now → Drew z d₃ now (ends ∷ []) r d₂ last → deskOf source r d₂ last ≡ emitAll w (tableOpens level)
+    unfolding tableOpens strokesOf strokesOfAttrs
+    table-opened e f = line-item (start 10 []) (drew-two d₁ d₃ d₂ e f)

@@ -15,8 +15,7 @@ use Rattle.tape.proofs.Walk.{walk-turn, walk-end}
 use Rattle.render.specs.Shape.{isRow}
 use Rattle.render.specs.Children.{hasContent}
 use Rattle.render.specs.Note.{cellAlign, alignWord}
-use Rattle.tags.specs.Items.{Attr, start, empty, close, line, bytesOf}
-use Rattle.tags.specs.Names.{nameOf}
+use Rattle.tags.specs.Items.{Attr, start, empty, close, line}
 use Rattle.events.specs.Event.{Event, item, escaped, element}
 use Rattle.events.specs.Walk.{asInline, inside, isCell, style, cellIn, cellsAlong, cells, rowE, rowsE, tableE}
 use Rattle.events.specs.Emit.{Desk, emit, emitAll}
@@ -26,8 +25,9 @@ use Rattle.lists.specs.declared.Span.{Span}
 use Rattle.lists.specs.declared.Member.{Member}
 use Rattle.lists.specs.declared.Member.the-variants.{End, Skipped, Listed}
 use Rattle.lists.proofs.Nodes.{nodes-done, nodes-cut, nodes-skip, nodes-go}
-use Rattle.desk.specs.Desk.{deskOf, putOn}
-use Rattle.desk.proofs.Chains.{item-on}
+use Rattle.desk.specs.Desk.{deskOf}
+use Rattle.desk.specs.Stroke.{closes, strokesOf, Drew}
+use Rattle.desk.proofs.Strokes.{drew-item}
 use Rattle.roles.specs.Roles.{mannerBy}
 use Rattle.tables.specs.Rows.{isNoRow, rowOpens, rowCloses, tableOpens, tableCloses}
 use Rattle.tables.proofs.Spans.{up-row, up-other, up-none}
@@ -37,21 +37,21 @@ use Rattle.tables.proofs.Spans.{up-row, up-other, up-none}
 abbrev cellAttrs : Tape → ℕ → List Attr
 cellAttrs t k = style t k ∷ escaped (b "align") (alignWord (cellAlign (markerName t k))) ∷ []
 
-cell-around : (t : Tape) (k : ℕ) (d : Desk) {e f g : Desk} (ys : List Event) → e ≡ emit d (item (start 12 (cellAttrs t k))) → f ≡ emitAll e ys → g ≡ putOn f (b "</cell>")
+cell-around : (t : Tape) (k : ℕ) (d : Desk) {e f g : Desk} (ys : List Event) → e ≡ emit d (item (start 12 (cellAttrs t k))) → f ≡ emitAll e ys → g ≡ emit f (item (close 12))
     → g ≡ emitAll d (element 12 (cellAttrs t k) ys)
-unfolding element emitAll bytesOf nameOf
-cell-around t k d {e} {f} ys ee ef eg =
-    between d (item (start 12 (cellAttrs t k)) ∷ []) ys (item (close 12) ∷ []) ee ef (eg ∙ item-on f (close 12))
+unfolding element emitAll
+cell-around t k d ys ee ef eg = between d (item (start 12 (cellAttrs t k)) ∷ []) ys (item (close 12) ∷ []) ee ef eg
 
 -- the desk behind a cell with something in it
 pub cell-full : (t : Tape) (k depth : ℕ) (at a z r : ℕ) (d d₁ d₂ d₃ : List ℕ) (out mid now last : Bytes)
     → deskOf (t .source) a d₁ mid ≡ emit (deskOf (t .source) at d out) (item (start 12 (style t k ∷ escaped (b "align") (alignWord (cellAlign (markerName t k))) ∷ [])))
     → deskOf (t .source) z d₂ now ≡ emitAll (deskOf (t .source) a d₁ mid) (inside t depth (mannerBy false) k false)
-    → ((source : Bytes) → deskOf source r d₃ last ≡ putOn (deskOf source z d₂ now) (b "</cell>"))
+    → Drew z d₂ now (closes 12 ∷ []) r d₃ last
     → deskOf (t .source) r d₃ last
     ≡ emitAll (deskOf (t .source) at d out) (element 12 (style t k ∷ escaped (b "align") (alignWord (cellAlign (markerName t k))) ∷ []) (inside t depth asInline k false))
-unfolding mannerBy
-cell-full t k depth at a z r d d₁ d₂ d₃ out mid now last ea ez er = cell-around t k (deskOf (t .source) at d out) (inside t depth asInline k false) ea ez (er (t .source))
+unfolding mannerBy strokesOf
+cell-full t k depth at a z r d d₁ d₂ d₃ out mid now last ea ez er =
+    cell-around t k (deskOf (t .source) at d out) (inside t depth asInline k false) ea ez (drew-item d₂ d₃ (close 12) er (t .source))
 
 module _ (t : Tape) (k depth level at a r : ℕ) (d d₁ d₂ : List ℕ) (out mid last : Bytes)
     (ea : (source : Bytes) → deskOf source a d₁ mid ≡ emit (deskOf source at d out) (item (line level))) {x : Bool} (ex : x ≡ hasContent t k) where

@@ -22,9 +22,10 @@ use crate::is_cell;
 use crate::open_cell;
 use crate::open_row;
 use crate::open_table;
+use desk::Element;
 use desk::Numbers;
+use desk::close_tag;
 use desk::line;
-use desk::literal;
 use lists::Member;
 use lists::Span;
 use lists::member_of;
@@ -32,6 +33,7 @@ use tape::Cursor;
 use tape::Sections;
 use tape::Step;
 
+// A cell with what stands in it.
 fn full_cell(
     file: &[u8],
     tape: Sections,
@@ -47,7 +49,7 @@ fn full_cell(
 {
     let a = open_cell(file, tape, c, at, desk, out);
     let z = inline::inside(file, tape, solids, c, depth, false, false, a, desk, out);
-    literal(z, desk, out, b"</cell>")
+    close_tag(z, desk, out, Element::Cell)
 }
 
 // A cell on its line.

@@ -1,31 +1,35 @@
 // Tables of rows of cells.
 ghost use mathlib.Core.Path.{_≡_};
-ghost use mathlib.Core.List.{[], _∷_, _++_};
+ghost use mathlib.Core.List.{[], _∷_};
 ghost use Rattle.parts.specs.Bytes.{Bytes, b};
-ghost use Rattle.window.specs.Page.{pageOf, paint};
 ghost use Rattle.tape.specs.File.{tapeIn};
 ghost use Rattle.tape.specs.Name.{markerName};
 ghost use Rattle.render.specs.Note.{cellAlign, alignWord};
 ghost use Rattle.tags.specs.Items.{start, empty};
-ghost use Rattle.events.specs.Event.{item, escaped};
+ghost use Rattle.events.specs.Event.{item, rawly, escaped};
 ghost use Rattle.events.specs.Walk.{isKnown, isCell, style};
 ghost use Rattle.events.specs.Emit.{emit, emitAll};
 ghost use Rattle.desk.specs.Desk.{deskOf};
+ghost use Rattle.desk.specs.Stroke.{opens, strokesOfAttr, strokesOfAttrs, Drew};
 ghost use Rattle.tables.specs.Rows.{depthAt, rowOpens, rowCloses, tableOpens, tableCloses};
 
 mod full;
 
+use desk::Element;
 use desk::Numbers;
+use desk::attr;
+use desk::close_tag;
+use desk::end_tag;
 use desk::line;
-use desk::literal;
+use desk::open_styled;
+use desk::open_tag;
+use desk::shut_tag;
 pub use full::table;
 use render::Align;
 use tape::Cursor;
 use tape::Info;
 use tape::Kind;
 use tape::Sections;
-use window::Window;
-use window::put_run;
 
 // The level at which no container may be entered any more: 64 may be entered in each other, and the blocks of Root stand at level 1.
 const DEEPEST: u8 = 65;
@@ -61,25 +65,26 @@ fn is_cell(file: &[u8], tape: Sections, c: Cursor) -> bool
     false
 }
 
-fn put_align(w: Window, out: &mut [u8], align: Align) -> Window
-    ensures { λ r. ⌜ pageOf r (now (out .exit)) ≡ paint (pageOf w (now (out .entry))) (b "\" align=\"" ++ (alignWord align ++ b "\"")) ⌝ }
+// The alignment of a cell.
+fn put_align(at: usize, desk: &mut Numbers, out: &mut [u8], align: Align) -> usize
+    ensures { λ r. ⌜ Drew at (now (desk .entry)) (now (out .entry)) (strokesOfAttr (escaped (b "align") (alignWord align))) r (now (desk .exit)) (now (out .exit)) ⌝ }
 {
     match align {
-        Align::Start => put_run(w, out, b"\" align=\"start\""),
-        Align::Center => put_run(w, out, b"\" align=\"center\""),
-        Align::End => put_run(w, out, b"\" align=\"end\""),
+        Align::Start => attr(at, desk, out, b"align", b"start", false),
+        Align::Center => attr(at, desk, out, b"align", b"center", false),
+        Align::End => attr(at, desk, out, b"align", b"end", false),
     }
 }
 
 // A cell's tag up to its end: style and alignment.
-fn put_cell(w: Window, out: &mut [u8], name: &[u8]) -> Window
-    ensures { λ r. ⌜ pageOf r (now (out .exit)) ≡ paint (pageOf w (now (out .entry))) (b "<cell style=\"" ++ (now (name .entry) ++ (b "\" align=\"" ++ (alignWord (cellAlign (now (name .entry))) ++ b "\"")))) ⌝ }
+fn put_cell(at: usize, desk: &mut Numbers, out: &mut [u8], name: &[u8]) -> usize
+    ensures { λ r. ⌜ Drew at (now (desk .entry)) (now (out .entry)) (opens 12 ∷ strokesOfAttrs (rawly (b "style") (now (name .entry)) ∷ escaped (b "align") (alignWord (cellAlign (now (name .entry)))) ∷ [])) r (now (desk .exit)) (now (out .exit)) ⌝ }
 {
-    let a = put_run(w, out, b"<cell style=\"");
-    let d = put_run(a, out, name);
-    put_align(d, out, render::cell_align(name))
+    let a = open_styled(at, desk, out, Element::Cell, name);
+    put_align(a, desk, out, render::cell_align(name))
 }
 
+// A cell's tag, where something stands in it.
 fn open_cell(
     file: &[u8],
     tape: Sections,
@@ -90,11 +95,11 @@ fn open_cell(
 ) -> usize
     ensures { λ r. ⌜ deskOf (tapeIn tape (now (file .entry)) .source) r (now (desk .exit)) (now (out .exit)) ≡ emit (deskOf (tapeIn tape (now (file .entry)) .source) at (now (desk .entry)) (now (out .entry))) (item (start 12 (style (tapeIn tape (now (file .entry))) (c .at) ∷ escaped (b "align") (alignWord (cellAlign (markerName (tapeIn tape (now (file .entry))) (c .at)))) ∷ []))) ⌝ }
 {
-    let a = put_cell(Window { at, from: desk[0] }, out, c.marker_name(file, tape));
-    let z = put_run(a, out, b">");
-    z.at
+    let a = put_cell(at, desk, out, c.marker_name(file, tape));
+    end_tag(a, desk, out)
 }
 
+// A cell with nothing in it.
 fn empty_cell(
     file: &[u8],
     tape: Sections,
@@ -105,35 +110,40 @@ fn empty_cell(
 ) -> usize
     ensures { λ r. ⌜ deskOf (tapeIn tape (now (file .entry)) .source) r (now (desk .exit)) (now (out .exit)) ≡ emit (deskOf (tapeIn tape (now (file .entry)) .source) at (now (desk .entry)) (now (out .entry))) (item (empty 12 (style (tapeIn tape (now (file .entry))) (c .at) ∷ escaped (b "align") (alignWord (cellAlign (markerName (tapeIn tape (now (file .entry))) (c .at)))) ∷ []))) ⌝ }
 {
-    let a = put_cell(Window { at, from: desk[0] }, out, c.marker_name(file, tape));
-    let z = put_run(a, out, b" />");
-    z.at
+    let a = put_cell(at, desk, out, c.marker_name(file, tape));
+    shut_tag(a, desk, out)
 }
 
+// The start of a row on its line.
 fn open_row(level: usize, at: usize, desk: &mut Numbers, out: &mut [u8]) -> usize
     ensures { λ r. ⌜ ((source : Bytes) → deskOf source r (now (desk .exit)) (now (out .exit)) ≡ emitAll (deskOf source at (now (desk .entry)) (now (out .entry))) (rowOpens level)) ⌝ }
 {
     let a = line(at, desk, out, level);
-    literal(a, desk, out, b"<row style=\"tr\">")
+    let z = open_styled(a, desk, out, Element::Row, b"tr");
+    end_tag(z, desk, out)
 }
 
+// The end of a row on its line.
 fn close_row(level: usize, at: usize, desk: &mut Numbers, out: &mut [u8]) -> usize
     ensures { λ r. ⌜ ((source : Bytes) → deskOf source r (now (desk .exit)) (now (out .exit)) ≡ emitAll (deskOf source at (now (desk .entry)) (now (out .entry))) (rowCloses level)) ⌝ }
 {
     let a = line(at, desk, out, level);
-    literal(a, desk, out, b"</row>")
+    close_tag(a, desk, out, Element::Row)
 }
 
+// The start of a table on its line.
 fn open_table(level: usize, at: usize, desk: &mut Numbers, out: &mut [u8]) -> usize
     ensures { λ r. ⌜ ((source : Bytes) → deskOf source r (now (desk .exit)) (now (out .exit)) ≡ emitAll (deskOf source at (now (desk .entry)) (now (out .entry))) (tableOpens level)) ⌝ }
 {
     let a = line(at, desk, out, level);
-    literal(a, desk, out, b"<table>")
+    let z = open_tag(a, desk, out, Element::Table);
+    end_tag(z, desk, out)
 }
 
+// The end of a table on its line.
 fn close_table(level: usize, at: usize, desk: &mut Numbers, out: &mut [u8]) -> usize
     ensures { λ r. ⌜ ((source : Bytes) → deskOf source r (now (desk .exit)) (now (out .exit)) ≡ emitAll (deskOf source at (now (desk .entry)) (now (out .entry))) (tableCloses level)) ⌝ }
 {
     let a = line(at, desk, out, level);
-    literal(a, desk, out, b"</table>")
+    close_tag(a, desk, out, Element::Table)
 }

@@ -8,8 +8,9 @@ ghost use Rattle.desk.specs.Desk.{deskOf};
 ghost use Rattle.roles.specs.Roles.{roleIn};
 ghost use Rattle.tagging.specs.Marker.{markerCloses};
 use attrs::Sought;
+use desk::Element;
 use desk::Numbers;
-use desk::literal;
+use desk::close_tag;
 use roles::Role;
 use roles::link_of;
 use tape::Cursor;
@@ -29,8 +30,11 @@ fn close_char(
     ensures { λ r. ⌜ deskOf (tapeIn tape (now (file .entry)) .source) r (now (desk .exit)) (now (out .exit)) ≡ emitAll (deskOf (tapeIn tape (now (file .entry)) .source) at (now (desk .entry)) (now (out .entry))) (markerCloses (tapeIn tape (now (file .entry))) (c .at) char) ⌝ }
 {
     match link_of(file, tape, solids, c) {
-        Sought::Nowhere => literal(at, desk, out, b"</char>"),
-        Sought::At(_) => literal(at, desk, out, b"</ref></char>"),
+        Sought::Nowhere => desk::close_char(at, desk, out),
+        Sought::At(_) => {
+            let a = close_tag(at, desk, out, Element::Ref);
+            desk::close_char(a, desk, out)
+        }
     }
 }
 
@@ -49,15 +53,15 @@ pub fn close_marker(
     ensures { λ r. ⌜ deskOf (tapeIn tape (now (file .entry)) .source) r (now (desk .exit)) (now (out .exit)) ≡ emitAll (deskOf (tapeIn tape (now (file .entry)) .source) at (now (desk .entry)) (now (out .entry))) (markerCloses (tapeIn tape (now (file .entry))) (c .at) (roleIn role)) ⌝ }
 {
     match role {
-        Role::UnknownBlock => literal(at, desk, out, b"</para>"),
-        Role::UnknownInline => literal(at, desk, out, b"</char>"),
+        Role::UnknownBlock => desk::close_para(at, desk, out),
+        Role::UnknownInline => desk::close_char(at, desk, out),
         Role::Unwritten => at,
-        Role::Figure => literal(at, desk, out, b"</figure>"),
-        Role::Ref => literal(at, desk, out, b"</ref>"),
+        Role::Figure => close_tag(at, desk, out, Element::Figure),
+        Role::Ref => close_tag(at, desk, out, Element::Ref),
         Role::Id => at,
-        Role::Note => literal(at, desk, out, b"</note>"),
+        Role::Note => close_tag(at, desk, out, Element::Note),
         Role::Ms => at,
         Role::Char => close_char(file, tape, solids, c, at, desk, out),
-        Role::Para => literal(at, desk, out, b"</para>"),
+        Role::Para => desk::close_para(at, desk, out),
     }
 }

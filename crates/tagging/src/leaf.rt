@@ -2,20 +2,25 @@
 ghost use mathlib.Core.Path.{_≡_};
 ghost use mathlib.Core.List.{[], _∷_, _++_};
 ghost use Rattle.parts.specs.Bytes.{b};
-ghost use Rattle.window.specs.Page.{pageOf, paint};
 ghost use Rattle.tape.specs.File.{tapeIn};
+ghost use Rattle.tape.specs.Name.{markerName};
 ghost use Rattle.attrs.specs.Attr.{attributesOf};
 ghost use Rattle.figure.specs.Figure.{legacyPairs, captionOf};
-ghost use Rattle.tags.specs.Items.{start, empty, close, text, bytesOf as itemBytes, render as renderItems};
-ghost use Rattle.events.specs.Event.{rawly, collected};
-ghost use Rattle.events.specs.Walk.{styled, figure};
+ghost use Rattle.tags.specs.Items.{start, empty, close, text};
+ghost use Rattle.events.specs.Event.{collected};
+ghost use Rattle.events.specs.Walk.{style, styled, figure};
 ghost use Rattle.events.specs.Emit.{emitAll};
 ghost use Rattle.desk.specs.Desk.{deskOf};
+ghost use Rattle.desk.specs.Stroke.{strokesOf, strokesOfAll, Drew};
 ghost use Rattle.roles.specs.Roles.{roleIn};
 ghost use Rattle.tagging.specs.Marker.{leafOf};
-use crate::open::named;
-use crate::open::put_style;
+use crate::open::open_named;
+use desk::Element;
 use desk::Numbers;
+use desk::close_tag;
+use desk::end_tag;
+use desk::open_styled;
+use desk::shut_tag;
 use roles::Role;
 use tape::Cursor;
 use tape::Sections;
@@ -24,47 +29,88 @@ use values::put_collected;
 use values::put_legacy;
 use window::Window;
 use window::escape_xml;
-use window::put_run;
 
 // A milestone with its attributes.
-fn put_ms(w: Window, out: &mut [u8], file: &[u8], tape: Sections, c: Cursor, name: &[u8]) -> Window
-    ensures { λ r. ⌜ pageOf r (now (out .exit)) ≡ paint (pageOf w (now (out .entry))) (itemBytes (empty 8 (rawly (b "style") (now (name .entry)) ∷ collected (attributesOf (tapeIn tape (now (file .entry))) (c .at) (now (name .entry)))))) ⌝ }
+fn put_ms(
+    at: usize,
+    desk: &mut Numbers,
+    out: &mut [u8],
+    file: &[u8],
+    tape: Sections,
+    c: Cursor,
+) -> usize
+    ensures { λ r. ⌜ Drew at (now (desk .entry)) (now (out .entry)) (strokesOf (empty 8 (style (tapeIn tape (now (file .entry))) (c .at) ∷ collected (attributesOf (tapeIn tape (now (file .entry))) (c .at) (markerName (tapeIn tape (now (file .entry))) (c .at)))))) r (now (desk .exit)) (now (out .exit)) ⌝ }
 {
-    let a = put_style(w, out, b"<ms style=\"", name);
-    let d = put_collected(a, out, file, tape, c, name);
-    put_run(d, out, b" />")
+    let a = open_named(at, desk, out, file, tape, c, Element::Ms);
+    let d = put_collected(a, desk, out, file, tape, c, c.marker_name(file, tape));
+    shut_tag(d, desk, out)
+}
+
+// A paragraph with no child.
+fn put_empty(
+    at: usize,
+    desk: &mut Numbers,
+    out: &mut [u8],
+    file: &[u8],
+    tape: Sections,
+    c: Cursor,
+) -> usize
+    ensures { λ r. ⌜ Drew at (now (desk .entry)) (now (out .entry)) (strokesOf (empty 5 (style (tapeIn tape (now (file .entry))) (c .at) ∷ []))) r (now (desk .exit)) (now (out .exit)) ⌝ }
+{
+    let a = open_named(at, desk, out, file, tape, c, Element::Para);
+    shut_tag(a, desk, out)
 }
 
 // A figure of old: its fields as attributes.
 fn put_fields(
-    w: Window,
+    at: usize,
+    desk: &mut Numbers,
     out: &mut [u8],
     file: &[u8],
     tape: Sections,
     c: Cursor,
     a: Cursor,
-) -> Window
-    ensures { λ r. ⌜ pageOf r (now (out .exit)) ≡ paint (pageOf w (now (out .entry))) (itemBytes (start 9 (styled (b "fig") ++ collected (legacyPairs (tapeIn tape (now (file .entry))) (c .at) (a .at))))) ⌝ }
+) -> usize
+    ensures { λ r. ⌜ Drew at (now (desk .entry)) (now (out .entry)) (strokesOf (start 9 (styled (b "fig") ++ collected (legacyPairs (tapeIn tape (now (file .entry))) (c .at) (a .at))))) r (now (desk .exit)) (now (out .exit)) ⌝ }
 {
-    let d = put_run(w, out, b"<figure style=\"fig\"");
-    let e = put_legacy(d, out, file, tape, c, a);
-    put_run(e, out, b">")
+    let d = open_styled(at, desk, out, Element::Figure, b"fig");
+    let e = put_legacy(d, desk, out, file, tape, c, a);
+    end_tag(e, desk, out)
 }
 
 // Its caption and its end.
-fn put_caption(w: Window, out: &mut [u8], file: &[u8], tape: Sections, a: Cursor) -> Window
-    ensures { λ r. ⌜ pageOf r (now (out .exit)) ≡ paint (pageOf w (now (out .entry))) (renderItems (text (captionOf (tapeIn tape (now (file .entry))) (a .at)) ∷ close 9 ∷ [])) ⌝ }
+fn put_caption(
+    at: usize,
+    desk: &mut Numbers,
+    out: &mut [u8],
+    file: &[u8],
+    tape: Sections,
+    a: Cursor,
+) -> usize
+    ensures { λ r. ⌜ Drew at (now (desk .entry)) (now (out .entry)) (strokesOfAll (text (captionOf (tapeIn tape (now (file .entry))) (a .at)) ∷ close 9 ∷ [])) r (now (desk .exit)) (now (out .exit)) ⌝ }
 {
-    let d = escape_xml(w, out, figure::field(file, tape, a, 4));
-    put_run(d, out, b"</figure>")
+    let w = escape_xml(
+        Window { at, from: desk[0] },
+        out,
+        figure::field(file, tape, a, 4),
+    );
+    close_tag(w.at, desk, out, Element::Figure)
 }
 
 // A figure of old, whole.
-fn put_old(w: Window, out: &mut [u8], file: &[u8], tape: Sections, c: Cursor, a: Cursor) -> Window
-    ensures { λ r. ⌜ pageOf r (now (out .exit)) ≡ paint (pageOf w (now (out .entry))) (renderItems (start 9 (styled (b "fig") ++ collected (legacyPairs (tapeIn tape (now (file .entry))) (c .at) (a .at))) ∷ text (captionOf (tapeIn tape (now (file .entry))) (a .at)) ∷ close 9 ∷ [])) ⌝ }
+fn put_old(
+    at: usize,
+    desk: &mut Numbers,
+    out: &mut [u8],
+    file: &[u8],
+    tape: Sections,
+    c: Cursor,
+    a: Cursor,
+) -> usize
+    ensures { λ r. ⌜ Drew at (now (desk .entry)) (now (out .entry)) (strokesOfAll (start 9 (styled (b "fig") ++ collected (legacyPairs (tapeIn tape (now (file .entry))) (c .at) (a .at))) ∷ text (captionOf (tapeIn tape (now (file .entry))) (a .at)) ∷ close 9 ∷ [])) r (now (desk .exit)) (now (out .exit)) ⌝ }
 {
-    let d = put_fields(w, out, file, tape, c, a);
-    put_caption(d, out, file, tape, a)
+    let d = put_fields(at, desk, out, file, tape, c, a);
+    put_caption(d, desk, out, file, tape, a)
 }
 
 // A figure, if it is one of old.
@@ -80,10 +126,7 @@ fn old_figure(
 {
     match figure::legacy(file, tape, c) {
         Step::Done => at,
-        Step::At(a) => {
-            let w = put_old(Window { at, from: desk[0] }, out, file, tape, c, a);
-            w.at
-        }
+        Step::At(a) => put_old(at, desk, out, file, tape, c, a),
     }
 }
 
@@ -107,18 +150,8 @@ pub fn write_leaf(
         Role::Ref => at,
         Role::Id => milestone::book(file, tape, c, at, desk, out),
         Role::Note => at,
-        Role::Ms => {
-            let w = put_ms(
-                Window { at, from: desk[0] },
-                out,
-                file,
-                tape,
-                c,
-                c.marker_name(file, tape),
-            );
-            w.at
-        }
+        Role::Ms => put_ms(at, desk, out, file, tape, c),
         Role::Char => at,
-        Role::Para => named(file, tape, c, b"<para style=\"", b"\" />", at, desk, out),
+        Role::Para => put_empty(at, desk, out, file, tape, c),
     }
 }

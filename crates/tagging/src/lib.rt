@@ -6,5 +6,4 @@ mod open;
 pub use close::close_marker;
 pub use leaf::write_leaf;
 pub use open::open_marker;
-pub use open::put_style;
 pub use open::put_unclosed;

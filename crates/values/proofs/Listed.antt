@@ -1,17 +1,14 @@
 -- Laws of attributes one after another: a walk over them, one that may be missing, a folded number, a figure of old.
 use mathlib.Core.Path.{_≡_, refl, sym, ap, _∙_}
-use mathlib.Core.Bool.{Bool, true}
-use mathlib.Core.List.{List, [], _∷_, _++_, append-assoc, append-nil}
+use mathlib.Core.Bool.{Bool, false}
+use mathlib.Core.List.{List, [], _∷_, _++_, append-assoc}
 use Prim.Native.Nat.{ℕ}
 use native.Mathlib.Omega.{arith}
 use lib.ListN.{length}
 use Rattle.parts.specs.Bytes.{Bytes, b, part}
-use Rattle.chars.specs.Escape.{escape}
 use Rattle.words.specs.Words.{trim}
 use Rattle.words.specs.declared.Set.the-variants.{Unicode}
 use Rattle.words.specs.declared.Part.{Part}
-use Rattle.window.specs.Page.{Page, paint}
-use Rattle.window.proofs.Paint.{paint-two}
 use Rattle.tape.specs.File.{Tape, textAt}
 use Rattle.tape.specs.Tree.{walkFrom}
 use Rattle.tape.specs.declared.Cursor.{Cursor}
@@ -35,135 +32,135 @@ use Rattle.fold.specs.declared.Number.{Number}
 use Rattle.fold.specs.declared.Piece.{Piece}
 use Rattle.fold.specs.declared.Piece.the-variants.{Some, Done as PieceDone}
 use Rattle.figure.specs.Figure.{fieldAt, describedBy, valued, legacyPairs}
-use Rattle.tags.specs.Items.{attrBytes, attrsBytes}
+use Rattle.tags.specs.Items.{Attr}
 use Rattle.events.specs.Event.{escaped, perhaps, collected}
+use Rattle.desk.specs.Stroke.{Stroke, piece, strokesOfAttr, strokesOfAttrs, Drew}
+use Rattle.desk.proofs.Strokes.{drew-two, attrs-append}
 use Rattle.values.specs.Parts.{aboutPairs, placePairs}
-use Rattle.values.proofs.Written.{escape-two}
+use Rattle.values.proofs.Written.{drew-none, drew-empty, Ahead, ahead-end, ahead-rest, ahead-turn, ahead-piece}
+
+-- the strokes of pairs
+abbrev pub strokesOfPairs : List Pair → List Stroke
+strokesOfPairs ps = strokesOfAttrs (collected ps)
 
 -- ---- one, and more behind it
 
-one-listed : (key value : Bytes) → attrBytes (escaped key value) ≡ attrsBytes (escaped key value ∷ [])
-unfolding attrsBytes
-one-listed key value = sym (append-nil (attrBytes (escaped key value)))
+one-listed : (a : Attr) → strokesOfAttrs (a ∷ []) ≡ strokesOfAttr a
+unfolding strokesOfAttrs strokesOfAttr
+one-listed a = refl
 
 -- the attributes of a list and of another behind it
-collected-append : (ps qs : List Pair) → attrsBytes (collected (ps ++ qs)) ≡ attrsBytes (collected ps) ++ attrsBytes (collected qs)
-unfolding attrsBytes collected
+collected-append : (ps qs : List Pair) → collected (ps ++ qs) ≡ collected ps ++ collected qs
+unfolding collected
 collected-append [] qs = refl
-collected-append (p ∷ ps) qs =
-    let first : Bytes = attrBytes (escaped (p .key) (p .value)) in
-    ap (λ (z : Bytes). first ++ z) (collected-append ps qs)
-    ∙ sym (append-assoc first (attrsBytes (collected ps)) (attrsBytes (collected qs)))
+collected-append (p ∷ ps) qs = ap (λ (z : List Attr). escaped (p .key) (p .value) ∷ z) (collected-append ps qs)
 
-pub pairs-two : (p : Page) {q r : Page} (ps qs : List Pair) → q ≡ paint p (attrsBytes (collected ps)) → r ≡ paint q (attrsBytes (collected qs))
-    → r ≡ paint p (attrsBytes (collected (ps ++ qs)))
-pairs-two p ps qs eq er = paint-two p (attrsBytes (collected ps)) (attrsBytes (collected qs)) eq er ∙ ap (paint p) (sym (collected-append ps qs))
+pub pairs-append : (ps qs : List Pair) → strokesOfPairs (ps ++ qs) ≡ strokesOfPairs ps ++ strokesOfPairs qs
+pairs-append ps qs = ap strokesOfAttrs (collected-append ps qs) ∙ attrs-append (collected ps) (collected qs)
+
+pairs-two : {at a r : ℕ} (d d₁ d₂ : List ℕ) {out o₁ last : Bytes} (ps qs : List Pair) → Drew at d out (strokesOfPairs ps) a d₁ o₁ → Drew a d₁ o₁ (strokesOfPairs qs) r d₂ last
+    → Drew at d out (strokesOfPairs (ps ++ qs)) r d₂ last
+pairs-two d d₁ d₂ ps qs e f = rw (pairs-append ps qs) (drew-two d d₁ d₂ e f)
 
 -- ---- the walk over the attributes of a node
 
-module _ (t : Tape) (m : Bytes) (a : Attrs) {n : Next} (en : remaining t m a ≡ nextList t m n) where
-  pub collected-end : n ≡ NextDone → (from : Step) (p z : Page)
-      → paint p (attrsBytes (collected (remaining t m a))) ≡ paint z (attrsBytes (collected (remaining t m (record { rest = record { start = 0; len = 0 }; next = from }))))
-      → p ≡ paint z (attrsBytes (collected (pairsAlong t m (walkFrom t from))))
-  unfolding attrsBytes collected paint remaining
-  collected-end e from p z inv = sym (ap (λ (ps : List Pair). paint p (attrsBytes (collected ps))) (next-end t m a en e)) ∙ inv ∙ rw pairs-nil
+module _ (t : Tape) (m : Bytes) (a : Attrs) {n : Next} (en : remaining t m a ≡ nextList t m n) {at₀ at : ℕ} (d₀ d : List ℕ) {out₀ out : Bytes} where
+  pub collected-end : n ≡ NextDone → (from : Step)
+      → Ahead at₀ d₀ out₀ (strokesOfPairs (remaining t m (record { rest = record { start = 0; len = 0 }; next = from }))) at d out (strokesOfPairs (remaining t m a))
+      → Drew at₀ d₀ out₀ (strokesOfPairs (pairsAlong t m (walkFrom t from))) at d out
+  unfolding strokesOfAttrs collected remaining
+  collected-end e from inv = rw pairs-nil at (ahead-end d₀ d inv (ap strokesOfPairs (next-end t m a en e)))
 
-  pub collected-turn : {k : Key} {v : Value} {left : Attrs} → n ≡ NextPair k v left → {s : Bytes} → s ≡ t .source → (p : Page) {q z : Page}
-      → q ≡ paint p (attrBytes (escaped (keyOf s fixedKeys k) (valueOf s v))) → paint p (attrsBytes (collected (remaining t m a))) ≡ z
-      → paint q (attrsBytes (collected (remaining t m left))) ≡ z
-  unfolding attrsBytes collected
-  collected-turn {k} {v} {left} e es p eq inv =
-      paint-two p (attrBytes (escaped (keyOf (t .source) fixedKeys k) (valueOf (t .source) v))) (attrsBytes (collected (remaining t m left))) (rw es at eq) refl
-      ∙ sym (ap (λ (ps : List Pair). paint p (attrsBytes (collected ps))) (next-listed t m a en e))
-      ∙ inv
+  pub collected-turn : {k : Key} {v : Value} {left : Attrs} → n ≡ NextPair k v left → {s : Bytes} → s ≡ t .source → {r : ℕ} (d₁ : List ℕ) {o₁ : Bytes} {all : List Stroke}
+      → Drew at d out (strokesOfAttr (escaped (keyOf s fixedKeys k) (valueOf s v))) r d₁ o₁ → Ahead at₀ d₀ out₀ all at d out (strokesOfPairs (remaining t m a))
+      → Ahead at₀ d₀ out₀ all r d₁ o₁ (strokesOfPairs (remaining t m left))
+  unfolding strokesOfAttrs collected
+  collected-turn e es d₁ f inv = ahead-turn d₀ d inv d₁ (ap strokesOfPairs (next-listed t m a en e)) (rw es at f)
 
 -- ---- a value that may be missing
 
-module _ (key : Bytes) (p : Page) where
-  pub sought-missing : (source : Bytes) {v : Sought} → v ≡ Nowhere → p ≡ paint p (attrsBytes (perhaps key (soughtOf source v)))
-  unfolding soughtOf perhaps attrsBytes paint
-  sought-missing source e = rw e
+module _ (key : Bytes) {at : ℕ} (d : List ℕ) {out : Bytes} where
+  pub sought-missing : (source : Bytes) {v : Sought} → v ≡ Nowhere → Drew at d out (strokesOfAttrs (perhaps key (soughtOf source v))) at d out
+  unfolding soughtOf perhaps strokesOfAttrs
+  sought-missing source e = rw e (drew-none d)
 
-  pub sought-written : (source : Bytes) {v : Sought} {x : Value} → v ≡ Found x → {s : Bytes} → s ≡ source → {q : Page}
-      → q ≡ paint p (attrBytes (escaped key (valueOf s x))) → q ≡ paint p (attrsBytes (perhaps key (soughtOf source v)))
+  pub sought-written : (source : Bytes) {v : Sought} {x : Value} → v ≡ Found x → {s : Bytes} → s ≡ source → {r : ℕ} (last-d : List ℕ) {last : Bytes}
+      → Drew at d out (strokesOfAttr (escaped key (valueOf s x))) r last-d last → Drew at d out (strokesOfAttrs (perhaps key (soughtOf source v))) r last-d last
   unfolding soughtOf perhaps
-  sought-written source {v} {x} e es eq = rw e ((rw es at eq) ∙ ap (paint p) (one-listed key (valueOf source x)))
+  sought-written source e es last-d f = rw (e, one-listed, ← es) f
 
-  pub number-missing : (t : Tape) {s : Step} → s ≡ Done → p ≡ paint p (attrsBytes (perhaps key (foldedNumber t s)))
-  unfolding foldedNumber perhaps attrsBytes paint
-  number-missing t e = rw e
+  pub number-missing : (t : Tape) {s : Step} → s ≡ Done → Drew at d out (strokesOfAttrs (perhaps key (foldedNumber t s))) at d out
+  unfolding foldedNumber perhaps strokesOfAttrs
+  number-missing t e = rw e (drew-none d)
 
-  pub number-written : (t : Tape) {s : Step} {c : Cursor} → s ≡ At c → {q : Page} → q ≡ paint p (attrBytes (escaped key (numberIn t (c .at))))
-      → q ≡ paint p (attrsBytes (perhaps key (foldedNumber t s)))
+  pub number-written : (t : Tape) {s : Step} {c : Cursor} → s ≡ At c → {r : ℕ} (last-d : List ℕ) {last : Bytes} → Drew at d out (strokesOfAttr (escaped key (numberIn t (c .at)))) r last-d last
+      → Drew at d out (strokesOfAttrs (perhaps key (foldedNumber t s))) r last-d last
   unfolding foldedNumber perhaps
-  number-written t {s} {c} e eq = rw e (eq ∙ ap (paint p) (one-listed key (numberIn t (c .at))))
+  number-written t e last-d f = rw (e, one-listed) f
 
-  pub category-missing : (t : Tape) (k : ℕ) {s : Step} → s ≡ categoryText t k → s ≡ Done → p ≡ paint p (attrsBytes (perhaps key (writtenCategory t k)))
-  unfolding writtenCategory trimmedAt perhaps attrsBytes paint
-  category-missing t k es e = rw (sym es ∙ e)
+  module _ (t : Tape) (k : ℕ) {s : Step} (es : s ≡ categoryText t k) where
+    pub category-missing : s ≡ Done → Drew at d out (strokesOfAttrs (perhaps key (writtenCategory t k))) at d out
+    unfolding writtenCategory trimmedAt perhaps strokesOfAttrs
+    category-missing e = rw (sym es ∙ e) (drew-none d)
 
-  pub category-written : (t : Tape) (k : ℕ) {s : Step} → s ≡ categoryText t k → {c : Cursor} → s ≡ At c → {x : Bytes} → x ≡ trim Unicode (textAt t (c .at))
-      → {q : Page} → q ≡ paint p (attrBytes (escaped key x)) → q ≡ paint p (attrsBytes (perhaps key (writtenCategory t k)))
-  unfolding writtenCategory trimmedAt perhaps
-  category-written t k es e {x} ex eq = rw (sym es ∙ e, ← ex) (eq ∙ ap (paint p) (one-listed key x))
+    pub category-written : {c : Cursor} → s ≡ At c → {x : Bytes} → x ≡ trim Unicode (textAt t (c .at)) → {r : ℕ} (last-d : List ℕ) {last : Bytes}
+        → Drew at d out (strokesOfAttr (escaped key x)) r last-d last
+        → Drew at d out (strokesOfAttrs (perhaps key (writtenCategory t k))) r last-d last
+    unfolding writtenCategory trimmedAt perhaps
+    category-written e ex last-d f = rw (sym es ∙ e, one-listed, ← ex) f
 
 -- ---- the pieces of a number
 
-module _ (t : Tape) (n : Number) {r : Piece} (er : toCome t n ≡ pieceList t r) where
-  pub number-end : r ≡ PieceDone → (k : ℕ) (n₀ : Number) → toCome t n₀ ≡ numberIn t k → (p z : Page)
-      → paint p (escape true (toCome t n)) ≡ paint z (escape true (toCome t n₀)) → p ≡ paint z (escape true (numberIn t k))
-  unfolding pieceList escape paint
-  number-end e k n₀ all p z inv =
-      sym (ap (λ (s : Bytes). paint p (escape true s)) (er ∙ ap (pieceList t) e)) ∙ inv ∙ ap (λ (s : Bytes). paint z (escape true s)) all
-
-  pub number-turn : {w : Part} {x : Bool} {left : Number} → r ≡ Some w x left → {s y : Bytes} → s ≡ t .source → y ≡ part s (w .start) (w .len) → (p : Page)
-      {q z : Page} → q ≡ paint p (escape true (gapSpace x ++ y)) → paint p (escape true (toCome t n)) ≡ z → paint q (escape true (toCome t left)) ≡ z
+module _ (t : Tape) (n : Number) {p : Piece} (ep : toCome t n ≡ pieceList t p) {at₀ at : ℕ} (d₀ d : List ℕ) {out₀ out : Bytes} where
+  pub number-end : p ≡ PieceDone → (k : ℕ) (n₀ : Number) → toCome t n₀ ≡ numberIn t k
+      → Ahead at₀ d₀ out₀ (piece false (toCome t n₀) ∷ []) at d out (piece false (toCome t n) ∷ []) → Drew at₀ d₀ out₀ (piece false (numberIn t k) ∷ []) at d out
   unfolding pieceList
-  number-turn {w} {x} {left} e {s} {y} es ey p eq inv =
+  number-end e k n₀ all inv = rw (← all) (ahead-rest d₀ d inv d (rw (ep ∙ ap (pieceList t) e) (drew-empty d)))
+
+  pub number-turn : {w : Part} {x : Bool} {left : Number} → p ≡ Some w x left → {s y : Bytes} → s ≡ t .source → y ≡ part s (w .start) (w .len) → {r : ℕ} (d₁ : List ℕ) {o₁ : Bytes} {all : List Stroke}
+      → Drew at d out (piece false (gapSpace x ++ y) ∷ []) r d₁ o₁ → Ahead at₀ d₀ out₀ all at d out (piece false (toCome t n) ∷ []) → Ahead at₀ d₀ out₀ all r d₁ o₁ (piece false (toCome t left) ∷ [])
+  unfolding pieceList
+  number-turn {w} {x} {left} e {s} {y} es ey d₁ f inv =
       let here : y ≡ part (t .source) (w .start) (w .len) = ey ∙ ap (λ (z : Bytes). part z (w .start) (w .len)) es in
-      let whole : toCome t n ≡ (gapSpace x ++ y) ++ toCome t left =
-      er ∙ ap (pieceList t) e ∙ rw (← here) (sym (append-assoc (gapSpace x) y (toCome t left))) in
-      escape-two p (gapSpace x ++ y) (toCome t left) eq refl ∙ ap (λ (z : Bytes). paint p (escape true z)) (sym whole) ∙ inv
+      ahead-piece d₀ d d₁ inv (gapSpace x ++ y) (toCome t left)
+      (ep ∙ ap (pieceList t) e ∙ rw (← here) (sym (append-assoc (gapSpace x) y (toCome t left)))) f
 
 -- ---- figures of old
 
-pub valued-none : (key value : Bytes) → length value ≡ 0 → (p : Page) → p ≡ paint p (attrsBytes (collected (valued key value)))
-unfolding valued collected attrsBytes paint
-valued-none key [] h p = refl
-valued-none key (x ∷ value) h p = absurd (omega arith)
+module _ {at : ℕ} (d : List ℕ) {out : Bytes} where
+  pub valued-none : (key value : Bytes) → length value ≡ 0 → Drew at d out (strokesOfPairs (valued key value)) at d out
+  unfolding valued collected strokesOfAttrs
+  valued-none key [] h = drew-none d
+  valued-none key (x ∷ value) h = absurd (omega arith)
 
-pub valued-some : (key value : Bytes) → (length value ≡ 0 → ⊥) → (p : Page) {q : Page} → q ≡ paint p (attrBytes (escaped key value))
-    → q ≡ paint p (attrsBytes (collected (valued key value)))
-unfolding valued collected
-valued-some key [] h p eq = absurd (h refl)
-valued-some key (x ∷ value) h p eq = eq ∙ ap (paint p) (one-listed key (x ∷ value))
+  pub valued-some : (key value : Bytes) → (length value ≡ 0 → ⊥) → {r : ℕ} (last-d : List ℕ) {last : Bytes} → Drew at d out (strokesOfAttr (escaped key value)) r last-d last
+      → Drew at d out (strokesOfPairs (valued key value)) r last-d last
+  unfolding valued collected
+  valued-some key [] h last-d e = absurd (h refl)
+  valued-some key (x ∷ value) h last-d e = rw one-listed e
 
-module _ (t : Tape) (a : ℕ) where
-  pub field-written : (key : Bytes) (n : ℕ) {x : Bytes} → x ≡ fieldAt t a n → (p : Page) {q : Page} → q ≡ paint p (attrsBytes (collected (valued key x)))
-      → q ≡ paint p (attrsBytes (collected (valued key (fieldAt t a n))))
-  field-written key n ex p eq = eq ∙ rw ex
+legacy-two : (t : Tape) (k a : ℕ) → aboutPairs t k a ++ placePairs t a ≡ legacyPairs t k a
+unfolding aboutPairs placePairs legacyPairs
+legacy-two t k a = simp append-assoc
 
-  pub about-written : (k : ℕ) {x : Bytes} → x ≡ describedBy t k → (p q r : Page) {z : Page} → q ≡ paint p (attrsBytes (collected (valued (b "alt") x)))
-      → r ≡ paint q (attrsBytes (collected (valued (b "file") (fieldAt t a 0)))) → z ≡ paint r (attrsBytes (collected (valued (b "size") (fieldAt t a 1))))
-      → z ≡ paint p (attrsBytes (collected (aboutPairs t k a)))
-  unfolding aboutPairs
-  about-written k ex p q r eq er ez =
-      pairs-two p (valued (b "alt") (describedBy t k)) (valued (b "file") (fieldAt t a 0) ++ valued (b "size") (fieldAt t a 1)) (rw ex at eq)
-      (pairs-two q (valued (b "file") (fieldAt t a 0)) (valued (b "size") (fieldAt t a 1)) er ez)
+module _ (t : Tape) (a : ℕ) {at r : ℕ} (d last-d : List ℕ) {out last : Bytes} where
+  pub field-written : (key : Bytes) (n : ℕ) {x : Bytes} → x ≡ fieldAt t a n → Drew at d out (strokesOfPairs (valued key x)) r last-d last
+      → Drew at d out (strokesOfPairs (valued key (fieldAt t a n))) r last-d last
+  field-written key n ex e = rw ex at e
 
-  pub place-written : (p q r : Page) {z : Page} → q ≡ paint p (attrsBytes (collected (valued (b "loc") (fieldAt t a 2))))
-      → r ≡ paint q (attrsBytes (collected (valued (b "copy") (fieldAt t a 3)))) → z ≡ paint r (attrsBytes (collected (valued (b "ref") (fieldAt t a 5))))
-      → z ≡ paint p (attrsBytes (collected (placePairs t a)))
-  unfolding placePairs
-  place-written p q r eq er ez =
-      pairs-two p (valued (b "loc") (fieldAt t a 2)) (valued (b "copy") (fieldAt t a 3) ++ valued (b "ref") (fieldAt t a 5)) eq
-      (pairs-two q (valued (b "copy") (fieldAt t a 3)) (valued (b "ref") (fieldAt t a 5)) er ez)
+  module _ {u v : ℕ} (d₁ d₂ : List ℕ) {o₁ o₂ : Bytes} where
+    pub about-written : (k : ℕ) {x : Bytes} → x ≡ describedBy t k → Drew at d out (strokesOfPairs (valued (b "alt") x)) u d₁ o₁
+        → Drew u d₁ o₁ (strokesOfPairs (valued (b "file") (fieldAt t a 0))) v d₂ o₂ → Drew v d₂ o₂ (strokesOfPairs (valued (b "size") (fieldAt t a 1))) r last-d last
+        → Drew at d out (strokesOfPairs (aboutPairs t k a)) r last-d last
+    unfolding aboutPairs
+    about-written k ex e₁ e₂ e₃ = pairs-two d d₁ last-d _ _ (rw ex at e₁) (pairs-two d₁ d₂ last-d _ _ e₂ e₃)
 
-  legacy-two : (k : ℕ) → aboutPairs t k a ++ placePairs t a ≡ legacyPairs t k a
-  unfolding aboutPairs placePairs legacyPairs
-  legacy-two k = simp append-assoc
+    pub place-written : Drew at d out (strokesOfPairs (valued (b "loc") (fieldAt t a 2))) u d₁ o₁
+        → Drew u d₁ o₁ (strokesOfPairs (valued (b "copy") (fieldAt t a 3))) v d₂ o₂ → Drew v d₂ o₂ (strokesOfPairs (valued (b "ref") (fieldAt t a 5))) r last-d last
+        → Drew at d out (strokesOfPairs (placePairs t a)) r last-d last
+    unfolding placePairs
+    place-written e₁ e₂ e₃ = pairs-two d d₁ last-d _ _ e₁ (pairs-two d₁ d₂ last-d _ _ e₂ e₃)
 
-  pub legacy-written : (k : ℕ) (p q : Page) {r : Page} → q ≡ paint p (attrsBytes (collected (aboutPairs t k a))) → r ≡ paint q (attrsBytes (collected (placePairs t a)))
-      → r ≡ paint p (attrsBytes (collected (legacyPairs t k a)))
-  legacy-written k p q eq er =
-      pairs-two p (aboutPairs t k a) (placePairs t a) eq er ∙ ap (λ (ps : List Pair). paint p (attrsBytes (collected ps))) (legacy-two k)
+  pub legacy-written : (k : ℕ) {u : ℕ} (d₁ : List ℕ) {o₁ : Bytes} → Drew at d out (strokesOfPairs (aboutPairs t k a)) u d₁ o₁ → Drew u d₁ o₁ (strokesOfPairs (placePairs t a)) r last-d last
+      → Drew at d out (strokesOfPairs (legacyPairs t k a)) r last-d last
+  legacy-written k d₁ e f = rw (← legacy-two t k a) (pairs-two d d₁ last-d _ _ e f)

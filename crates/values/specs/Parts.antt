@@ -1,14 +1,10 @@
--- Parts of what is written for an attribute or a figure of old, each by a function of its own.
+-- Parts of what is written for a figure of old, each by a function of its own.
 use Prim.Native.Nat.{ℕ}
 use mathlib.Core.List.{List, _++_}
-use Rattle.parts.specs.Bytes.{Bytes, b}
+use Rattle.parts.specs.Bytes.{b}
 use Rattle.tape.specs.File.{Tape}
 use Rattle.attrs.specs.Attr.{Pair}
 use Rattle.figure.specs.Figure.{fieldAt, describedBy, valued}
-
--- what stands before the value of an attribute: its key
-unfoldable pub keyOpens : Bytes → Bytes
-keyOpens key = b " " ++ (key ++ b "=\"")
 
 -- the first three attributes of a figure of old
 unfoldable pub aboutPairs : Tape → ℕ → ℕ → List Pair

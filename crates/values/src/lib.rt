@@ -1,9 +1,12 @@
-// Attributes written through the window, without a copy.
+// Attributes written by strokes, without a copy.
 use attrs::Attrs;
 use attrs::Key;
 use attrs::Next;
 use attrs::Sought;
 use attrs::Value;
+use desk::Numbers;
+use desk::end_value;
+use desk::piece;
 use fold::Number;
 use fold::Piece;
 use tape::Cursor;
@@ -13,11 +16,10 @@ use tape::Step;
 use window::Window;
 use words::Part;
 ghost use mathlib.Core.Path.{_≡_};
-ghost use mathlib.Core.Bool.{true};
+ghost use mathlib.Core.Bool.{false};
 ghost use mathlib.Core.List.{[], _∷_, _++_};
 ghost use lib.ListN.{drop};
-ghost use Rattle.parts.specs.Bytes.{b};
-ghost use Rattle.chars.specs.Escape.{escape};
+ghost use Rattle.parts.specs.Bytes.{Bytes, b};
 ghost use Rattle.window.specs.Page.{pageOf, paint};
 ghost use Rattle.tape.specs.File.{tapeIn};
 ghost use Rattle.tape.specs.Tree.{walkFrom};
@@ -27,110 +29,108 @@ ghost use Rattle.attrs.specs.Walk.{fixedKeys, valueOf, keyOf, soughtOf};
 ghost use Rattle.fold.specs.Fold.{numberIn, foldedNumber};
 ghost use Rattle.fold.specs.Number.{gapSpace};
 ghost use Rattle.figure.specs.Figure.{fieldAt, valued, legacyPairs};
-ghost use Rattle.tags.specs.Items.{attrBytes, attrsBytes};
 ghost use Rattle.events.specs.Event.{escaped, perhaps, collected};
-ghost use Rattle.values.specs.Parts.{keyOpens, aboutPairs, placePairs};
+ghost use Rattle.desk.specs.Stroke.{piece as pieceStroke, strokesOfAttr, strokesOfAttrs, Drew};
+ghost use Rattle.values.specs.Parts.{aboutPairs, placePairs};
 
 // ---- values
 
 // A piece of a quoted value, and the `"` that stood escaped behind it.
-fn put_piece(w: Window, out: &mut [u8], s: &[u8]) -> Window
-    ensures { λ r. ⌜ pageOf r (now (out .exit)) ≡ paint (pageOf w (now (out .entry))) (escape true (now (s .entry) ++ (34 ∷ []))) ⌝ }
+fn put_piece(at: usize, desk: &mut Numbers, out: &mut [u8], s: &[u8]) -> usize
+    ensures { λ r. ⌜ Drew at (now (desk .entry)) (now (out .entry)) (pieceStroke false (now (s .entry) ++ (34 ∷ [])) ∷ []) r (now (desk .exit)) (now (out .exit)) ⌝ }
 {
-    let v = window::escape_xml_attr(w, out, s);
-    window::put_run(v, out, b"&quot;")
+    let a = piece(at, desk, out, s, false);
+    piece(a, desk, out, b"\"", false)
 }
 
 // A quoted value: each `\"` is written as `"`.
-fn put_unquoted(w: Window, out: &mut [u8], s: &[u8]) -> Window
-    ensures { λ r. ⌜ pageOf r (now (out .exit)) ≡ paint (pageOf w (now (out .entry))) (escape true (unquoted (now (s .entry)))) ⌝ }
+fn put_unquoted(at: usize, desk: &mut Numbers, out: &mut [u8], s: &[u8]) -> usize
+    ensures { λ r. ⌜ Drew at (now (desk .entry)) (now (out .entry)) (pieceStroke false (unquoted (now (s .entry))) ∷ []) r (now (desk .exit)) (now (out .exit)) ⌝ }
 {
-    let mut v = w;
-    let mut at = 0;
+    let mut a = at;
+    let mut past = 0;
     loop {
-        let rest = parts::from(s, at);
+        let rest = parts::from(s, past);
         let n = attrs::piece_len(rest);
         if rest.len() <= n {
-            return window::escape_xml_attr(v, out, rest);
+            return piece(a, desk, out, rest, false);
         }
-        v = put_piece(v, out, parts::part(rest, 0, n));
-        at = at + n + 2;
+        a = put_piece(a, desk, out, parts::part(rest, 0, n));
+        past = past + n + 2;
     }
 }
 
 // What a raw value stands for.
-pub fn put_value(w: Window, out: &mut [u8], source: &[u8], v: Value) -> Window
-    ensures { λ r. ⌜ pageOf r (now (out .exit)) ≡ paint (pageOf w (now (out .entry))) (escape true (valueOf (now (source .entry)) v)) ⌝ }
+pub fn put_value(at: usize, desk: &mut Numbers, out: &mut [u8], source: &[u8], v: Value) -> usize
+    ensures { λ r. ⌜ Drew at (now (desk .entry)) (now (out .entry)) (pieceStroke false (valueOf (now (source .entry)) v) ∷ []) r (now (desk .exit)) (now (out .exit)) ⌝ }
 {
     let s = parts::part(source, v.start, v.len);
     if v.quoted {
-        return put_unquoted(w, out, s);
+        return put_unquoted(at, desk, out, s);
     }
-    window::escape_xml_attr(w, out, s)
+    piece(at, desk, out, s, false)
 }
 
 // ---- attributes
 
-// A space, the key, and the front of the value.
-fn put_key(w: Window, out: &mut [u8], key: &[u8]) -> Window
-    ensures { λ r. ⌜ pageOf r (now (out .exit)) ≡ paint (pageOf w (now (out .entry))) (keyOpens (now (key .entry))) ⌝ }
+// An attribute whose value is at hand.
+pub fn put_attr(at: usize, desk: &mut Numbers, out: &mut [u8], key: &[u8], value: &[u8]) -> usize
+    ensures { λ r. ⌜ Drew at (now (desk .entry)) (now (out .entry)) (strokesOfAttr (escaped (now (key .entry)) (now (value .entry)))) r (now (desk .exit)) (now (out .exit)) ⌝ }
 {
-    let v = window::put_run(w, out, b" ");
-    let u = window::put_run(v, out, key);
-    window::put_run(u, out, b"=\"")
-}
-
-pub fn put_attr(w: Window, out: &mut [u8], key: &[u8], value: &[u8]) -> Window
-    ensures { λ r. ⌜ pageOf r (now (out .exit)) ≡ paint (pageOf w (now (out .entry))) (attrBytes (escaped (now (key .entry)) (now (value .entry)))) ⌝ }
-{
-    let v = put_key(w, out, key);
-    let u = window::escape_xml_attr(v, out, value);
-    window::put_run(u, out, b"\"")
+    desk::attr(at, desk, out, key, value, false)
 }
 
 // An attribute whose value is raw in the source.
-fn put_pair(w: Window, out: &mut [u8], key: &[u8], source: &[u8], v: Value) -> Window
-    ensures { λ r. ⌜ pageOf r (now (out .exit)) ≡ paint (pageOf w (now (out .entry))) (attrBytes (escaped (now (key .entry)) (valueOf (now (source .entry)) v))) ⌝ }
+fn put_pair(
+    at: usize,
+    desk: &mut Numbers,
+    out: &mut [u8],
+    key: &[u8],
+    source: &[u8],
+    v: Value,
+) -> usize
+    ensures { λ r. ⌜ Drew at (now (desk .entry)) (now (out .entry)) (strokesOfAttr (escaped (now (key .entry)) (valueOf (now (source .entry)) v))) r (now (desk .exit)) (now (out .exit)) ⌝ }
 {
-    let z = put_key(w, out, key);
-    let u = put_value(z, out, source, v);
-    window::put_run(u, out, b"\"")
+    let a = desk::key(at, desk, out, key);
+    let z = put_value(a, desk, out, source, v);
+    end_value(z, desk, out)
 }
 
 // An attribute of a walk: its key is a part of the source or of the fixed keys.
-fn put_next(w: Window, out: &mut [u8], source: &[u8], k: Key, v: Value) -> Window
-    ensures { λ r. ⌜ pageOf r (now (out .exit)) ≡ paint (pageOf w (now (out .entry))) (attrBytes (escaped (keyOf (now (source .entry)) fixedKeys k) (valueOf (now (source .entry)) v))) ⌝ }
+fn put_next(at: usize, desk: &mut Numbers, out: &mut [u8], source: &[u8], k: Key, v: Value) -> usize
+    ensures { λ r. ⌜ Drew at (now (desk .entry)) (now (out .entry)) (strokesOfAttr (escaped (keyOf (now (source .entry)) fixedKeys k) (valueOf (now (source .entry)) v))) r (now (desk .exit)) (now (out .exit)) ⌝ }
 {
     let fixed = attrs::FIXED_KEYS;
     let key = attrs::key_of(source, &fixed, k);
-    put_pair(w, out, key, source, v)
+    put_pair(at, desk, out, key, source, v)
 }
 
 // The attributes of the nodes from a step on, pair by pair.
 fn put_pairs(
-    w: Window,
+    at: usize,
+    desk: &mut Numbers,
     out: &mut [u8],
     file: &[u8],
     tape: Sections,
     from: Step,
     marker: &[u8],
-) -> Window
-    ensures { λ r. ⌜ pageOf r (now (out .exit)) ≡ paint (pageOf w (now (out .entry))) (attrsBytes (collected (pairsAlong (tapeIn tape (now (file .entry))) (now (marker .entry)) (walkFrom (tapeIn tape (now (file .entry))) from)))) ⌝ }
+) -> usize
+    ensures { λ r. ⌜ Drew at (now (desk .entry)) (now (out .entry)) (strokesOfAttrs (collected (pairsAlong (tapeIn tape (now (file .entry))) (now (marker .entry)) (walkFrom (tapeIn tape (now (file .entry))) from)))) r (now (desk .exit)) (now (out .exit)) ⌝ }
 {
-    let mut v = w;
+    let mut a = at;
     let mut left = Attrs {
         rest: Part { start: 0, len: 0 },
         next: from,
     };
     loop {
         match left.next(file, tape, marker) {
-            Next::Done => return v,
+            Next::Done => return a,
             Next::Pair {
                 key,
                 value,
                 left: after,
             } => {
-                v = put_next(v, out, tape::source(file, tape), key, value);
+                a = put_next(a, desk, out, tape::source(file, tape), key, value);
                 left = after;
             }
         }
@@ -145,89 +145,134 @@ fn put_barred(w: Window, out: &mut [u8], s: &[u8]) -> Window
     window::put_run(v, out, parts::from(s, 1))
 }
 
-// The attributes of a node, whose marker goes by this name: each is written as it stands, up to the first that cannot be.
-pub fn put_collected(
-    w: Window,
+// The attributes of the nodes from a step on: each is written as it stands, up to the first that cannot be.
+fn put_from(
+    at: usize,
+    desk: &mut Numbers,
     out: &mut [u8],
     file: &[u8],
     tape: Sections,
-    c: Cursor,
+    from: Step,
     marker: &[u8],
-) -> Window
-    ensures { λ r. ⌜ pageOf r (now (out .exit)) ≡ paint (pageOf w (now (out .entry))) (attrsBytes (collected (attributesOf (tapeIn tape (now (file .entry))) (c .at) (now (marker .entry))))) ⌝ }
+) -> usize
+    ensures { λ r. ⌜ Drew at (now (desk .entry)) (now (out .entry)) (strokesOfAttrs (collected (pairsAlong (tapeIn tape (now (file .entry))) (now (marker .entry)) (walkFrom (tapeIn tape (now (file .entry))) from)))) r (now (desk .exit)) (now (out .exit)) ⌝ }
 {
-    let mut v = w;
-    let mut step = c.first_child(file, tape);
     if parts::same(marker, b"fig") {
-        return put_pairs(v, out, file, tape, step, marker);
+        return put_pairs(at, desk, out, file, tape, from, marker);
     }
+    let mut a = at;
+    let mut step = from;
     loop {
         let Step::At(d) = step else {
-            return v;
+            return a;
         };
         step = d.next_sibling(file, tape);
         if d.kind(file, tape).code == Kind::ATTRIBUTE {
             let s = d.text(file, tape);
             if !barred::is_barred(s) {
-                return put_pairs(v, out, file, tape, Step::At(d), marker);
+                return put_pairs(a, desk, out, file, tape, Step::At(d), marker);
             }
-            v = put_barred(v, out, s);
+            let w = put_barred(
+                Window {
+                    at: a,
+                    from: desk[0],
+                },
+                out,
+                s,
+            );
+            a = w.at;
         }
+    }
+}
+
+// The first Attribute among the children of a node.
+fn first_attribute(file: &[u8], tape: Sections, c: Cursor) -> Step
+    ensures { λ r. ⌜ ((marker : Bytes) → pairsAlong (tapeIn tape (now (file .entry))) marker (walkFrom (tapeIn tape (now (file .entry))) r) ≡ attributesOf (tapeIn tape (now (file .entry))) (c .at) marker) ⌝ }
+{
+    let mut step = c.first_child(file, tape);
+    loop {
+        let Step::At(d) = step else {
+            return Step::Done;
+        };
+        if d.kind(file, tape).code == Kind::ATTRIBUTE {
+            return Step::At(d);
+        }
+        step = d.next_sibling(file, tape);
+    }
+}
+
+// The attributes of a node, whose marker goes by this name.
+pub fn put_collected(
+    at: usize,
+    desk: &mut Numbers,
+    out: &mut [u8],
+    file: &[u8],
+    tape: Sections,
+    c: Cursor,
+    marker: &[u8],
+) -> usize
+    ensures { λ r. ⌜ Drew at (now (desk .entry)) (now (out .entry)) (strokesOfAttrs (collected (attributesOf (tapeIn tape (now (file .entry))) (c .at) (now (marker .entry))))) r (now (desk .exit)) (now (out .exit)) ⌝ }
+{
+    match first_attribute(file, tape, c) {
+        Step::Done => at,
+        Step::At(d) => put_from(at, desk, out, file, tape, Step::At(d), marker),
     }
 }
 
 // An attribute whose value was sought in the source and may be missing.
 pub fn put_sought(
-    w: Window,
+    at: usize,
+    desk: &mut Numbers,
     out: &mut [u8],
     file: &[u8],
     tape: Sections,
     key: &[u8],
     v: Sought,
-) -> Window
-    ensures { λ r. ⌜ pageOf r (now (out .exit)) ≡ paint (pageOf w (now (out .entry))) (attrsBytes (perhaps (now (key .entry)) (soughtOf (tapeIn tape (now (file .entry)) .source) v))) ⌝ }
+) -> usize
+    ensures { λ r. ⌜ Drew at (now (desk .entry)) (now (out .entry)) (strokesOfAttrs (perhaps (now (key .entry)) (soughtOf (tapeIn tape (now (file .entry)) .source) v))) r (now (desk .exit)) (now (out .exit)) ⌝ }
 {
     match v {
-        Sought::Nowhere => w,
-        Sought::At(value) => put_pair(w, out, key, tape::source(file, tape), value),
+        Sought::Nowhere => at,
+        Sought::At(value) => put_pair(at, desk, out, key, tape::source(file, tape), value),
     }
 }
 
 // ---- folded numbers
 
-fn put_space(w: Window, out: &mut [u8], space: bool) -> Window
-    ensures { λ r. ⌜ pageOf r (now (out .exit)) ≡ paint (pageOf w (now (out .entry))) (gapSpace space) ⌝ }
+// A piece of a number, with or without a space in front.
+fn put_word(at: usize, desk: &mut Numbers, out: &mut [u8], s: &[u8], space: bool) -> usize
+    ensures { λ r. ⌜ Drew at (now (desk .entry)) (now (out .entry)) (pieceStroke false (gapSpace space ++ now (s .entry)) ∷ []) r (now (desk .exit)) (now (out .exit)) ⌝ }
 {
     if space {
-        return window::put_run(w, out, b" ");
+        let a = piece(at, desk, out, b" ", false);
+        return piece(a, desk, out, s, false);
     }
-    w
-}
-
-// A piece of a number, with or without a space in front.
-fn put_word(w: Window, out: &mut [u8], s: &[u8], space: bool) -> Window
-    ensures { λ r. ⌜ pageOf r (now (out .exit)) ≡ paint (pageOf w (now (out .entry))) (escape true (gapSpace space ++ now (s .entry))) ⌝ }
-{
-    let v = put_space(w, out, space);
-    window::escape_xml_attr(v, out, s)
+    piece(at, desk, out, s, false)
 }
 
 // The number of a marker that folds.
-pub fn put_number(w: Window, out: &mut [u8], file: &[u8], tape: Sections, c: Cursor) -> Window
-    ensures { λ r. ⌜ pageOf r (now (out .exit)) ≡ paint (pageOf w (now (out .entry))) (escape true (numberIn (tapeIn tape (now (file .entry))) (c .at))) ⌝ }
+fn put_number(
+    at: usize,
+    desk: &mut Numbers,
+    out: &mut [u8],
+    file: &[u8],
+    tape: Sections,
+    c: Cursor,
+) -> usize
+    ensures { λ r. ⌜ Drew at (now (desk .entry)) (now (out .entry)) (pieceStroke false (numberIn (tapeIn tape (now (file .entry))) (c .at)) ∷ []) r (now (desk .exit)) (now (out .exit)) ⌝ }
 {
-    let mut v = w;
+    let mut a = at;
     let mut left = Number::of(file, tape, c);
     loop {
         match left.next(file, tape) {
-            Piece::Done => return v,
+            Piece::Done => return a,
             Piece::Some {
                 part,
                 space,
                 left: after,
             } => {
                 let s = parts::part(tape::source(file, tape), part.start, part.len);
-                v = put_word(v, out, s, space);
+                a = put_word(a, desk, out, s, space);
                 left = after;
             }
         }
@@ -236,105 +281,131 @@ pub fn put_number(w: Window, out: &mut [u8], file: &[u8], tape: Sections, c: Cur
 
 // An attribute whose value is the number of a marker.
 fn put_folded(
-    w: Window,
+    at: usize,
+    desk: &mut Numbers,
     out: &mut [u8],
     file: &[u8],
     tape: Sections,
     key: &[u8],
     c: Cursor,
-) -> Window
-    ensures { λ r. ⌜ pageOf r (now (out .exit)) ≡ paint (pageOf w (now (out .entry))) (attrBytes (escaped (now (key .entry)) (numberIn (tapeIn tape (now (file .entry))) (c .at)))) ⌝ }
+) -> usize
+    ensures { λ r. ⌜ Drew at (now (desk .entry)) (now (out .entry)) (strokesOfAttr (escaped (now (key .entry)) (numberIn (tapeIn tape (now (file .entry))) (c .at)))) r (now (desk .exit)) (now (out .exit)) ⌝ }
 {
-    let v = put_key(w, out, key);
-    let u = put_number(v, out, file, tape, c);
-    window::put_run(u, out, b"\"")
+    let a = desk::key(at, desk, out, key);
+    let z = put_number(a, desk, out, file, tape, c);
+    end_value(z, desk, out)
 }
 
 // An alternate or published number, where an anchor has one.
 pub fn put_numbered(
-    w: Window,
+    at: usize,
+    desk: &mut Numbers,
     out: &mut [u8],
     file: &[u8],
     tape: Sections,
     key: &[u8],
     s: Step,
-) -> Window
-    ensures { λ r. ⌜ pageOf r (now (out .exit)) ≡ paint (pageOf w (now (out .entry))) (attrsBytes (perhaps (now (key .entry)) (foldedNumber (tapeIn tape (now (file .entry))) s))) ⌝ }
+) -> usize
+    ensures { λ r. ⌜ Drew at (now (desk .entry)) (now (out .entry)) (strokesOfAttrs (perhaps (now (key .entry)) (foldedNumber (tapeIn tape (now (file .entry))) s))) r (now (desk .exit)) (now (out .exit)) ⌝ }
 {
     match s {
-        Step::Done => w,
-        Step::At(c) => put_folded(w, out, file, tape, key, c),
+        Step::Done => at,
+        Step::At(c) => put_folded(at, desk, out, file, tape, key, c),
     }
 }
 
 // ---- categories
 
 // The category of a note or sidebar, where it has one.
-pub fn put_category(w: Window, out: &mut [u8], file: &[u8], tape: Sections, c: Cursor) -> Window
-    ensures { λ r. ⌜ pageOf r (now (out .exit)) ≡ paint (pageOf w (now (out .entry))) (attrsBytes (perhaps (b "category") (writtenCategory (tapeIn tape (now (file .entry))) (c .at)))) ⌝ }
+pub fn put_category(
+    at: usize,
+    desk: &mut Numbers,
+    out: &mut [u8],
+    file: &[u8],
+    tape: Sections,
+    c: Cursor,
+) -> usize
+    ensures { λ r. ⌜ Drew at (now (desk .entry)) (now (out .entry)) (strokesOfAttrs (perhaps (b "category") (writtenCategory (tapeIn tape (now (file .entry))) (c .at)))) r (now (desk .exit)) (now (out .exit)) ⌝ }
 {
     match render::category_text(file, tape, c) {
-        Step::Done => w,
-        Step::At(d) => put_attr(w, out, b"category", render::trimmed(file, tape, d)),
+        Step::Done => at,
+        Step::At(d) => put_attr(at, desk, out, b"category", render::trimmed(file, tape, d)),
     }
 }
 
 // ---- figures of old
 
 // An attribute unless its value is empty.
-fn put_valued(w: Window, out: &mut [u8], key: &[u8], value: &[u8]) -> Window
-    ensures { λ r. ⌜ pageOf r (now (out .exit)) ≡ paint (pageOf w (now (out .entry))) (attrsBytes (collected (valued (now (key .entry)) (now (value .entry))))) ⌝ }
+fn put_valued(at: usize, desk: &mut Numbers, out: &mut [u8], key: &[u8], value: &[u8]) -> usize
+    ensures { λ r. ⌜ Drew at (now (desk .entry)) (now (out .entry)) (strokesOfAttrs (collected (valued (now (key .entry)) (now (value .entry))))) r (now (desk .exit)) (now (out .exit)) ⌝ }
 {
     if value.len() == 0 {
-        return w;
+        return at;
     }
-    put_attr(w, out, key, value)
+    put_attr(at, desk, out, key, value)
 }
 
 // A field of an Attribute, unless it is empty.
 fn put_field(
-    w: Window,
+    at: usize,
+    desk: &mut Numbers,
     out: &mut [u8],
     file: &[u8],
     tape: Sections,
     a: Cursor,
     key: &[u8],
     n: usize,
-) -> Window
-    ensures { λ r. ⌜ pageOf r (now (out .exit)) ≡ paint (pageOf w (now (out .entry))) (attrsBytes (collected (valued (now (key .entry)) (fieldAt (tapeIn tape (now (file .entry))) (a .at) n)))) ⌝ }
+) -> usize
+    ensures { λ r. ⌜ Drew at (now (desk .entry)) (now (out .entry)) (strokesOfAttrs (collected (valued (now (key .entry)) (fieldAt (tapeIn tape (now (file .entry))) (a .at) n)))) r (now (desk .exit)) (now (out .exit)) ⌝ }
 {
-    put_valued(w, out, key, figure::field(file, tape, a, n))
+    put_valued(at, desk, out, key, figure::field(file, tape, a, n))
 }
 
 // What a figure of old shows: its description, file and size.
-fn put_about(w: Window, out: &mut [u8], file: &[u8], tape: Sections, c: Cursor, a: Cursor) -> Window
-    ensures { λ r. ⌜ pageOf r (now (out .exit)) ≡ paint (pageOf w (now (out .entry))) (attrsBytes (collected (aboutPairs (tapeIn tape (now (file .entry))) (c .at) (a .at)))) ⌝ }
-{
-    let v = put_valued(w, out, b"alt", figure::description(file, tape, c));
-    let u = put_field(v, out, file, tape, a, b"file", 0);
-    put_field(u, out, file, tape, a, b"size", 1)
-}
-
-// Where it belongs: its location, copyright and reference.
-fn put_place(w: Window, out: &mut [u8], file: &[u8], tape: Sections, a: Cursor) -> Window
-    ensures { λ r. ⌜ pageOf r (now (out .exit)) ≡ paint (pageOf w (now (out .entry))) (attrsBytes (collected (placePairs (tapeIn tape (now (file .entry))) (a .at)))) ⌝ }
-{
-    let v = put_field(w, out, file, tape, a, b"loc", 2);
-    let u = put_field(v, out, file, tape, a, b"copy", 3);
-    put_field(u, out, file, tape, a, b"ref", 5)
-}
-
-// The attributes of a figure of old, whose fields stand in its Attribute a.
-pub fn put_legacy(
-    w: Window,
+fn put_about(
+    at: usize,
+    desk: &mut Numbers,
     out: &mut [u8],
     file: &[u8],
     tape: Sections,
     c: Cursor,
     a: Cursor,
-) -> Window
-    ensures { λ r. ⌜ pageOf r (now (out .exit)) ≡ paint (pageOf w (now (out .entry))) (attrsBytes (collected (legacyPairs (tapeIn tape (now (file .entry))) (c .at) (a .at)))) ⌝ }
+) -> usize
+    ensures { λ r. ⌜ Drew at (now (desk .entry)) (now (out .entry)) (strokesOfAttrs (collected (aboutPairs (tapeIn tape (now (file .entry))) (c .at) (a .at)))) r (now (desk .exit)) (now (out .exit)) ⌝ }
 {
-    let v = put_about(w, out, file, tape, c, a);
-    put_place(v, out, file, tape, a)
+    let v = put_valued(at, desk, out, b"alt", figure::description(file, tape, c));
+    let u = put_field(v, desk, out, file, tape, a, b"file", 0);
+    put_field(u, desk, out, file, tape, a, b"size", 1)
+}
+
+// Where it belongs: its location, copyright and reference.
+fn put_place(
+    at: usize,
+    desk: &mut Numbers,
+    out: &mut [u8],
+    file: &[u8],
+    tape: Sections,
+    a: Cursor,
+) -> usize
+    ensures { λ r. ⌜ Drew at (now (desk .entry)) (now (out .entry)) (strokesOfAttrs (collected (placePairs (tapeIn tape (now (file .entry))) (a .at)))) r (now (desk .exit)) (now (out .exit)) ⌝ }
+{
+    let v = put_field(at, desk, out, file, tape, a, b"loc", 2);
+    let u = put_field(v, desk, out, file, tape, a, b"copy", 3);
+    put_field(u, desk, out, file, tape, a, b"ref", 5)
+}
+
+// The attributes of a figure of old, whose fields stand in its Attribute a.
+pub fn put_legacy(
+    at: usize,
+    desk: &mut Numbers,
+    out: &mut [u8],
+    file: &[u8],
+    tape: Sections,
+    c: Cursor,
+    a: Cursor,
+) -> usize
+    ensures { λ r. ⌜ Drew at (now (desk .entry)) (now (out .entry)) (strokesOfAttrs (collected (legacyPairs (tapeIn tape (now (file .entry))) (c .at) (a .at)))) r (now (desk .exit)) (now (out .exit)) ⌝ }
+{
+    let v = put_about(at, desk, out, file, tape, c, a);
+    put_place(v, desk, out, file, tape, a)
 }

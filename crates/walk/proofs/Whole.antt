@@ -20,20 +20,22 @@ use Rattle.tape.specs.declared.Cursor.{Cursor}
 use Rattle.tape.specs.declared.Step.{Step}
 use Rattle.tape.proofs.Walk.{children-walk}
 use Rattle.tape.proofs.Laws.{node-count}
-use Rattle.tags.specs.Items.{Item, close, line, bytesOf, attrsBytes, attrBytes, valueOf, newLine, render, framed}
+use Rattle.tags.specs.Items.{Item, start, close, line, bytesOf, attrsBytes, attrBytes, valueOf, newLine, render, framed}
 use Rattle.tags.specs.Names.{nameOf}
 use Rattle.tags.proofs.Rendered.{render-append}
 use Rattle.lists.specs.Span.{filtered, cutBy, nodesIn}
 use Rattle.lists.specs.declared.Span.{Span}
-use Rattle.events.specs.Event.{Event}
-use Rattle.events.specs.Pairing.{State, lastEnds, paired}
+use Rattle.events.specs.Event.{Event, item, escaped}
+use Rattle.events.specs.Pairing.{State, lastEnds, paired, itemsOf, after}
 use Rattle.events.specs.Walk.{blocksE, eventsWithin, eventsOf}
 use Rattle.events.specs.Text.{anyChapter, firstState, itemsOfTape, textOf, fitting}
-use Rattle.events.specs.Emit.{Desk, emitAll, emitted, afterAll}
+use Rattle.events.specs.Emit.{Desk, lay, emit, emitAll, emitted, afterAll}
 use Rattle.events.proofs.Emits.{paired-emitted, emit-page, emit-state}
 use Rattle.marks.specs.Mark.{newMarks}
 use Rattle.marks.specs.declared.Marks.{Marks}
 use Rattle.desk.specs.Desk.{chapterIn, verseIn, stateIn, marksOf, deskOf, putOn, ended}
+use Rattle.desk.specs.Stroke.{opens as openStroke, key, piece, endValue, ends as endStroke, closes as closeStroke, strokesOf, strokesOfAttrs, strokesOfAttr, ink, inkAll, strokes, Drew}
+use Rattle.desk.proofs.Strokes.{drew-two}
 use Rattle.walk.specs.Asked.{wholeIn, left, Walked}
 use Rattle.walk.specs.Shows.{windowOf, showing}
 use Rattle.walk.specs.declared.Asked.{Asked}
@@ -81,6 +83,9 @@ module _ (c : Sections) (file : Bytes) (i : ℕ) where
 abbrev opens : Bytes
 opens = b "<usx version=\"3.0\">"
 
+abbrev ends′ : Bytes
+ends′ = b "</usx>"
+
 abbrev ends : Bytes
 ends = b "\n</usx>"
 
@@ -105,6 +110,25 @@ text-some t = rw (text-parts t) (omega arith)
 -- the desk that a walk starts with
 abbrev atFirst : Tape → ℕ → Bytes → Desk
 atFirst t from out = record { page = record { at = 0; from = from; buf = out }; state = firstState t }
+
+-- the tag around the whole text
+pub usx-opened : {at a d r : ℕ} (n n₁ n₂ n₃ : List ℕ) {out o₁ o₂ last : Bytes} → Drew at n out (openStroke 1 ∷ []) a n₁ o₁ → Drew a n₁ o₁ (key (b "version") ∷ piece false (b "3.0") ∷ endValue ∷ []) d n₂ o₂
+    → Drew d n₂ o₂ (endStroke ∷ []) r n₃ last → Drew at n out (strokesOf (start 1 (escaped (b "version") (b "3.0") ∷ []))) r n₃ last
+unfolding strokesOf strokesOfAttrs strokesOfAttr escaped
+usx-opened n n₁ n₂ n₃ e₁ e₂ e₃ = drew-two n n₁ n₃ e₁ (drew-two n₁ n₂ n₃ e₂ e₃)
+
+-- the last new line, and its end
+pub usx-closed : (w : Desk) {a r : Desk} → a ≡ emit w (item (line 0)) → r ≡ strokes a (closeStroke 1 ∷ []) → r ≡ lay w (line 0 ∷ close 1 ∷ [])
+unfolding strokes putOn emit lay itemsOf after render inkAll ink bytesOf newLine nameOf
+usx-closed w ea er = er ∙ ap (λ (z : Desk). record { page = paint (z .page) ends′; state = z .state }) ea ∙ ap (λ (p : Page). record { page = p; state = w .state }) (paint-append (w .page) (b "\n") ends′)
+
+opened-bytes : (w : Desk) → strokes w (strokesOf (start 1 (escaped (b "version") (b "3.0") ∷ []))) ≡ putOn w opens
+unfolding strokes inkAll ink strokesOf strokesOfAttrs strokesOfAttr escaped nameOf escape escapedByte
+opened-bytes w = refl
+
+closed-bytes : (w : Desk) → lay w (line 0 ∷ close 1 ∷ []) ≡ putOn w ends
+unfolding lay putOn render bytesOf newLine nameOf
+closed-bytes w = refl
 
 -- what the parts leave, one behind the other
 parts-page : (t : Tape) (from : ℕ) (out : Bytes) (a d e z : Desk) → a ≡ putOn (atFirst t from out) opens → d ≡ emitAll a (eventsOf t) → e ≡ ended d → z ≡ putOn e ends → z .page ≡ wholeIn t from out
@@ -142,17 +166,17 @@ first-state t em = rw em
 
 module _ (t : Tape) (n : List ℕ) (out : Bytes) {k : Cursor} (ek : k .at ≡ 0) {s : Step} (es : s ≡ firstChild t (k .at))
     (a d e z : ℕ) (da dd de dz : List ℕ) (o₁ o₂ o₃ o₄ : Bytes)
-    (ea : (source : Bytes) → deskOf source a da o₁ ≡ putOn (deskOf source 0 n out) opens)
+    (ea : Drew 0 n out (strokesOf (start 1 (escaped (b "version") (b "3.0") ∷ []))) a da o₁)
     (ed : deskOf (t .source) d dd o₂ ≡ emitAll (deskOf (t .source) a da o₁) (blocksE t 64 1 (nodesIn t all s)))
     (ee : deskOf (t .source) e de o₃ ≡ ended (deskOf (t .source) d dd o₂))
-    (ez : (source : Bytes) → deskOf source z dz o₄ ≡ putOn (deskOf source e de o₃) ends) where
+    (ez : (source : Bytes) → deskOf source z dz o₄ ≡ lay (deskOf source e de o₃) (line 0 ∷ close 1 ∷ [])) where
   whole-page : marksOf n ≡ newMarks (firstState t .number) → deskOf (t .source) z dz o₄ .page ≡ wholeIn t (getD n 0 0) out
   whole-page en =
       parts-page t (getD n 0 0) out (deskOf (t .source) a da o₁) (deskOf (t .source) d dd o₂) (deskOf (t .source) e de o₃) (deskOf (t .source) z dz o₄)
-      (ea (t .source) ∙ ap (λ (u : State). putOn (record { page = record { at = 0; from = getD n 0 0; buf = out }; state = u }) opens) (first-state t en))
+      (ea .on (t .source) ∙ opened-bytes (deskOf (t .source) 0 n out) ∙ ap (λ (u : State). putOn (record { page = record { at = 0; from = getD n 0 0; buf = out }; state = u }) opens) (first-state t en))
       (ed ∙ ap (emitAll (deskOf (t .source) a da o₁)) (events-all t (es ∙ ap (firstChild t) ek)))
       ee
-      (ez (t .source))
+      (ez (t .source) ∙ closed-bytes (deskOf (t .source) e de o₃))
 
   pub whole-length : marksOf n ≡ newMarks (firstState t .number) → z ≡ wholeIn t (getD n 0 0) out .at
   whole-length en = ap (λ (p : Page). p .at) (whole-page en)

@@ -12,11 +12,8 @@ depth-at-requires c κs = search needs
 inline-requires : tie.Need-inline-requires
 inline-requires c κs = search needs
 
-slice-aggregate-literal : tie.Need-slice-aggregate-literal
-slice-aggregate-literal c = search needs
-
-literal-requires : tie.Need-literal-requires
-literal-requires c κs = search needs
+close-tag-requires : tie.Need-close-tag-requires
+close-tag-requires c κs = search needs
 
 same-length : tie.Need-same-length
 same-length c = search needs
@@ -31,7 +28,6 @@ verse-para-spec =
     open-run-requires
     depth-at-requires
     inline-requires
-    slice-aggregate-literal
-    literal-requires
+    close-tag-requires
     same-length
     returns)

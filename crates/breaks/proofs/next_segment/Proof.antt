@@ -16,11 +16,8 @@ find-pair-requires c κs = search needs
 add-next : tie.Need-add-next
 add-next c = omega (arith, split-sum _ _ (c .before .before .before .before .pre) (c .before .from .ensures .0) (c .find-pair .ensures))
 
-slice-aggregate-literal : tie.Need-slice-aggregate-literal
-slice-aggregate-literal c = search needs
-
-literal-requires : tie.Need-literal-requires
-literal-requires c κs = search needs
+put-break-requires : tie.Need-put-break-requires
+put-break-requires c κs = search needs
 
 part-requires : tie.Need-part-requires
 part-requires c κs = search needs
@@ -32,7 +29,7 @@ same-length : tie.Need-same-length
 same-length c = search needs
 
 returns : tie.Need-returns
-returns c = (λ source. segments-turn _ _ _ (c .before .before .before .before .before .before .before .before .before .before .before .before .before .before .before .before .pre) (c .before .before .before .before .before .before .before .before .before .before .before .before .before .from .ensures .0) (c .before .before .before .before .before .before .before .before .before .before .before .before .find-pair .ensures) (c .before .before .before .before .before .before .before .before .literal .ensures source) (c .before .before .before .before .before .part .ensures .0) (c .before .before .put-segment .ensures source), omega arith)
+returns c = (λ source. segments-turn _ _ _ (c .before .before .before .before .before .before .before .before .before .before .before .before .before .before .before .pre) (c .before .before .before .before .before .before .before .before .before .before .before .before .from .ensures .0) (c .before .before .before .before .before .before .before .before .before .before .before .find-pair .ensures) (c .before .before .before .before .before .before .before .before .put-break .ensures source) (c .before .before .before .before .before .part .ensures .0) (c .before .before .put-segment .ensures source), omega arith)
 
 pub next-segment-spec : {M : Type 1} → statement M
 next-segment-spec =
@@ -42,8 +39,7 @@ next-segment-spec =
     from-requires
     find-pair-requires
     add-next
-    slice-aggregate-literal
-    literal-requires
+    put-break-requires
     part-requires
     put-segment-requires
     same-length

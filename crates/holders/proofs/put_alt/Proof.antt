@@ -12,20 +12,20 @@ is-blank-requires c κs = search needs
 returns : tie.Need-returns
 returns c = search alt-none
 
-slice-aggregate-put-run : tie.Need-slice-aggregate-put-run
-slice-aggregate-put-run c = search needs
+slice-aggregate-key : tie.Need-slice-aggregate-key
+slice-aggregate-key c = search needs
 
-put-run-requires : tie.Need-put-run-requires
-put-run-requires c κs = search needs
+key-requires : tie.Need-key-requires
+key-requires c κs = search needs
+
+element-copy-out-t20 : tie.Need-element-copy-out-t20
+element-copy-out-t20 c = search needs
 
 put-words-requires : tie.Need-put-words-requires
 put-words-requires c κs = search needs
 
-slice-aggregate-put-run-2 : tie.Need-slice-aggregate-put-run-2
-slice-aggregate-put-run-2 c = search needs
-
-put-run-requires-2 : tie.Need-put-run-requires-2
-put-run-requires-2 c κs = search needs
+end-value-requires : tie.Need-end-value-requires
+end-value-requires c κs = search needs
 
 same-length : tie.Need-same-length
 same-length c = search needs
@@ -40,10 +40,10 @@ put-alt-spec =
     leading-text-requires
     is-blank-requires
     returns
-    slice-aggregate-put-run
-    put-run-requires
+    slice-aggregate-key
+    key-requires
+    element-copy-out-t20
     put-words-requires
-    slice-aggregate-put-run-2
-    put-run-requires-2
+    end-value-requires
     same-length
     returns-2)

@@ -3,11 +3,8 @@ use borrow.Author.Needs.{needs}
 use Rattle.holders.proofs.put_periph.Statement.{statement}
 use Rattle.holders.proofs.put_periph.Tie as tie
 
-slice-aggregate-put-run : tie.Need-slice-aggregate-put-run
-slice-aggregate-put-run c = search needs
-
-put-run-requires : tie.Need-put-run-requires
-put-run-requires c κs = search needs
+open-tag-requires : tie.Need-open-tag-requires
+open-tag-requires c κs = search needs
 
 put-alt-requires : tie.Need-put-alt-requires
 put-alt-requires c κs = search needs
@@ -28,8 +25,7 @@ pub put-periph-spec : {M : Type 1} → statement M
 put-periph-spec =
     tie.close
     (tie.spec
-    slice-aggregate-put-run
-    put-run-requires
+    open-tag-requires
     put-alt-requires
     slice-aggregate-put-collected
     put-collected-requires

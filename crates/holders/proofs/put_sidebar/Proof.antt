@@ -3,14 +3,11 @@ use borrow.Author.Needs.{needs}
 use Rattle.holders.proofs.put_sidebar.Statement.{statement}
 use Rattle.holders.proofs.put_sidebar.Tie as tie
 
-slice-aggregate-put-style : tie.Need-slice-aggregate-put-style
-slice-aggregate-put-style c = search needs
-
 marker-name-requires : tie.Need-marker-name-requires
 marker-name-requires c κs = search needs
 
-put-style-requires : tie.Need-put-style-requires
-put-style-requires c κs = search needs
+open-styled-requires : tie.Need-open-styled-requires
+open-styled-requires c κs = search needs
 
 put-category-requires : tie.Need-put-category-requires
 put-category-requires c κs = search needs
@@ -28,9 +25,8 @@ pub put-sidebar-spec : {M : Type 1} → statement M
 put-sidebar-spec =
     tie.close
     (tie.spec
-    slice-aggregate-put-style
     marker-name-requires
-    put-style-requires
+    open-styled-requires
     put-category-requires
     put-unclosed-requires
     same-length

@@ -15,9 +15,6 @@ source-requires c κs = search needs
 part-requires : tie.Need-part-requires
 part-requires c κs = search needs
 
-element-copy-out-t15 : tie.Need-element-copy-out-t15
-element-copy-out-t15 c = search needs
-
 book-rest-requires : tie.Need-book-rest-requires
 book-rest-requires c κs = search needs
 
@@ -44,7 +41,6 @@ book-spec =
     book-code-requires
     source-requires
     part-requires
-    element-copy-out-t15
     book-rest-requires
     put-book-requires
     named-book-requires

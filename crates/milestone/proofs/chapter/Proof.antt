@@ -6,9 +6,6 @@ use Rattle.milestone.proofs.chapter.Tie as tie
 marks-of-requires : tie.Need-marks-of-requires
 marks-of-requires c κs = search needs
 
-element-copy-out-t15 : tie.Need-element-copy-out-t15
-element-copy-out-t15 c = search needs
-
 source-requires : tie.Need-source-requires
 source-requires c κs = search needs
 
@@ -35,7 +32,6 @@ chapter-spec =
     tie.close
     (tie.spec
     marks-of-requires
-    element-copy-out-t15
     source-requires
     put-ends-requires
     put-chapter-requires

@@ -6,9 +6,6 @@ use Rattle.milestone.proofs.last_ends.Tie as tie
 marks-of-requires : tie.Need-marks-of-requires
 marks-of-requires c κs = search needs
 
-element-copy-out-t11 : tie.Need-element-copy-out-t11
-element-copy-out-t11 c = search needs
-
 source-requires : tie.Need-source-requires
 source-requires c κs = search needs
 
@@ -32,7 +29,6 @@ last-ends-spec =
     tie.close
     (tie.spec
     marks-of-requires
-    element-copy-out-t11
     source-requires
     put-ends-requires
     all-closed-requires

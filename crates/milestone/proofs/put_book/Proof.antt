@@ -9,11 +9,8 @@ put-book-head-requires c κs = search needs
 is-blank-requires : tie.Need-is-blank-requires
 is-blank-requires c κs = search needs
 
-slice-aggregate-put-run : tie.Need-slice-aggregate-put-run
-slice-aggregate-put-run c = search needs
-
-put-run-requires : tie.Need-put-run-requires
-put-run-requires c κs = search needs
+shut-tag-requires : tie.Need-shut-tag-requires
+shut-tag-requires c κs = search needs
 
 put-book-rest-requires : tie.Need-put-book-rest-requires
 put-book-rest-requires c κs = search needs
@@ -36,8 +33,7 @@ put-book-spec =
     (tie.spec
     put-book-head-requires
     is-blank-requires
-    slice-aggregate-put-run
-    put-run-requires
+    shut-tag-requires
     put-book-rest-requires
     same-length
     returns

@@ -3,20 +3,14 @@ use borrow.Author.Needs.{needs}
 use Rattle.milestone.proofs.put_book_rest.Statement.{statement}
 use Rattle.milestone.proofs.put_book_rest.Tie as tie
 
-slice-aggregate-put-run : tie.Need-slice-aggregate-put-run
-slice-aggregate-put-run c = search needs
+end-tag-requires : tie.Need-end-tag-requires
+end-tag-requires c κs = search needs
 
-put-run-requires : tie.Need-put-run-requires
-put-run-requires c κs = search needs
+put-text-requires : tie.Need-put-text-requires
+put-text-requires c κs = search needs
 
-put-words-requires : tie.Need-put-words-requires
-put-words-requires c κs = search needs
-
-slice-aggregate-put-run-2 : tie.Need-slice-aggregate-put-run-2
-slice-aggregate-put-run-2 c = search needs
-
-put-run-requires-2 : tie.Need-put-run-requires-2
-put-run-requires-2 c κs = search needs
+close-tag-requires : tie.Need-close-tag-requires
+close-tag-requires c κs = search needs
 
 same-length : tie.Need-same-length
 same-length c = search needs
@@ -26,12 +20,4 @@ returns c = search book-held
 
 pub put-book-rest-spec : {M : Type 1} → statement M
 put-book-rest-spec =
-    tie.close
-    (tie.spec
-    slice-aggregate-put-run
-    put-run-requires
-    put-words-requires
-    slice-aggregate-put-run-2
-    put-run-requires-2
-    same-length
-    returns)
+    tie.close (tie.spec end-tag-requires put-text-requires close-tag-requires same-length returns)

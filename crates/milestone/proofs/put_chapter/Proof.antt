@@ -3,6 +3,12 @@ use borrow.Author.Needs.{needs}
 use Rattle.milestone.proofs.put_chapter.Statement.{statement}
 use Rattle.milestone.proofs.put_chapter.Tie as tie
 
+source-requires : tie.Need-source-requires
+source-requires c κs = search needs
+
+part-requires : tie.Need-part-requires
+part-requires c κs = search needs
+
 put-chapter-head-requires : tie.Need-put-chapter-head-requires
 put-chapter-head-requires c κs = search needs
 
@@ -18,12 +24,6 @@ slice-aggregate-put-numbered-2 c = search needs
 put-numbered-requires-2 : tie.Need-put-numbered-requires-2
 put-numbered-requires-2 c κs = search needs
 
-source-requires : tie.Need-source-requires
-source-requires c κs = search needs
-
-part-requires : tie.Need-part-requires
-part-requires c κs = search needs
-
 put-chapter-sid-requires : tie.Need-put-chapter-sid-requires
 put-chapter-sid-requires c κs = search needs
 
@@ -37,13 +37,13 @@ pub put-chapter-spec : {M : Type 1} → statement M
 put-chapter-spec =
     tie.close
     (tie.spec
+    source-requires
+    part-requires
     put-chapter-head-requires
     slice-aggregate-put-numbered
     put-numbered-requires
     slice-aggregate-put-numbered-2
     put-numbered-requires-2
-    source-requires
-    part-requires
     put-chapter-sid-requires
     same-length
     returns)

@@ -1,37 +1,33 @@
-use Rattle.milestone.proofs.Marked.{chapter-sid}
+use Rattle.milestone.proofs.Marked.{sid-shut}
 use borrow.Author.Needs.{needs}
 use Rattle.milestone.proofs.put_chapter_sid.Statement.{statement}
 use Rattle.milestone.proofs.put_chapter_sid.Tie as tie
 
-slice-aggregate-put-run : tie.Need-slice-aggregate-put-run
-slice-aggregate-put-run c = search needs
+slice-aggregate-key : tie.Need-slice-aggregate-key
+slice-aggregate-key c = search needs
 
-put-run-requires : tie.Need-put-run-requires
-put-run-requires c κs = search needs
+key-requires : tie.Need-key-requires
+key-requires c κs = search needs
 
-put-chapter-id-requires : tie.Need-put-chapter-id-requires
-put-chapter-id-requires c κs = search needs
+chapter-id-requires : tie.Need-chapter-id-requires
+chapter-id-requires c κs = search needs
 
-slice-aggregate-put-run-2 : tie.Need-slice-aggregate-put-run-2
-slice-aggregate-put-run-2 c = search needs
-
-put-run-requires-2 : tie.Need-put-run-requires-2
-put-run-requires-2 c κs = search needs
+shut-value-requires : tie.Need-shut-value-requires
+shut-value-requires c κs = search needs
 
 same-length : tie.Need-same-length
 same-length c = search needs
 
 returns : tie.Need-returns
-returns c = search chapter-sid
+returns c = search sid-shut
 
 pub put-chapter-sid-spec : {M : Type 1} → statement M
 put-chapter-sid-spec =
     tie.close
     (tie.spec
-    slice-aggregate-put-run
-    put-run-requires
-    put-chapter-id-requires
-    slice-aggregate-put-run-2
-    put-run-requires-2
+    slice-aggregate-key
+    key-requires
+    chapter-id-requires
+    shut-value-requires
     same-length
     returns)

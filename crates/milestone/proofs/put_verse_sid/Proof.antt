@@ -1,37 +1,33 @@
-use Rattle.milestone.proofs.Marked.{verse-sid}
+use Rattle.desk.proofs.Strokes.{drew-attr}
 use borrow.Author.Needs.{needs}
 use Rattle.milestone.proofs.put_verse_sid.Statement.{statement}
 use Rattle.milestone.proofs.put_verse_sid.Tie as tie
 
-slice-aggregate-put-run : tie.Need-slice-aggregate-put-run
-slice-aggregate-put-run c = search needs
+slice-aggregate-key : tie.Need-slice-aggregate-key
+slice-aggregate-key c = search needs
 
-put-run-requires : tie.Need-put-run-requires
-put-run-requires c κs = search needs
+key-requires : tie.Need-key-requires
+key-requires c κs = search needs
 
-put-verse-id-requires : tie.Need-put-verse-id-requires
-put-verse-id-requires c κs = search needs
+verse-id-requires : tie.Need-verse-id-requires
+verse-id-requires c κs = search needs
 
-slice-aggregate-put-run-2 : tie.Need-slice-aggregate-put-run-2
-slice-aggregate-put-run-2 c = search needs
-
-put-run-requires-2 : tie.Need-put-run-requires-2
-put-run-requires-2 c κs = search needs
+end-value-requires : tie.Need-end-value-requires
+end-value-requires c κs = search needs
 
 same-length : tie.Need-same-length
 same-length c = search needs
 
 returns : tie.Need-returns
-returns c = search verse-sid
+returns c = search drew-attr
 
 pub put-verse-sid-spec : {M : Type 1} → statement M
 put-verse-sid-spec =
     tie.close
     (tie.spec
-    slice-aggregate-put-run
-    put-run-requires
-    put-verse-id-requires
-    slice-aggregate-put-run-2
-    put-run-requires-2
+    slice-aggregate-key
+    key-requires
+    verse-id-requires
+    end-value-requires
     same-length
     returns)

@@ -9,9 +9,6 @@ marks-of-requires c κs = search needs
 verse-label-requires : tie.Need-verse-label-requires
 verse-label-requires c κs = search needs
 
-element-copy-out-t17 : tie.Need-element-copy-out-t17
-element-copy-out-t17 c = search needs
-
 source-requires : tie.Need-source-requires
 source-requires c κs = search needs
 
@@ -39,7 +36,6 @@ verse-spec =
     (tie.spec
     marks-of-requires
     verse-label-requires
-    element-copy-out-t17
     source-requires
     end-verse-requires
     put-verse-requires

@@ -6,18 +6,18 @@ use Rattle.tables.proofs.open_table.Tie as tie
 line-requires : tie.Need-line-requires
 line-requires c κs = search needs
 
-slice-aggregate-literal : tie.Need-slice-aggregate-literal
-slice-aggregate-literal c = search needs
+open-tag-requires : tie.Need-open-tag-requires
+open-tag-requires c κs = search needs
 
-literal-requires : tie.Need-literal-requires
-literal-requires c κs = search needs
+end-tag-requires : tie.Need-end-tag-requires
+end-tag-requires c κs = search needs
 
 same-length : tie.Need-same-length
 same-length c = search needs
 
 returns : tie.Need-returns
-returns c = λ source. table-opened _ _ (c .before .before .before .before .before .before .before .before .line .ensures source) (c .before .before .literal .ensures source)
+returns c = λ source. table-opened source _ _ _ _ (c .before .before .before .before .before .before .before .before .before .before .before .before .line .ensures source) _ (c .before .before .before .before .before .before .before .open-tag .ensures) (c .before .before .end-tag .ensures)
 
 pub open-table-spec : {M : Type 1} → statement M
 open-table-spec =
-    tie.close (tie.spec line-requires slice-aggregate-literal literal-requires same-length returns)
+    tie.close (tie.spec line-requires open-tag-requires end-tag-requires same-length returns)

@@ -6,29 +6,38 @@ use Rattle.tables.proofs.put_align.Tie as tie
 enum-told : tie.Need-enum-told
 enum-told c = search needs
 
-slice-aggregate-put-run : tie.Need-slice-aggregate-put-run
-slice-aggregate-put-run c = search needs
+slice-aggregate-attr : tie.Need-slice-aggregate-attr
+slice-aggregate-attr c = search needs
 
-put-run-requires : tie.Need-put-run-requires
-put-run-requires c κs = search needs
+slice-aggregate-attr-2 : tie.Need-slice-aggregate-attr-2
+slice-aggregate-attr-2 c = search needs
+
+attr-requires : tie.Need-attr-requires
+attr-requires c κs = search needs
 
 enum-told-2 : tie.Need-enum-told-2
 enum-told-2 c = search needs
 
-slice-aggregate-put-run-2 : tie.Need-slice-aggregate-put-run-2
-slice-aggregate-put-run-2 c = search needs
+slice-aggregate-attr-3 : tie.Need-slice-aggregate-attr-3
+slice-aggregate-attr-3 c = search needs
 
-put-run-requires-2 : tie.Need-put-run-requires-2
-put-run-requires-2 c κs = search needs
+slice-aggregate-attr-4 : tie.Need-slice-aggregate-attr-4
+slice-aggregate-attr-4 c = search needs
+
+attr-requires-2 : tie.Need-attr-requires-2
+attr-requires-2 c κs = search needs
 
 enum-told-3 : tie.Need-enum-told-3
 enum-told-3 c = search needs
 
-slice-aggregate-put-run-3 : tie.Need-slice-aggregate-put-run-3
-slice-aggregate-put-run-3 c = search needs
+slice-aggregate-attr-5 : tie.Need-slice-aggregate-attr-5
+slice-aggregate-attr-5 c = search needs
 
-put-run-requires-3 : tie.Need-put-run-requires-3
-put-run-requires-3 c κs = search needs
+slice-aggregate-attr-6 : tie.Need-slice-aggregate-attr-6
+slice-aggregate-attr-6 c = search needs
+
+attr-requires-3 : tie.Need-attr-requires-3
+attr-requires-3 c κs = search needs
 
 same-length : tie.Need-same-length
 same-length c = search needs
@@ -53,14 +62,17 @@ put-align-spec =
     tie.close
     (tie.spec
     enum-told
-    slice-aggregate-put-run
-    put-run-requires
+    slice-aggregate-attr
+    slice-aggregate-attr-2
+    attr-requires
     enum-told-2
-    slice-aggregate-put-run-2
-    put-run-requires-2
+    slice-aggregate-attr-3
+    slice-aggregate-attr-4
+    attr-requires-2
     enum-told-3
-    slice-aggregate-put-run-3
-    put-run-requires-3
+    slice-aggregate-attr-5
+    slice-aggregate-attr-6
+    attr-requires-3
     same-length
     returns
     same-length-2

@@ -1,116 +1,37 @@
-use mathlib.Core.Path.{_≡_, refl}
-use native.Mathlib.Omega.{arith}
-use lib.ListN.{length}
-use Rattle.window.specs.Page.{pageOf}
-use Rattle.tape.specs.File.{tapeIn}
-use Rattle.tape.specs.Tree.{left}
-use Rattle.tape.proofs.Walk.{left-turn}
-use Rattle.values.proofs.Along.{Ahead, ahead-all, ahead-end, ahead-hard, ahead-other, ahead-barred}
+use Rattle.values.proofs.Along.{first-none, first-on}
 use borrow.Author.Needs.{needs}
 use Rattle.values.proofs.put_collected.Statement.{statement}
 use Rattle.values.proofs.put_collected.Tie as tie
 
-abbrev Inv-loop : tie.InvT-loop
-Inv-loop out₀ file tape marker v₀ step₀ out v step = (Ahead (tapeIn tape file) marker (pageOf v out) step ≡ Ahead (tapeIn tape file) marker (pageOf v₀ out₀) step₀) × (length out ≡ length out₀)
+first-attribute-requires : tie.Need-first-attribute-requires
+first-attribute-requires c κs = search needs
 
-abbrev μ-loop : tie.MeasureT-loop
-μ-loop out₀ file tape marker v₀ step₀ out v step = left (tapeIn tape file) step
-
-first-child-requires : tie.Need-first-child-requires Inv-loop μ-loop
-first-child-requires c κs = search needs
-
-slice-aggregate-same : tie.Need-slice-aggregate-same Inv-loop μ-loop
-slice-aggregate-same c = search needs
-
-same-requires : tie.Need-same-requires Inv-loop μ-loop
-same-requires c κs = search needs
-
-put-pairs-requires : tie.Need-put-pairs-requires Inv-loop μ-loop
-put-pairs-requires c κs = search needs
-
-same-length : tie.Need-same-length Inv-loop μ-loop
-same-length c = search needs
-
-returns : tie.Need-returns Inv-loop μ-loop
-returns c = search ahead-all
-
-loop-holds : tie.Need-loop-holds Inv-loop μ-loop
-loop-holds c = (refl, refl)
-
-enum-known-step : tie.Need-enum-known-step Inv-loop μ-loop
-enum-known-step c = search needs
-
-enum-told : tie.Need-enum-told Inv-loop μ-loop
+enum-told : tie.Need-enum-told
 enum-told c = search needs
 
-same-length-2 : tie.Need-same-length-2 Inv-loop μ-loop
-same-length-2 c = search needs
+enum-known-d : tie.Need-enum-known-d
+enum-known-d c = search needs
 
-returns-2 : tie.Need-returns-2 Inv-loop μ-loop
-returns-2 c = search ahead-end
+put-from-requires : tie.Need-put-from-requires
+put-from-requires c κs = search needs
 
-next-sibling-requires : tie.Need-next-sibling-requires Inv-loop μ-loop
-next-sibling-requires c κs = search needs
+returns : tie.Need-returns
+returns c = search first-none
 
-kind-requires : tie.Need-kind-requires Inv-loop μ-loop
-kind-requires c κs = search needs
+same-length : tie.Need-same-length
+same-length c = search needs
 
-text-requires : tie.Need-text-requires Inv-loop μ-loop
-text-requires c κs = search needs
-
-is-barred-requires : tie.Need-is-barred-requires Inv-loop μ-loop
-is-barred-requires c κs = search needs
-
-put-pairs-requires-2 : tie.Need-put-pairs-requires-2 Inv-loop μ-loop
-put-pairs-requires-2 c κs = search needs
-
-same-length-3 : tie.Need-same-length-3 Inv-loop μ-loop
-same-length-3 c = search needs
-
-returns-3 : tie.Need-returns-3 Inv-loop μ-loop
-returns-3 c = search ahead-hard
-
-put-barred-requires : tie.Need-put-barred-requires Inv-loop μ-loop
-put-barred-requires c κs = search needs
-
-loop-less : tie.Need-loop-less Inv-loop μ-loop
-loop-less c = search left-turn
-
-loop-again : tie.Need-loop-again Inv-loop μ-loop
-loop-again c = (search ahead-barred, omega arith)
-
-loop-less-2 : tie.Need-loop-less-2 Inv-loop μ-loop
-loop-less-2 c = search left-turn
-
-loop-again-2 : tie.Need-loop-again-2 Inv-loop μ-loop
-loop-again-2 c = (search ahead-other, omega arith)
+returns-2 : tie.Need-returns-2
+returns-2 c = search first-on
 
 pub put-collected-spec : {M : Type 1} → statement M
 put-collected-spec =
     tie.close
     (tie.spec
-    Inv-loop
-    μ-loop
-    first-child-requires
-    slice-aggregate-same
-    same-requires
-    put-pairs-requires
-    same-length
-    returns
-    loop-holds
-    enum-known-step
+    first-attribute-requires
     enum-told
-    same-length-2
-    returns-2
-    next-sibling-requires
-    kind-requires
-    text-requires
-    is-barred-requires
-    put-pairs-requires-2
-    same-length-3
-    returns-3
-    put-barred-requires
-    loop-less
-    loop-again
-    loop-less-2
-    loop-again-2)
+    enum-known-d
+    put-from-requires
+    returns
+    same-length
+    returns-2)

@@ -1,33 +1,23 @@
-use Rattle.values.proofs.Written.{attr-written}
+use Rattle.values.proofs.Written.{pair-written}
 use borrow.Author.Needs.{needs}
 use Rattle.values.proofs.put_folded.Statement.{statement}
 use Rattle.values.proofs.put_folded.Tie as tie
 
-put-key-requires : tie.Need-put-key-requires
-put-key-requires c κs = search needs
+key-requires : tie.Need-key-requires
+key-requires c κs = search needs
 
 put-number-requires : tie.Need-put-number-requires
 put-number-requires c κs = search needs
 
-slice-aggregate-put-run : tie.Need-slice-aggregate-put-run
-slice-aggregate-put-run c = search needs
-
-put-run-requires : tie.Need-put-run-requires
-put-run-requires c κs = search needs
+end-value-requires : tie.Need-end-value-requires
+end-value-requires c κs = search needs
 
 same-length : tie.Need-same-length
 same-length c = search needs
 
 returns : tie.Need-returns
-returns c = search attr-written
+returns c = search pair-written
 
 pub put-folded-spec : {M : Type 1} → statement M
 put-folded-spec =
-    tie.close
-    (tie.spec
-    put-key-requires
-    put-number-requires
-    slice-aggregate-put-run
-    put-run-requires
-    same-length
-    returns)
+    tie.close (tie.spec key-requires put-number-requires end-value-requires same-length returns)

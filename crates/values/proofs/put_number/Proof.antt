@@ -1,28 +1,29 @@
 use mathlib.Core.Path.{_≡_, refl}
-use mathlib.Core.Bool.{true}
+use mathlib.Core.Bool.{false}
+use mathlib.Core.List.{[], _∷_}
 use native.Mathlib.Omega.{arith}
 use lib.ListN.{length}
-use Rattle.chars.specs.Escape.{escape}
-use Rattle.window.specs.Page.{paint, pageOf}
 use Rattle.tape.specs.File.{tapeIn}
 use Rattle.fold.specs.Number.{toCome}
 use Rattle.fold.proofs.Numbers.{number-less}
+use Rattle.desk.specs.Stroke.{piece}
+use Rattle.values.proofs.Written.{Ahead, ahead-all}
 use Rattle.values.proofs.Listed.{number-end, number-turn}
 use borrow.Author.Needs.{needs}
 use Rattle.values.proofs.put_number.Statement.{statement}
 use Rattle.values.proofs.put_number.Tie as tie
 
 abbrev Inv-loop : tie.InvT-loop
-Inv-loop out₀ file tape v₀ left₀ out v left = (paint (pageOf v out) (escape true (toCome (tapeIn tape file) left)) ≡ paint (pageOf v₀ out₀) (escape true (toCome (tapeIn tape file) left₀))) × (length out ≡ length out₀)
+Inv-loop at desk₀ out₀ file tape a₀ left₀ desk out a left = Ahead a₀ desk₀ out₀ (piece false (toCome (tapeIn tape file) left₀) ∷ []) a desk out (piece false (toCome (tapeIn tape file) left) ∷ []) × (length out ≡ length out₀)
 
 abbrev μ-loop : tie.MeasureT-loop
-μ-loop out₀ file tape v₀ left₀ out v left = length (toCome (tapeIn tape file) left)
+μ-loop at desk₀ out₀ file tape a₀ left₀ desk out a left = length (toCome (tapeIn tape file) left)
 
 of-requires : tie.Need-of-requires Inv-loop μ-loop
 of-requires c κs = search needs
 
 loop-holds : tie.Need-loop-holds Inv-loop μ-loop
-loop-holds c = (refl, refl)
+loop-holds c = (ahead-all _, refl)
 
 next-requires : tie.Need-next-requires Inv-loop μ-loop
 next-requires c κs = search needs

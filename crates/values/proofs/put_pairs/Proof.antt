@@ -1,25 +1,23 @@
 use mathlib.Core.Path.{_≡_, refl}
 use native.Mathlib.Omega.{arith}
 use lib.ListN.{length}
-use Rattle.window.specs.Page.{paint, pageOf}
 use Rattle.tape.specs.File.{tapeIn}
 use Rattle.attrs.specs.Walk.{remaining}
 use Rattle.attrs.proofs.Walks.{next-less}
-use Rattle.tags.specs.Items.{attrsBytes}
-use Rattle.events.specs.Event.{collected}
-use Rattle.values.proofs.Listed.{collected-end, collected-turn}
+use Rattle.values.proofs.Written.{Ahead, ahead-all}
+use Rattle.values.proofs.Listed.{strokesOfPairs, collected-end, collected-turn}
 use borrow.Author.Needs.{needs}
 use Rattle.values.proofs.put_pairs.Statement.{statement}
 use Rattle.values.proofs.put_pairs.Tie as tie
 
 abbrev Inv-loop : tie.InvT-loop
-Inv-loop out₀ file tape marker v₀ left₀ out v left = (paint (pageOf v out) (attrsBytes (collected (remaining (tapeIn tape file) marker left))) ≡ paint (pageOf v₀ out₀) (attrsBytes (collected (remaining (tapeIn tape file) marker left₀)))) × (length out ≡ length out₀)
+Inv-loop at desk₀ out₀ file tape marker a₀ left₀ desk out a left = Ahead a₀ desk₀ out₀ (strokesOfPairs (remaining (tapeIn tape file) marker left₀)) a desk out (strokesOfPairs (remaining (tapeIn tape file) marker left)) × (length out ≡ length out₀)
 
 abbrev μ-loop : tie.MeasureT-loop
-μ-loop out₀ file tape marker v₀ left₀ out v left = length (remaining (tapeIn tape file) marker left)
+μ-loop at desk₀ out₀ file tape marker a₀ left₀ desk out a left = length (remaining (tapeIn tape file) marker left)
 
 loop-holds : tie.Need-loop-holds Inv-loop μ-loop
-loop-holds c = (refl, refl)
+loop-holds c = (ahead-all _, refl)
 
 next-requires : tie.Need-next-requires Inv-loop μ-loop
 next-requires c κs = search needs

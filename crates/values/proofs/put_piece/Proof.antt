@@ -1,29 +1,23 @@
-use Rattle.values.proofs.Written.{piece-quoted}
+use Rattle.desk.proofs.Strokes.{drew-pieces}
 use borrow.Author.Needs.{needs}
 use Rattle.values.proofs.put_piece.Statement.{statement}
 use Rattle.values.proofs.put_piece.Tie as tie
 
-escape-xml-attr-requires : tie.Need-escape-xml-attr-requires
-escape-xml-attr-requires c κs = search needs
+piece-requires : tie.Need-piece-requires
+piece-requires c κs = search needs
 
-slice-aggregate-put-run : tie.Need-slice-aggregate-put-run
-slice-aggregate-put-run c = search needs
+slice-aggregate-piece : tie.Need-slice-aggregate-piece
+slice-aggregate-piece c = search needs
 
-put-run-requires : tie.Need-put-run-requires
-put-run-requires c κs = search needs
+piece-requires-2 : tie.Need-piece-requires-2
+piece-requires-2 c κs = search needs
 
 same-length : tie.Need-same-length
 same-length c = search needs
 
 returns : tie.Need-returns
-returns c = search piece-quoted
+returns c = search drew-pieces
 
 pub put-piece-spec : {M : Type 1} → statement M
 put-piece-spec =
-    tie.close
-    (tie.spec
-    escape-xml-attr-requires
-    slice-aggregate-put-run
-    put-run-requires
-    same-length
-    returns)
+    tie.close (tie.spec piece-requires slice-aggregate-piece piece-requires-2 same-length returns)

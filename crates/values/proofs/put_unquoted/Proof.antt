@@ -1,24 +1,24 @@
 use Prim.Native.Nat.{_-_}
 use mathlib.Core.Path.{_≡_, refl}
-use mathlib.Core.Bool.{true}
+use mathlib.Core.Bool.{false}
+use mathlib.Core.List.{[], _∷_}
 use native.Mathlib.Omega.{arith}
 use lib.ListN.{length, drop}
-use Rattle.chars.specs.Escape.{escape}
-use Rattle.window.specs.Page.{paint, pageOf}
 use Rattle.attrs.specs.Attr.{unquoted}
-use Rattle.values.proofs.Written.{unquoted-last, piece-fits, piece-less, unquoted-turn}
+use Rattle.desk.specs.Stroke.{piece}
+use Rattle.values.proofs.Written.{Ahead, ahead-all, unquoted-last, piece-fits, piece-less, unquoted-turn}
 use borrow.Author.Needs.{needs}
 use Rattle.values.proofs.put_unquoted.Statement.{statement}
 use Rattle.values.proofs.put_unquoted.Tie as tie
 
 abbrev Inv-loop : tie.InvT-loop
-Inv-loop out₀ s v₀ at₀ out v at = (paint (pageOf v out) (escape true (unquoted (drop at s))) ≡ paint (pageOf v₀ out₀) (escape true (unquoted s))) × (length out ≡ length out₀)
+Inv-loop at desk₀ out₀ s a₀ past₀ desk out a past = Ahead a₀ desk₀ out₀ (piece false (unquoted s) ∷ []) a desk out (piece false (unquoted (drop past s)) ∷ []) × (length out ≡ length out₀)
 
 abbrev μ-loop : tie.MeasureT-loop
-μ-loop out₀ s v₀ at₀ out v at = length s - at
+μ-loop at desk₀ out₀ s a₀ past₀ desk out a past = length s - past
 
 loop-holds : tie.Need-loop-holds Inv-loop μ-loop
-loop-holds c = (refl, refl)
+loop-holds c = (ahead-all _, refl)
 
 from-requires : tie.Need-from-requires Inv-loop μ-loop
 from-requires c κs = search needs
@@ -26,8 +26,8 @@ from-requires c κs = search needs
 piece-len-requires : tie.Need-piece-len-requires Inv-loop μ-loop
 piece-len-requires c κs = search needs
 
-escape-xml-attr-requires : tie.Need-escape-xml-attr-requires Inv-loop μ-loop
-escape-xml-attr-requires c κs = search needs
+piece-requires : tie.Need-piece-requires Inv-loop μ-loop
+piece-requires c κs = search needs
 
 same-length : tie.Need-same-length Inv-loop μ-loop
 same-length c = search needs
@@ -41,11 +41,11 @@ part-requires c κs = search needs
 put-piece-requires : tie.Need-put-piece-requires Inv-loop μ-loop
 put-piece-requires c κs = search needs
 
-add-at : tie.Need-add-at Inv-loop μ-loop
-add-at c = let e = c .before .before .before .before .before in omega (arith, piece-fits (e .before .before .before .before .before .before .args .s .now) (e .before .before .before .loop .at) (e .before .before .from .ensures .0) (e .before .piece-len .ensures) (e .if1 .left))
+add-past : tie.Need-add-past Inv-loop μ-loop
+add-past c = let e = c .before .before .before .before .before .before in omega (arith, piece-fits (e .before .before .before .before .before .before .args .s .now) (e .before .before .before .loop .past) (e .before .before .from .ensures .0) (e .before .piece-len .ensures) (e .if1 .left))
 
-add-at-2 : tie.Need-add-at-2 Inv-loop μ-loop
-add-at-2 c = let e = c .before .before .before .before .before in omega (arith, piece-fits (e .before .before .before .before .before .before .args .s .now) (e .before .before .before .loop .at) (e .before .before .from .ensures .0) (e .before .piece-len .ensures) (e .if1 .left))
+add-past-2 : tie.Need-add-past-2 Inv-loop μ-loop
+add-past-2 c = let e = c .before .before .before .before .before .before in omega (arith, piece-fits (e .before .before .before .before .before .before .args .s .now) (e .before .before .before .loop .past) (e .before .before .from .ensures .0) (e .before .piece-len .ensures) (e .if1 .left))
 
 loop-less : tie.Need-loop-less Inv-loop μ-loop
 loop-less c = search piece-less
@@ -62,12 +62,12 @@ put-unquoted-spec =
     loop-holds
     from-requires
     piece-len-requires
-    escape-xml-attr-requires
+    piece-requires
     same-length
     returns
     part-requires
     put-piece-requires
-    add-at
-    add-at-2
+    add-past
+    add-past-2
     loop-less
     loop-again)

@@ -15,8 +15,8 @@ same-length c = search needs
 returns : tie.Need-returns
 returns c = search value-quoted
 
-escape-xml-attr-requires : tie.Need-escape-xml-attr-requires
-escape-xml-attr-requires c κs = search needs
+piece-requires : tie.Need-piece-requires
+piece-requires c κs = search needs
 
 same-length-2 : tie.Need-same-length-2
 same-length-2 c = search needs
@@ -32,6 +32,6 @@ put-value-spec =
     put-unquoted-requires
     same-length
     returns
-    escape-xml-attr-requires
+    piece-requires
     same-length-2
     returns-2)

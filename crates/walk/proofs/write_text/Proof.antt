@@ -2,10 +2,6 @@ use Rattle.walk.proofs.Whole.{new-length, new-buffer}
 use borrow.Author.Needs.{needs}
 use Rattle.walk.proofs.write_text.Statement.{statement}
 use Rattle.walk.proofs.write_text.Tie as tie
-use Rattle.walk.proofs.write_text.Reads as reads
-use Rattle.walk.proofs.write_text.Lts as lts
-use Rattle.desk.proofs.new_desk.Reads as new-desk-reads
-use Rattle.walk.proofs.write_on.Reads as write-on-reads
 
 -- src/lib.rt:73:20
 new-desk-requires : tie.Need-new-desk-requires

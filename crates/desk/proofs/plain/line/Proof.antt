@@ -1,4 +1,4 @@
-use Rattle.desk.proofs.Idents.{line-bytes}
+use Rattle.desk.proofs.Shown.{line-bytes}
 use Rattle.desk.proofs.Chains.{desk-item}
 use borrow.Author.Needs.{needs}
 use Rattle.desk.proofs.plain.line.Statement.{statement}

@@ -4,7 +4,7 @@ use borrow.Author.Needs.{needs}
 use lib.ListN.{length}
 use Rattle.window.specs.Page.{paint, pageOf}
 use Rattle.desk.specs.Desk.{indent}
-use Rattle.desk.proofs.Idents.{indent-turn, indent-end}
+use Rattle.desk.proofs.Shown.{indent-turn, indent-end}
 use Rattle.desk.proofs.plain.put_indent.Statement.{statement}
 use Rattle.desk.proofs.plain.put_indent.Tie as tie
 

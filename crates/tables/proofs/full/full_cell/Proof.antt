@@ -9,11 +9,8 @@ open-cell-requires c κs = search needs
 inside-requires : tie.Need-inside-requires
 inside-requires c κs = search needs
 
-slice-aggregate-literal : tie.Need-slice-aggregate-literal
-slice-aggregate-literal c = search needs
-
-literal-requires : tie.Need-literal-requires
-literal-requires c κs = search needs
+close-tag-requires : tie.Need-close-tag-requires
+close-tag-requires c κs = search needs
 
 same-length : tie.Need-same-length
 same-length c = search needs
@@ -23,11 +20,4 @@ returns c = search cell-full
 
 pub full-cell-spec : {M : Type 1} → statement M
 full-cell-spec =
-    tie.close
-    (tie.spec
-    open-cell-requires
-    inside-requires
-    slice-aggregate-literal
-    literal-requires
-    same-length
-    returns)
+    tie.close (tie.spec open-cell-requires inside-requires close-tag-requires same-length returns)

@@ -9,20 +9,17 @@ link-of-requires c κs = search needs
 enum-told : tie.Need-enum-told
 enum-told c = search needs
 
-slice-aggregate-literal : tie.Need-slice-aggregate-literal
-slice-aggregate-literal c = search needs
-
-literal-requires : tie.Need-literal-requires
-literal-requires c κs = search needs
+close-char-requires : tie.Need-close-char-requires
+close-char-requires c κs = search needs
 
 enum-told-2 : tie.Need-enum-told-2
 enum-told-2 c = search needs
 
-slice-aggregate-literal-2 : tie.Need-slice-aggregate-literal-2
-slice-aggregate-literal-2 c = search needs
+close-tag-requires : tie.Need-close-tag-requires
+close-tag-requires c κs = search needs
 
-literal-requires-2 : tie.Need-literal-requires-2
-literal-requires-2 c κs = search needs
+close-char-requires-2 : tie.Need-close-char-requires-2
+close-char-requires-2 c κs = search needs
 
 same-length : tie.Need-same-length
 same-length c = search needs
@@ -42,11 +39,10 @@ close-char-spec =
     (tie.spec
     link-of-requires
     enum-told
-    slice-aggregate-literal
-    literal-requires
+    close-char-requires
     enum-told-2
-    slice-aggregate-literal-2
-    literal-requires-2
+    close-tag-requires
+    close-char-requires-2
     same-length
     returns
     same-length-2

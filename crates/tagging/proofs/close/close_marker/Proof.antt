@@ -1,4 +1,4 @@
-use Rattle.tagging.proofs.Closes.{block-end, inline-end, figure-end, ref-end, note-end, char-end, para-end, unwritten-end, id-end, ms-end}
+use Rattle.tagging.proofs.Closes.{block-end, inline-end, unwritten-end, figure-end, ref-end, id-end, note-end, ms-end, char-end, para-end}
 use borrow.Author.Needs.{needs}
 use Rattle.tagging.proofs.close.close_marker.Statement.{statement}
 use Rattle.tagging.proofs.close.close_marker.Tie as tie
@@ -6,20 +6,14 @@ use Rattle.tagging.proofs.close.close_marker.Tie as tie
 enum-told : tie.Need-enum-told
 enum-told c = search needs
 
-slice-aggregate-literal : tie.Need-slice-aggregate-literal
-slice-aggregate-literal c = search needs
-
-literal-requires : tie.Need-literal-requires
-literal-requires c κs = search needs
+close-para-requires : tie.Need-close-para-requires
+close-para-requires c κs = search needs
 
 enum-told-2 : tie.Need-enum-told-2
 enum-told-2 c = search needs
 
-slice-aggregate-literal-2 : tie.Need-slice-aggregate-literal-2
-slice-aggregate-literal-2 c = search needs
-
-literal-requires-2 : tie.Need-literal-requires-2
-literal-requires-2 c κs = search needs
+close-char-requires : tie.Need-close-char-requires
+close-char-requires c κs = search needs
 
 enum-told-3 : tie.Need-enum-told-3
 enum-told-3 c = search needs
@@ -27,20 +21,14 @@ enum-told-3 c = search needs
 enum-told-4 : tie.Need-enum-told-4
 enum-told-4 c = search needs
 
-slice-aggregate-literal-3 : tie.Need-slice-aggregate-literal-3
-slice-aggregate-literal-3 c = search needs
-
-literal-requires-3 : tie.Need-literal-requires-3
-literal-requires-3 c κs = search needs
+close-tag-requires : tie.Need-close-tag-requires
+close-tag-requires c κs = search needs
 
 enum-told-5 : tie.Need-enum-told-5
 enum-told-5 c = search needs
 
-slice-aggregate-literal-4 : tie.Need-slice-aggregate-literal-4
-slice-aggregate-literal-4 c = search needs
-
-literal-requires-4 : tie.Need-literal-requires-4
-literal-requires-4 c κs = search needs
+close-tag-requires-2 : tie.Need-close-tag-requires-2
+close-tag-requires-2 c κs = search needs
 
 enum-told-6 : tie.Need-enum-told-6
 enum-told-6 c = search needs
@@ -48,11 +36,8 @@ enum-told-6 c = search needs
 enum-told-7 : tie.Need-enum-told-7
 enum-told-7 c = search needs
 
-slice-aggregate-literal-5 : tie.Need-slice-aggregate-literal-5
-slice-aggregate-literal-5 c = search needs
-
-literal-requires-5 : tie.Need-literal-requires-5
-literal-requires-5 c κs = search needs
+close-tag-requires-3 : tie.Need-close-tag-requires-3
+close-tag-requires-3 c κs = search needs
 
 enum-told-8 : tie.Need-enum-told-8
 enum-told-8 c = search needs
@@ -60,17 +45,14 @@ enum-told-8 c = search needs
 enum-told-9 : tie.Need-enum-told-9
 enum-told-9 c = search needs
 
-close-char-requires : tie.Need-close-char-requires
-close-char-requires c κs = search needs
+close-char-requires-2 : tie.Need-close-char-requires-2
+close-char-requires-2 c κs = search needs
 
 enum-told-10 : tie.Need-enum-told-10
 enum-told-10 c = search needs
 
-slice-aggregate-literal-6 : tie.Need-slice-aggregate-literal-6
-slice-aggregate-literal-6 c = search needs
-
-literal-requires-6 : tie.Need-literal-requires-6
-literal-requires-6 c κs = search needs
+close-para-requires-2 : tie.Need-close-para-requires-2
+close-para-requires-2 c κs = search needs
 
 same-length : tie.Need-same-length
 same-length c = search needs
@@ -128,28 +110,22 @@ close-marker-spec =
     tie.close
     (tie.spec
     enum-told
-    slice-aggregate-literal
-    literal-requires
+    close-para-requires
     enum-told-2
-    slice-aggregate-literal-2
-    literal-requires-2
+    close-char-requires
     enum-told-3
     enum-told-4
-    slice-aggregate-literal-3
-    literal-requires-3
+    close-tag-requires
     enum-told-5
-    slice-aggregate-literal-4
-    literal-requires-4
+    close-tag-requires-2
     enum-told-6
     enum-told-7
-    slice-aggregate-literal-5
-    literal-requires-5
+    close-tag-requires-3
     enum-told-8
     enum-told-9
-    close-char-requires
+    close-char-requires-2
     enum-told-10
-    slice-aggregate-literal-6
-    literal-requires-6
+    close-para-requires-2
     same-length
     returns
     same-length-2

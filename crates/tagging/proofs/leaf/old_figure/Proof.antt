@@ -12,9 +12,6 @@ enum-told c = search needs
 enum-known-a : tie.Need-enum-known-a
 enum-known-a c = search needs
 
-element-copy-out-t13 : tie.Need-element-copy-out-t13
-element-copy-out-t13 c = search needs
-
 put-old-requires : tie.Need-put-old-requires
 put-old-requires c κs = search needs
 
@@ -34,7 +31,6 @@ old-figure-spec =
     legacy-requires
     enum-told
     enum-known-a
-    element-copy-out-t13
     put-old-requires
     returns
     same-length

@@ -1,7 +1,10 @@
-use Rattle.tagging.proofs.Leaves.{caption-put}
+use Rattle.tagging.proofs.Leaves.{caption-drawn}
 use borrow.Author.Needs.{needs}
 use Rattle.tagging.proofs.leaf.put_caption.Statement.{statement}
 use Rattle.tagging.proofs.leaf.put_caption.Tie as tie
+
+element-copy-out-t10 : tie.Need-element-copy-out-t10
+element-copy-out-t10 c = search needs
 
 field-requires : tie.Need-field-requires
 field-requires c κs = search needs
@@ -9,25 +12,22 @@ field-requires c κs = search needs
 escape-xml-requires : tie.Need-escape-xml-requires
 escape-xml-requires c κs = search needs
 
-slice-aggregate-put-run : tie.Need-slice-aggregate-put-run
-slice-aggregate-put-run c = search needs
-
-put-run-requires : tie.Need-put-run-requires
-put-run-requires c κs = search needs
+close-tag-requires : tie.Need-close-tag-requires
+close-tag-requires c κs = search needs
 
 same-length : tie.Need-same-length
 same-length c = search needs
 
 returns : tie.Need-returns
-returns c = search caption-put
+returns c = search caption-drawn
 
 pub put-caption-spec : {M : Type 1} → statement M
 put-caption-spec =
     tie.close
     (tie.spec
+    element-copy-out-t10
     field-requires
     escape-xml-requires
-    slice-aggregate-put-run
-    put-run-requires
+    close-tag-requires
     same-length
     returns)

@@ -1,37 +1,33 @@
-use Rattle.tagging.proofs.Leaves.{ms-put}
+use Rattle.tagging.proofs.Leaves.{ms-drawn}
 use borrow.Author.Needs.{needs}
 use Rattle.tagging.proofs.leaf.put_ms.Statement.{statement}
 use Rattle.tagging.proofs.leaf.put_ms.Tie as tie
 
-slice-aggregate-put-style : tie.Need-slice-aggregate-put-style
-slice-aggregate-put-style c = search needs
+open-named-requires : tie.Need-open-named-requires
+open-named-requires c κs = search needs
 
-put-style-requires : tie.Need-put-style-requires
-put-style-requires c κs = search needs
+marker-name-requires : tie.Need-marker-name-requires
+marker-name-requires c κs = search needs
 
 put-collected-requires : tie.Need-put-collected-requires
 put-collected-requires c κs = search needs
 
-slice-aggregate-put-run : tie.Need-slice-aggregate-put-run
-slice-aggregate-put-run c = search needs
-
-put-run-requires : tie.Need-put-run-requires
-put-run-requires c κs = search needs
+shut-tag-requires : tie.Need-shut-tag-requires
+shut-tag-requires c κs = search needs
 
 same-length : tie.Need-same-length
 same-length c = search needs
 
 returns : tie.Need-returns
-returns c = search ms-put
+returns c = search ms-drawn
 
 pub put-ms-spec : {M : Type 1} → statement M
 put-ms-spec =
     tie.close
     (tie.spec
-    slice-aggregate-put-style
-    put-style-requires
+    open-named-requires
+    marker-name-requires
     put-collected-requires
-    slice-aggregate-put-run
-    put-run-requires
+    shut-tag-requires
     same-length
     returns)

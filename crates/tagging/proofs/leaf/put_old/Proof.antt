@@ -1,4 +1,4 @@
-use Rattle.tagging.proofs.Leaves.{items-put}
+use Rattle.tagging.proofs.Leaves.{items-drawn}
 use borrow.Author.Needs.{needs}
 use Rattle.tagging.proofs.leaf.put_old.Statement.{statement}
 use Rattle.tagging.proofs.leaf.put_old.Tie as tie
@@ -13,7 +13,7 @@ same-length : tie.Need-same-length
 same-length c = search needs
 
 returns : tie.Need-returns
-returns c = search items-put
+returns c = search items-drawn
 
 pub put-old-spec : {M : Type 1} → statement M
 put-old-spec = tie.close (tie.spec put-fields-requires put-caption-requires same-length returns)

@@ -33,12 +33,6 @@ enum-told-7 c = search needs
 enum-told-8 : tie.Need-enum-told-8
 enum-told-8 c = search needs
 
-element-copy-out-t20 : tie.Need-element-copy-out-t20
-element-copy-out-t20 c = search needs
-
-marker-name-requires : tie.Need-marker-name-requires
-marker-name-requires c κs = search needs
-
 put-ms-requires : tie.Need-put-ms-requires
 put-ms-requires c κs = search needs
 
@@ -48,14 +42,8 @@ enum-told-9 c = search needs
 enum-told-10 : tie.Need-enum-told-10
 enum-told-10 c = search needs
 
-slice-aggregate-named : tie.Need-slice-aggregate-named
-slice-aggregate-named c = search needs
-
-slice-aggregate-named-2 : tie.Need-slice-aggregate-named-2
-slice-aggregate-named-2 c = search needs
-
-named-requires : tie.Need-named-requires
-named-requires c κs = search needs
+put-empty-requires : tie.Need-put-empty-requires
+put-empty-requires c κs = search needs
 
 returns : tie.Need-returns
 returns c = search block-leaf
@@ -113,14 +101,10 @@ write-leaf-spec =
     book-requires
     enum-told-7
     enum-told-8
-    element-copy-out-t20
-    marker-name-requires
     put-ms-requires
     enum-told-9
     enum-told-10
-    slice-aggregate-named
-    slice-aggregate-named-2
-    named-requires
+    put-empty-requires
     returns
     returns-2
     returns-3

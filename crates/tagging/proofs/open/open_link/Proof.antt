@@ -6,17 +6,11 @@ use Rattle.tagging.proofs.open.open_link.Tie as tie
 enum-told : tie.Need-enum-told
 enum-told c = search needs
 
-enum-known-link : tie.Need-enum-known-link
-enum-known-link c = search needs
+enum-told-2 : tie.Need-enum-told-2
+enum-told-2 c = search needs
 
-element-copy-out-t12 : tie.Need-element-copy-out-t12
-element-copy-out-t12 c = search needs
-
-source-requires : tie.Need-source-requires
-source-requires c κs = search needs
-
-put-link-requires : tie.Need-put-link-requires
-put-link-requires c κs = search needs
+put-ref-requires : tie.Need-put-ref-requires
+put-ref-requires c κs = search needs
 
 returns : tie.Need-returns
 returns c = search link-shut
@@ -29,13 +23,4 @@ returns-2 c = search link-opened
 
 pub open-link-spec : {M : Type 1} → statement M
 open-link-spec =
-    tie.close
-    (tie.spec
-    enum-told
-    enum-known-link
-    element-copy-out-t12
-    source-requires
-    put-link-requires
-    returns
-    same-length
-    returns-2)
+    tie.close (tie.spec enum-told enum-told-2 put-ref-requires returns same-length returns-2)

@@ -1,4 +1,4 @@
-use Rattle.tagging.proofs.Opens.{block-marker, inline-marker, figure-marker, ref-marker, note-marker, char-marker, para-marker, unwritten-marker, id-marker, ms-marker}
+use Rattle.tagging.proofs.Opens.{block-marker, inline-marker, unwritten-marker, figure-marker, ref-marker, id-marker, note-marker, ms-marker, char-marker, para-marker}
 use borrow.Author.Needs.{needs}
 use Rattle.tagging.proofs.open.open_marker.Statement.{statement}
 use Rattle.tagging.proofs.open.open_marker.Tie as tie
@@ -6,20 +6,14 @@ use Rattle.tagging.proofs.open.open_marker.Tie as tie
 enum-told : tie.Need-enum-told
 enum-told c = search needs
 
-slice-aggregate-unknown : tie.Need-slice-aggregate-unknown
-slice-aggregate-unknown c = search needs
-
-unknown-requires : tie.Need-unknown-requires
-unknown-requires c κs = search needs
+put-unknown-requires : tie.Need-put-unknown-requires
+put-unknown-requires c κs = search needs
 
 enum-told-2 : tie.Need-enum-told-2
 enum-told-2 c = search needs
 
-slice-aggregate-unknown-2 : tie.Need-slice-aggregate-unknown-2
-slice-aggregate-unknown-2 c = search needs
-
-unknown-requires-2 : tie.Need-unknown-requires-2
-unknown-requires-2 c κs = search needs
+put-unknown-requires-2 : tie.Need-put-unknown-requires-2
+put-unknown-requires-2 c κs = search needs
 
 enum-told-3 : tie.Need-enum-told-3
 enum-told-3 c = search needs
@@ -27,17 +21,20 @@ enum-told-3 c = search needs
 enum-told-4 : tie.Need-enum-told-4
 enum-told-4 c = search needs
 
-element-copy-out-t29 : tie.Need-element-copy-out-t29
-element-copy-out-t29 c = search needs
-
 put-figure-requires : tie.Need-put-figure-requires
 put-figure-requires c κs = search needs
 
 enum-told-5 : tie.Need-enum-told-5
 enum-told-5 c = search needs
 
-element-copy-out-t35 : tie.Need-element-copy-out-t35
-element-copy-out-t35 c = search needs
+slice-aggregate-first-with : tie.Need-slice-aggregate-first-with
+slice-aggregate-first-with c = search needs
+
+slice-aggregate-first-with-2 : tie.Need-slice-aggregate-first-with-2
+slice-aggregate-first-with-2 c = search needs
+
+first-with-requires : tie.Need-first-with-requires
+first-with-requires c κs = search needs
 
 put-ref-requires : tie.Need-put-ref-requires
 put-ref-requires c κs = search needs
@@ -48,12 +45,6 @@ enum-told-6 c = search needs
 enum-told-7 : tie.Need-enum-told-7
 enum-told-7 c = search needs
 
-element-copy-out-t41 : tie.Need-element-copy-out-t41
-element-copy-out-t41 c = search needs
-
-marker-name-requires : tie.Need-marker-name-requires
-marker-name-requires c κs = search needs
-
 put-note-requires : tie.Need-put-note-requires
 put-note-requires c κs = search needs
 
@@ -63,20 +54,14 @@ enum-told-8 c = search needs
 enum-told-9 : tie.Need-enum-told-9
 enum-told-9 c = search needs
 
-open-char-linked-requires : tie.Need-open-char-linked-requires
-open-char-linked-requires c κs = search needs
+open-char-requires : tie.Need-open-char-requires
+open-char-requires c κs = search needs
 
 enum-told-10 : tie.Need-enum-told-10
 enum-told-10 c = search needs
 
-slice-aggregate-named : tie.Need-slice-aggregate-named
-slice-aggregate-named c = search needs
-
-slice-aggregate-named-2 : tie.Need-slice-aggregate-named-2
-slice-aggregate-named-2 c = search needs
-
-named-requires : tie.Need-named-requires
-named-requires c κs = search needs
+put-para-requires : tie.Need-put-para-requires
+put-para-requires c κs = search needs
 
 same-length : tie.Need-same-length
 same-length c = search needs
@@ -134,30 +119,25 @@ open-marker-spec =
     tie.close
     (tie.spec
     enum-told
-    slice-aggregate-unknown
-    unknown-requires
+    put-unknown-requires
     enum-told-2
-    slice-aggregate-unknown-2
-    unknown-requires-2
+    put-unknown-requires-2
     enum-told-3
     enum-told-4
-    element-copy-out-t29
     put-figure-requires
     enum-told-5
-    element-copy-out-t35
+    slice-aggregate-first-with
+    slice-aggregate-first-with-2
+    first-with-requires
     put-ref-requires
     enum-told-6
     enum-told-7
-    element-copy-out-t41
-    marker-name-requires
     put-note-requires
     enum-told-8
     enum-told-9
-    open-char-linked-requires
+    open-char-requires
     enum-told-10
-    slice-aggregate-named
-    slice-aggregate-named-2
-    named-requires
+    put-para-requires
     same-length
     returns
     same-length-2

@@ -1,4 +1,4 @@
-use Rattle.tagging.proofs.Opens.{note-put}
+use Rattle.tagging.proofs.Opens.{note-drawn}
 use borrow.Author.Needs.{needs}
 use Rattle.tagging.proofs.open.put_note.Statement.{statement}
 use Rattle.tagging.proofs.open.put_note.Tie as tie
@@ -9,23 +9,23 @@ slice-aggregate-note-caller c = search needs
 note-caller-requires : tie.Need-note-caller-requires
 note-caller-requires c κs = search needs
 
+marker-name-requires : tie.Need-marker-name-requires
+marker-name-requires c κs = search needs
+
 put-note-head-requires : tie.Need-put-note-head-requires
 put-note-head-requires c κs = search needs
 
 put-category-requires : tie.Need-put-category-requires
 put-category-requires c κs = search needs
 
-slice-aggregate-put-run : tie.Need-slice-aggregate-put-run
-slice-aggregate-put-run c = search needs
-
-put-run-requires : tie.Need-put-run-requires
-put-run-requires c κs = search needs
+end-tag-requires : tie.Need-end-tag-requires
+end-tag-requires c κs = search needs
 
 same-length : tie.Need-same-length
 same-length c = search needs
 
 returns : tie.Need-returns
-returns c = search note-put
+returns c = search note-drawn
 
 pub put-note-spec : {M : Type 1} → statement M
 put-note-spec =
@@ -33,9 +33,9 @@ put-note-spec =
     (tie.spec
     slice-aggregate-note-caller
     note-caller-requires
+    marker-name-requires
     put-note-head-requires
     put-category-requires
-    slice-aggregate-put-run
-    put-run-requires
+    end-tag-requires
     same-length
     returns)

@@ -1,37 +1,37 @@
-use Rattle.desk.proofs.Chains.{paint-three}
+use Rattle.tagging.proofs.Opens.{note-front}
 use borrow.Author.Needs.{needs}
 use Rattle.tagging.proofs.open.put_note_head.Statement.{statement}
 use Rattle.tagging.proofs.open.put_note_head.Tie as tie
 
-slice-aggregate-put-run : tie.Need-slice-aggregate-put-run
-slice-aggregate-put-run c = search needs
+open-tag-requires : tie.Need-open-tag-requires
+open-tag-requires c κs = search needs
 
-put-run-requires : tie.Need-put-run-requires
-put-run-requires c κs = search needs
+slice-aggregate-attr : tie.Need-slice-aggregate-attr
+slice-aggregate-attr c = search needs
 
-escape-xml-attr-requires : tie.Need-escape-xml-attr-requires
-escape-xml-attr-requires c κs = search needs
+attr-requires : tie.Need-attr-requires
+attr-requires c κs = search needs
 
-slice-aggregate-put-style : tie.Need-slice-aggregate-put-style
-slice-aggregate-put-style c = search needs
+slice-aggregate-attr-2 : tie.Need-slice-aggregate-attr-2
+slice-aggregate-attr-2 c = search needs
 
-put-style-requires : tie.Need-put-style-requires
-put-style-requires c κs = search needs
+attr-requires-2 : tie.Need-attr-requires-2
+attr-requires-2 c κs = search needs
 
 same-length : tie.Need-same-length
 same-length c = search needs
 
 returns : tie.Need-returns
-returns c = search paint-three
+returns c = search note-front
 
 pub put-note-head-spec : {M : Type 1} → statement M
 put-note-head-spec =
     tie.close
     (tie.spec
-    slice-aggregate-put-run
-    put-run-requires
-    escape-xml-attr-requires
-    slice-aggregate-put-style
-    put-style-requires
+    open-tag-requires
+    slice-aggregate-attr
+    attr-requires
+    slice-aggregate-attr-2
+    attr-requires-2
     same-length
     returns)

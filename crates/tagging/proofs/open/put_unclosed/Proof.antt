@@ -6,11 +6,14 @@ use Rattle.tagging.proofs.open.put_unclosed.Tie as tie
 ends-synthetic-requires : tie.Need-ends-synthetic-requires
 ends-synthetic-requires c κs = search needs
 
-slice-aggregate-put-run : tie.Need-slice-aggregate-put-run
-slice-aggregate-put-run c = search needs
+slice-aggregate-attr : tie.Need-slice-aggregate-attr
+slice-aggregate-attr c = search needs
 
-put-run-requires : tie.Need-put-run-requires
-put-run-requires c κs = search needs
+slice-aggregate-attr-2 : tie.Need-slice-aggregate-attr-2
+slice-aggregate-attr-2 c = search needs
+
+attr-requires : tie.Need-attr-requires
+attr-requires c κs = search needs
 
 same-length : tie.Need-same-length
 same-length c = search needs
@@ -26,8 +29,9 @@ put-unclosed-spec =
     tie.close
     (tie.spec
     ends-synthetic-requires
-    slice-aggregate-put-run
-    put-run-requires
+    slice-aggregate-attr
+    slice-aggregate-attr-2
+    attr-requires
     same-length
     returns
     returns-2)

@@ -1,0 +1,152 @@
+-- Strokes on a desk: from the runs that make one, in a row, and as items.
+use mathlib.Core.Path.{_≡_, refl, sym, ap, _∙_}
+use mathlib.Core.Bool.{Bool, true, false}
+use mathlib.Core.List.{List, [], _∷_, _++_, append-assoc, append-nil}
+use Prim.Native.Nat.{ℕ}
+use lib.ListN.{getD}
+use Rattle.parts.specs.Bytes.{Bytes, b}
+use Rattle.chars.specs.Decimal.{decimal}
+use Rattle.chars.proofs.Escapes.{escape-append}
+use Rattle.window.specs.Page.{Page, pageOf, paint}
+use Rattle.window.specs.declared.Window.{Window}
+use Rattle.window.proofs.Paint.{paint-append}
+use Rattle.tags.specs.Names.{nameOf}
+use Rattle.tags.specs.Items.{Attr, Item, start, empty, close, text, line, valueOf, attrBytes, attrsBytes, bytesOf, render}
+use Rattle.events.specs.Event.{item}
+use Rattle.events.specs.Emit.{Desk, emit}
+use Rattle.desk.specs.Desk.{deskOf, putOn, shownAs}
+use Rattle.desk.specs.Named.{numberOf}
+use Rattle.desk.specs.declared.stroke.Element.{Element}
+use Rattle.desk.specs.Stroke.{Stroke, opens, key, piece, endValue, ends, shuts, closes, strokesOfAttr, strokesOfAttrs, strokesOf, strokesOfAll, ink, inkAll, strokes, Drew}
+use Rattle.desk.proofs.Chains.{paint-three, paint-four, desk-on, item-on}
+use Rattle.desk.proofs.Shown.{shown-decimal}
+
+-- ---- strokes in a row
+
+pub ink-append : (x y : List Stroke) → inkAll (x ++ y) ≡ inkAll x ++ inkAll y
+unfolding inkAll
+ink-append [] y = refl
+ink-append (s ∷ x) y = ap (λ (z : Bytes). ink s ++ z) (ink-append x y) ∙ sym (append-assoc (ink s) (inkAll x) (inkAll y))
+
+pub strokes-append : (w : Desk) (x y : List Stroke) → strokes w (x ++ y) ≡ strokes (strokes w x) y
+unfolding strokes putOn
+strokes-append w x y =
+    ap (λ (z : Bytes). record { page = paint (w .page) z; state = w .state }) (ink-append x y)
+    ∙ ap (λ (p : Page). record { page = p; state = w .state }) (sym (paint-append (w .page) (inkAll x) (inkAll y)))
+
+module _ {at at₁ at₂ : ℕ} (d d₁ d₂ : List ℕ) {out out₁ out₂ : Bytes} where
+  pub drew-two : {x y : List Stroke} → Drew at d out x at₁ d₁ out₁ → Drew at₁ d₁ out₁ y at₂ d₂ out₂ → Drew at d out (x ++ y) at₂ d₂ out₂
+  drew-two {x} {y} e f = record { on = λ source. f .on source ∙ ap (λ (w : Desk). strokes w y) (e .on source) ∙ sym (strokes-append (deskOf source at d out) x y) }
+
+-- ---- from bytes
+
+-- bytes through the window of a desk are a row of strokes
+pub drew-run : (at : ℕ) {v : Window} (d : List ℕ) (out : Bytes) {last : Bytes} (ss : List Stroke) {x : Bytes} → x ≡ inkAll ss
+    → pageOf v last ≡ paint (record { at = at; from = getD d 0 0; buf = out }) x → Drew at d out ss (v .at) d last
+unfolding strokes
+drew-run at d out ss {x} ex ev = record { on = λ source. desk-on at d out x ev source ∙ ap (putOn (deskOf source at d out)) ex }
+
+pub drew-one : (at : ℕ) {v : Window} (d : List ℕ) (out : Bytes) {last : Bytes} (s : Stroke)
+    → pageOf v last ≡ paint (record { at = at; from = getD d 0 0; buf = out }) (ink s) → Drew at d out (s ∷ []) (v .at) d last
+unfolding inkAll
+drew-one at d out s ev = drew-run at d out (s ∷ []) (sym (append-nil (ink s))) ev
+
+-- the name of an element
+module _ (k : Element) (p : Page) {q : Page} {e : Element} (h : e ≡ k) where
+  pub open-by : q ≡ paint p (ink (opens (numberOf k))) → q ≡ paint p (ink (opens (numberOf e)))
+  open-by eq = eq ∙ ap (λ (x : Element). paint p (ink (opens (numberOf x)))) (sym h)
+
+  pub close-by : q ≡ paint p (ink (closes (numberOf k))) → q ≡ paint p (ink (closes (numberOf e)))
+  close-by eq = eq ∙ ap (λ (x : Element). paint p (ink (closes (numberOf x)))) (sym h)
+
+-- a key from its runs
+pub key-bytes : (p : Page) {q r s : Page} (k : Bytes) → q ≡ paint p (b " ") → r ≡ paint q k → s ≡ paint r (b "=\"") → s ≡ paint p (ink (key k))
+unfolding ink
+key-bytes p k e₁ e₂ e₃ = paint-three p (b " ") k (b "=\"") e₁ e₂ e₃
+
+-- a piece of a value as it is shown
+pub piece-bytes : (p : Page) {q : Page} (raw : Bool) (s : Bytes) → q ≡ paint p (shownAs raw s) → q ≡ paint p (ink (piece raw s))
+unfolding ink shownAs
+piece-bytes p raw s e = e
+
+-- digits are written as they are, raw or escaped
+pub digits-bytes : (p : Page) {q : Page} (raw : Bool) (n : ℕ) → q ≡ paint p (decimal n) → q ≡ paint p (ink (piece raw (decimal n)))
+digits-bytes p raw n e = piece-bytes p raw (decimal n) (e ∙ ap (paint p) (sym (shown-decimal raw n)))
+
+-- a front of a tag and its style from their runs
+pub styled-bytes : (p : Page) {q r s t : Page} (n : ℕ) (v : Bytes) → q ≡ paint p (ink (opens n)) → r ≡ paint q (b " style=\"") → s ≡ paint r v → t ≡ paint s (b "\"")
+    → t ≡ paint p (inkAll (opens n ∷ key (b "style") ∷ piece true v ∷ endValue ∷ []))
+unfolding ink inkAll
+styled-bytes p n v e₁ e₂ e₃ e₄ = paint-four p (ink (opens n)) (b " style=\"") v (b "\"") e₁ e₂ e₃ e₄
+
+pub drew-styled : (at : ℕ) {w v u z : Window} (d : List ℕ) (out : Bytes) {o₁ o₂ o₃ last : Bytes} (n : ℕ) (s : Bytes)
+    → pageOf w o₁ ≡ paint (record { at = at; from = getD d 0 0; buf = out }) (ink (opens n)) → pageOf v o₂ ≡ paint (pageOf w o₁) (b " style=\"") → pageOf u o₃ ≡ paint (pageOf v o₂) s → pageOf z last ≡ paint (pageOf u o₃) (b "\"")
+    → Drew at d out (opens n ∷ key (b "style") ∷ piece true s ∷ endValue ∷ []) (z .at) d last
+drew-styled at d out n s e₁ e₂ e₃ e₄ = drew-run at d out _ refl (styled-bytes _ n s e₁ e₂ e₃ e₄)
+
+-- an attribute from its strokes
+pub drew-attr : {at a z r : ℕ} (d d₁ d₂ d₃ : List ℕ) {out o₁ o₂ last : Bytes} (k : Bytes) (raw : Bool) (v : Bytes)
+    → Drew at d out (key k ∷ []) a d₁ o₁ → Drew a d₁ o₁ (piece raw v ∷ []) z d₂ o₂ → Drew z d₂ o₂ (endValue ∷ []) r d₃ last → Drew at d out (key k ∷ piece raw v ∷ endValue ∷ []) r d₃ last
+drew-attr d d₁ d₂ d₃ k raw v e₁ e₂ e₃ = drew-two d d₁ d₃ e₁ (drew-two d₁ d₂ d₃ e₂ e₃)
+
+-- ---- items
+
+ink-attr : (a : Attr) → inkAll (strokesOfAttr a) ≡ attrBytes a
+unfolding inkAll ink strokesOfAttr attrBytes valueOf
+ink-attr a = ap (λ (z : Bytes). 32 ∷ z) (append-assoc (a .key) (b "=\"") (valueOf a ++ b "\""))
+
+pub ink-attrs : (qs : List Attr) → inkAll (strokesOfAttrs qs) ≡ attrsBytes qs
+unfolding inkAll strokesOfAttrs attrsBytes
+ink-attrs [] = refl
+ink-attrs (a ∷ qs) =
+    ink-append (strokesOfAttr a) (strokesOfAttrs qs)
+    ∙ ap (λ (z : Bytes). inkAll (strokesOfAttr a) ++ z) (ink-attrs qs)
+    ∙ ap (λ (z : Bytes). z ++ attrsBytes qs) (ink-attr a)
+
+-- the bytes of an item are those of its strokes
+pub ink-item : (i : Item) → inkAll (strokesOf i) ≡ bytesOf i
+unfolding inkAll ink strokesOf bytesOf
+ink-item (start n qs) = ap (λ (z : Bytes). 60 ∷ (nameOf n ++ z)) (ink-append (strokesOfAttrs qs) (ends ∷ []) ∙ ap (λ (z : Bytes). z ++ b ">") (ink-attrs qs))
+ink-item (empty n qs) = ap (λ (z : Bytes). 60 ∷ (nameOf n ++ z)) (ink-append (strokesOfAttrs qs) (shuts ∷ []) ∙ ap (λ (z : Bytes). z ++ b " />") (ink-attrs qs))
+ink-item (close n) = append-nil _
+ink-item (text t) = append-nil _
+ink-item (line d) = append-nil _
+
+-- items in a row
+pub ink-items : (is : List Item) → inkAll (strokesOfAll is) ≡ render is
+unfolding inkAll strokesOfAll render
+ink-items [] = refl
+ink-items (i ∷ is) = ink-append (strokesOf i) (strokesOfAll is) ∙ ap (λ (z : Bytes). inkAll (strokesOf i) ++ z) (ink-items is) ∙ ap (λ (z : Bytes). z ++ render is) (ink-item i)
+
+pub strokes-item : (w : Desk) (i : Item) → strokes w (strokesOf i) ≡ emit w (item i)
+unfolding strokes
+strokes-item w i = ap (putOn w) (ink-item i) ∙ item-on w i
+
+-- strokes that are an item's
+pub drew-item : {at r : ℕ} (d last-d : List ℕ) {out last : Bytes} (i : Item) → Drew at d out (strokesOf i) r last-d last
+    → (source : Bytes) → deskOf source r last-d last ≡ emit (deskOf source at d out) (item i)
+drew-item {at} d last-d {out} i e source = e .on source ∙ strokes-item (deskOf source at d out) i
+
+-- ---- attributes
+
+pub attrs-append : (x y : List Attr) → strokesOfAttrs (x ++ y) ≡ strokesOfAttrs x ++ strokesOfAttrs y
+unfolding strokesOfAttrs
+attrs-append [] y = refl
+attrs-append (a ∷ x) y = ap (λ (z : List Stroke). strokesOfAttr a ++ z) (attrs-append x y) ∙ sym (append-assoc (strokesOfAttr a) (strokesOfAttrs x) (strokesOfAttrs y))
+
+-- ---- pieces of one value
+
+pub ink-pieces : (raw : Bool) (s t : Bytes) → ink (piece raw s) ++ ink (piece raw t) ≡ ink (piece raw (s ++ t))
+unfolding ink
+ink-pieces true s t = refl
+ink-pieces false s t = sym (escape-append true s t)
+
+pub drew-pieces : {at a r : ℕ} (d d₁ d₂ : List ℕ) {out o₁ last : Bytes} (raw : Bool) (s t : Bytes) → Drew at d out (piece raw s ∷ []) a d₁ o₁ → Drew a d₁ o₁ (piece raw t ∷ []) r d₂ last
+    → Drew at d out (piece raw (s ++ t) ∷ []) r d₂ last
+unfolding strokes inkAll
+drew-pieces {at} d d₁ d₂ {out} raw s t e f =
+    record {
+      on = λ source.
+          drew-two d d₁ d₂ e f .on source
+          ∙ ap (putOn (deskOf source at d out)) (sym (append-assoc (ink (piece raw s)) (ink (piece raw t)) []) ∙ ap (λ (z : Bytes). z ++ []) (ink-pieces raw s t));
+    }

@@ -1,0 +1,26 @@
+use Rattle.desk.specs.Stroke.{ink}
+use Rattle.desk.proofs.Strokes.{drew-one}
+use borrow.Author.Needs.{needs}
+use Rattle.desk.proofs.stroke.end_tag.Statement.{statement}
+use Rattle.desk.proofs.stroke.end_tag.Tie as tie
+
+element-copy-out-t8 : tie.Need-element-copy-out-t8
+element-copy-out-t8 c = search needs
+
+slice-aggregate-put-run : tie.Need-slice-aggregate-put-run
+slice-aggregate-put-run c = search needs
+
+put-run-requires : tie.Need-put-run-requires
+put-run-requires c κs = search needs
+
+same-length : tie.Need-same-length
+same-length c = search needs
+
+returns : tie.Need-returns
+unfolding ink
+returns c = search drew-one
+
+pub end-tag-spec : {M : Type 1} → statement M
+end-tag-spec =
+    tie.close
+    (tie.spec element-copy-out-t8 slice-aggregate-put-run put-run-requires same-length returns)

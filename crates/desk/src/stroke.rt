@@ -1,0 +1,192 @@
+// Strokes: what tags and texts are made of. The only functions that know how a text looks.
+ghost use mathlib.Core.Bool.{true, false};
+ghost use mathlib.Core.List.{[], _∷_};
+ghost use Rattle.parts.specs.Bytes.{b};
+ghost use Rattle.chars.specs.Decimal.{decimal};
+ghost use mathlib.Core.Path.{_≡_};
+ghost use Rattle.window.specs.Page.{pageOf, paint};
+ghost use Rattle.desk.specs.Desk.{shownAs};
+ghost use Rattle.desk.specs.Named.{numberOf};
+ghost use Rattle.desk.specs.Stroke.{opens, key as keyStroke, piece as pieceStroke, endValue, ends, shuts, closes, ink, Drew};
+use crate::held::Numbers;
+use window::Window;
+use window::escape_xml_attr;
+use window::put_number;
+use window::put_run;
+
+// The sixteen elements.
+pub enum Element {
+    Usx,
+    Book,
+    Chapter,
+    Verse,
+    Para,
+    Char,
+    Note,
+    Ms,
+    Figure,
+    Table,
+    Row,
+    Cell,
+    Sidebar,
+    Periph,
+    Optbreak,
+    Ref,
+}
+
+// `<` and the name of an element.
+fn put_open(w: Window, out: &mut [u8], e: Element) -> Window
+    ensures { λ r. ⌜ pageOf r (now (out .exit)) ≡ paint (pageOf w (now (out .entry))) (ink (opens (numberOf e))) ⌝ }
+{
+    match e {
+        Element::Usx => put_run(w, out, b"<usx"),
+        Element::Book => put_run(w, out, b"<book"),
+        Element::Chapter => put_run(w, out, b"<chapter"),
+        Element::Verse => put_run(w, out, b"<verse"),
+        Element::Para => put_run(w, out, b"<para"),
+        Element::Char => put_run(w, out, b"<char"),
+        Element::Note => put_run(w, out, b"<note"),
+        Element::Ms => put_run(w, out, b"<ms"),
+        Element::Figure => put_run(w, out, b"<figure"),
+        Element::Table => put_run(w, out, b"<table"),
+        Element::Row => put_run(w, out, b"<row"),
+        Element::Cell => put_run(w, out, b"<cell"),
+        Element::Sidebar => put_run(w, out, b"<sidebar"),
+        Element::Periph => put_run(w, out, b"<periph"),
+        Element::Optbreak => put_run(w, out, b"<optbreak"),
+        Element::Ref => put_run(w, out, b"<ref"),
+    }
+}
+
+// `</`, the name of an element and `>`.
+fn put_close(w: Window, out: &mut [u8], e: Element) -> Window
+    ensures { λ r. ⌜ pageOf r (now (out .exit)) ≡ paint (pageOf w (now (out .entry))) (ink (closes (numberOf e))) ⌝ }
+{
+    match e {
+        Element::Usx => put_run(w, out, b"</usx>"),
+        Element::Book => put_run(w, out, b"</book>"),
+        Element::Chapter => put_run(w, out, b"</chapter>"),
+        Element::Verse => put_run(w, out, b"</verse>"),
+        Element::Para => put_run(w, out, b"</para>"),
+        Element::Char => put_run(w, out, b"</char>"),
+        Element::Note => put_run(w, out, b"</note>"),
+        Element::Ms => put_run(w, out, b"</ms>"),
+        Element::Figure => put_run(w, out, b"</figure>"),
+        Element::Table => put_run(w, out, b"</table>"),
+        Element::Row => put_run(w, out, b"</row>"),
+        Element::Cell => put_run(w, out, b"</cell>"),
+        Element::Sidebar => put_run(w, out, b"</sidebar>"),
+        Element::Periph => put_run(w, out, b"</periph>"),
+        Element::Optbreak => put_run(w, out, b"</optbreak>"),
+        Element::Ref => put_run(w, out, b"</ref>"),
+    }
+}
+
+// A value as it is, or with its escapes.
+fn put_shown(w: Window, out: &mut [u8], s: &[u8], raw: bool) -> Window
+    ensures { λ r. ⌜ pageOf r (now (out .exit)) ≡ paint (pageOf w (now (out .entry))) (shownAs raw (now (s .entry))) ⌝ }
+{
+    if raw {
+        put_run(w, out, s)
+    } else {
+        escape_xml_attr(w, out, s)
+    }
+}
+
+// ---- tags
+
+// The front of a tag.
+pub fn open_tag(at: usize, desk: &mut Numbers, out: &mut [u8], e: Element) -> usize
+    ensures { λ r. ⌜ Drew at (now (desk .entry)) (now (out .entry)) (opens (numberOf e) ∷ []) r (now (desk .exit)) (now (out .exit)) ⌝ }
+{
+    let w = put_open(Window { at, from: desk[0] }, out, e);
+    w.at
+}
+
+// The end of a tag that holds something.
+pub fn end_tag(at: usize, desk: &mut Numbers, out: &mut [u8]) -> usize
+    ensures { λ r. ⌜ Drew at (now (desk .entry)) (now (out .entry)) (ends ∷ []) r (now (desk .exit)) (now (out .exit)) ⌝ }
+{
+    let w = put_run(Window { at, from: desk[0] }, out, b">");
+    w.at
+}
+
+// The end of a tag that holds nothing.
+pub fn shut_tag(at: usize, desk: &mut Numbers, out: &mut [u8]) -> usize
+    ensures { λ r. ⌜ Drew at (now (desk .entry)) (now (out .entry)) (shuts ∷ []) r (now (desk .exit)) (now (out .exit)) ⌝ }
+{
+    let w = put_run(Window { at, from: desk[0] }, out, b" />");
+    w.at
+}
+
+// A closing tag.
+pub fn close_tag(at: usize, desk: &mut Numbers, out: &mut [u8], e: Element) -> usize
+    ensures { λ r. ⌜ Drew at (now (desk .entry)) (now (out .entry)) (closes (numberOf e) ∷ []) r (now (desk .exit)) (now (out .exit)) ⌝ }
+{
+    let w = put_close(Window { at, from: desk[0] }, out, e);
+    w.at
+}
+
+// ---- attributes
+
+// A key, and the front of its value.
+pub fn key(at: usize, desk: &mut Numbers, out: &mut [u8], name: &[u8]) -> usize
+    ensures { λ r. ⌜ Drew at (now (desk .entry)) (now (out .entry)) (keyStroke (now (name .entry)) ∷ []) r (now (desk .exit)) (now (out .exit)) ⌝ }
+{
+    let w = put_run(Window { at, from: desk[0] }, out, b" ");
+    let v = put_run(w, out, name);
+    let z = put_run(v, out, b"=\"");
+    z.at
+}
+
+// A piece of a value: a name as it is, or with its escapes.
+pub fn piece(at: usize, desk: &mut Numbers, out: &mut [u8], s: &[u8], raw: bool) -> usize
+    ensures { λ r. ⌜ Drew at (now (desk .entry)) (now (out .entry)) (pieceStroke raw (now (s .entry)) ∷ []) r (now (desk .exit)) (now (out .exit)) ⌝ }
+{
+    let w = put_shown(Window { at, from: desk[0] }, out, s, raw);
+    w.at
+}
+
+// A number as a piece of a value.
+pub fn digits(at: usize, desk: &mut Numbers, out: &mut [u8], n: u32) -> usize
+    ensures { λ r. ⌜ Drew at (now (desk .entry)) (now (out .entry)) (pieceStroke true (decimal n) ∷ []) r (now (desk .exit)) (now (out .exit)) ⌝ }
+    ensures { λ r. ⌜ Drew at (now (desk .entry)) (now (out .entry)) (pieceStroke false (decimal n) ∷ []) r (now (desk .exit)) (now (out .exit)) ⌝ }
+{
+    let w = put_number(Window { at, from: desk[0] }, out, n);
+    w.at
+}
+
+// The end of a value.
+pub fn end_value(at: usize, desk: &mut Numbers, out: &mut [u8]) -> usize
+    ensures { λ r. ⌜ Drew at (now (desk .entry)) (now (out .entry)) (endValue ∷ []) r (now (desk .exit)) (now (out .exit)) ⌝ }
+{
+    let w = put_run(Window { at, from: desk[0] }, out, b"\"");
+    w.at
+}
+
+// An attribute whose value is one piece.
+pub fn attr(
+    at: usize,
+    desk: &mut Numbers,
+    out: &mut [u8],
+    name: &[u8],
+    value: &[u8],
+    raw: bool,
+) -> usize
+    ensures { λ r. ⌜ Drew at (now (desk .entry)) (now (out .entry)) (keyStroke (now (name .entry)) ∷ pieceStroke raw (now (value .entry)) ∷ endValue ∷ []) r (now (desk .exit)) (now (out .exit)) ⌝ }
+{
+    let a = key(at, desk, out, name);
+    let z = piece(a, desk, out, value, raw);
+    end_value(z, desk, out)
+}
+
+// The front of a tag with its style, which is a name.
+pub fn open_styled(at: usize, desk: &mut Numbers, out: &mut [u8], e: Element, style: &[u8]) -> usize
+    ensures { λ r. ⌜ Drew at (now (desk .entry)) (now (out .entry)) (opens (numberOf e) ∷ keyStroke (b "style") ∷ pieceStroke true (now (style .entry)) ∷ endValue ∷ []) r (now (desk .exit)) (now (out .exit)) ⌝ }
+{
+    let w = put_open(Window { at, from: desk[0] }, out, e);
+    let v = put_run(w, out, b" style=\"");
+    let u = put_run(v, out, style);
+    let z = put_run(u, out, b"\"");
+    z.at
+}
