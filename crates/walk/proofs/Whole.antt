@@ -4,12 +4,14 @@ use mathlib.Core.Bool.{Bool, false, cond, _||_}
 use mathlib.Core.List.{List, [], _∷_, _++_, append-assoc}
 use Prim.Native.Nat.{ℕ, zero, suc, _+_, _^_, _≤_, _<_}
 use native.Mathlib.Omega.{arith}
-use lib.ListN.{length, getD, drop, drop-of-length-le}
+use lib.ListN.{length, getD, take, drop, drop-of-length-le}
+use lib.Seq.{take-at}
 use lib.Dec.{eqb}
 use borrow.Author.Tests.{eq-eqb, ne-eqb, le-leb, lt-leb}
-use Rattle.parts.specs.Bytes.{Bytes, b}
+use Rattle.parts.specs.Bytes.{Bytes, b, part}
 use Rattle.chars.specs.Escape.{escape, escapedByte}
-use Rattle.window.specs.Page.{Page, paint}
+use Rattle.window.specs.Page.{Page, pageOf, paint}
+use Rattle.window.specs.declared.Window.{Window}
 use Rattle.window.proofs.Paint.{paint-append, paint-at, paint-front, paint-window}
 use Rattle.tape.specs.File.{Tape, tapeIn, nodeAt, kindAt, nowhere}
 use Rattle.tape.specs.Tree.{firstChild}
@@ -198,38 +200,47 @@ measured : (t : Tape) (from : ℕ) (l : Bytes) {n : ℕ} → length (textOf t) <
 unfolding wholeIn
 measured t from l h e = e ∙ paint-at (record { at = 0; from = from; buf = l }) (textOf t) (omega arith) ∙ omega arith
 
-nothing-before : (ys out : Bytes) → length ys ≡ 0 → ys ++ out ≡ out
-nothing-before [] out h = refl
-nothing-before (y ∷ ys) out h = absurd (omega arith)
-
 -- a walk that found no room
-pub no-room : (t : Tape) (l out ys : Bytes) {k n : ℕ} → (k ≡ firstState t .number → n ≡ wholeIn t 0 l .at) → length ys ≡ 0 → length (ys ++ out) < n
-    → k ≡ firstState t .number → Walked t Whole out n (ys ++ out)
+pub no-room : (t : Tape) (l out : Bytes) {k n : ℕ} → (k ≡ firstState t .number → n ≡ wholeIn t 0 l .at) → length out < n → k ≡ firstState t .number → Walked t Whole out n out
 unfolding left fitting
-no-room t l out ys {k} {n} f hy h e = record { counts = λ small. measured t 0 l small (f e); leaves = there }
+no-room t l out {k} {n} f h e = record { counts = λ small. measured t 0 l small (f e); leaves = there }
   where
-    there : length (textOf t) < 2 ^ 60 → ys ++ out ≡ fitting (textOf t) out .buffer
+    there : length (textOf t) < 2 ^ 60 → out ≡ fitting (textOf t) out .buffer
     there small =
         let is = measured t 0 l small (f e) in
-        let same : ys ++ out ≡ out = nothing-before ys out hy in
-        let over : length out < length (textOf t) = omega (arith, ap length same, is) in
-        rw (lt-leb (length (textOf t)) (length out) over, same)
+        let over : length out < length (textOf t) = omega (arith, is) in
+        rw (lt-leb (length (textOf t)) (length out) over)
 
 -- a walk that wrote the text
-pub room : (t : Tape) (l out ys last : Bytes) {k n : ℕ} → (k ≡ firstState t .number → n ≡ wholeIn t 0 l .at) → length ys ≡ 0 → n ≤ length (ys ++ out)
-    → (k ≡ firstState t .number → last ≡ wholeIn t 0 (ys ++ out) .buf)
+pub room : (t : Tape) (l out last : Bytes) {k n : ℕ} → (k ≡ firstState t .number → n ≡ wholeIn t 0 l .at) → n ≤ length out → (k ≡ firstState t .number → last ≡ wholeIn t 0 out .buf)
     → k ≡ firstState t .number → Walked t Whole out n last
 unfolding left fitting wholeIn
-room t l out ys last {k} {n} f hy h g e = record { counts = λ small. measured t 0 l small (f e); leaves = there }
+room t l out last {k} {n} f h g e = record { counts = λ small. measured t 0 l small (f e); leaves = there }
   where
     there : length (textOf t) < 2 ^ 60 → last ≡ fitting (textOf t) out .buffer
     there small =
         let is = measured t 0 l small (f e) in
-        let same : ys ++ out ≡ out = nothing-before ys out hy in
-        let fits : length (textOf t) ≤ length out = omega (arith, ap length same, is) in
-        let front : last ≡ textOf t ++ drop (length (textOf t)) out =
-        g e ∙ ap (λ (o : Bytes). paint (record { at = 0; from = 0; buf = o }) (textOf t) .buf) same ∙ paint-front out (textOf t) fits (omega arith) in
+        let fits : length (textOf t) ≤ length out = omega (arith, is) in
+        let front : last ≡ textOf t ++ drop (length (textOf t)) out = g e ∙ paint-front out (textOf t) fits (omega arith) in
         rw (le-leb (length (textOf t)) (length out) fits, front)
+
+-- a text that was written aside and copied
+pub copied : (t : Tape) (l aside out last : Bytes) {k n : ℕ} {w : Window} → (k ≡ firstState t .number → n ≡ wholeIn t 0 l .at) → (k ≡ firstState t .number → aside ≡ wholeIn t 0 l .buf)
+    → n ≤ length out → n ≤ length l → {s : Bytes} → s ≡ part aside 0 n → pageOf w last ≡ paint (record { at = 0; from = 0; buf = out }) s
+    → k ≡ firstState t .number → Walked t Whole out n last
+unfolding left fitting wholeIn
+copied t l aside out last {k} {n} f g h hl es ew e = record { counts = λ small. measured t 0 l small (f e); leaves = there }
+  where
+    there : length (textOf t) < 2 ^ 60 → last ≡ fitting (textOf t) out .buffer
+    there small =
+        let is = measured t 0 l small (f e) in
+        let fits : length (textOf t) ≤ length out = omega (arith, is) in
+        let short : length (textOf t) ≤ length l = omega (arith, is) in
+        let front : aside ≡ textOf t ++ drop (length (textOf t)) l = g e ∙ paint-front l (textOf t) short (omega arith) in
+        let taken : take n aside ≡ textOf t = ap (λ (m : ℕ). take m aside) is ∙ ap (take (length (textOf t))) front ∙ take-at (textOf t) (drop (length (textOf t)) l) (length (textOf t)) refl in
+        let whole : last ≡ textOf t ++ drop (length (textOf t)) out =
+        ap (λ (p : Page). p .buf) (ew ∙ ap (paint (record { at = 0; from = 0; buf = out })) (es ∙ taken)) ∙ paint-front out (textOf t) fits (omega arith) in
+        rw (le-leb (length (textOf t)) (length out) fits, whole)
 
 -- ---- what was asked
 

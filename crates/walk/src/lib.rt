@@ -28,6 +28,8 @@ use tape::Cursor;
 use tape::Kind;
 use tape::Sections;
 use tape::long;
+use window::Window;
+use window::put_run;
 
 // What a walk is asked to leave in the buffer: the whole text, if there is room for it; the bytes of the text from one on, as many as there is room for.
 pub enum Asked {
@@ -103,16 +105,37 @@ fn write_text(
     write_on(file, tape, solids, &mut desk, out)
 }
 
-// The whole text, if there is room for it; its length.
+// The whole text, if there is room for it; its length. A text that is no longer than a lent buffer is written there and copied: it takes one walk where a longer one takes two.
+fn write_aside(
+    file: &[u8],
+    tape: Sections,
+    solids: &[u32],
+    number: u32,
+    aside: &mut [u8],
+    out: &mut [u8],
+) -> usize
+    requires { ⌜ Solids (tapeIn tape (now file)) (now solids) ⌝ }
+    ensures { λ r. ⌜ (number ≡ firstState (tapeIn tape (now (file .entry))) .number → Walked (tapeIn tape (now (file .entry))) Whole (now (out .entry)) r (now (out .exit))) ⌝ }
+{
+    let n = write_text(file, tape, solids, number, 0, aside);
+    if out.len() < n {
+        return n;
+    }
+    if n <= aside.len() {
+        let _ = put_run(Window { at: 0, from: 0 }, out, parts::part(aside, 0, n));
+        return n;
+    }
+    let _ = write_text(file, tape, solids, number, 0, out);
+    n
+}
+
+// The same with a buffer for short texts.
 fn write_whole(file: &[u8], tape: Sections, solids: &[u32], number: u32, out: &mut [u8]) -> usize
     requires { ⌜ Solids (tapeIn tape (now file)) (now solids) ⌝ }
     ensures { λ r. ⌜ (number ≡ firstState (tapeIn tape (now (file .entry))) .number → Walked (tapeIn tape (now (file .entry))) Whole (now (out .entry)) r (now (out .exit))) ⌝ }
 {
-    let n = write_text(file, tape, solids, number, 0, &mut out[..0]);
-    if n <= out.len() {
-        let _ = write_text(file, tape, solids, number, 0, out);
-    }
-    n
+    let mut aside = [0u8; 2048];
+    write_aside(file, tape, solids, number, &mut aside, out)
 }
 
 // What is asked of an admitted tape; the length of its whole text.

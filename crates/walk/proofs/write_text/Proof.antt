@@ -3,19 +3,15 @@ use borrow.Author.Needs.{needs}
 use Rattle.walk.proofs.write_text.Statement.{statement}
 use Rattle.walk.proofs.write_text.Tie as tie
 
--- src/lib.rt:73:20
 new-desk-requires : tie.Need-new-desk-requires
 new-desk-requires c κs = search needs
 
--- src/lib.rt:74:5
 write-on-requires : tie.Need-write-on-requires
 write-on-requires c κs = search needs
 
--- src/lib.rt:61:1
 same-length : tie.Need-same-length
 same-length c = search needs
 
--- src/lib.rt:61:1
 returns : tie.Need-returns
 returns c = (new-length _ _ _ _ _ (c .before .before .before .before .before .new-desk .ensures .0) (c .before .before .before .before .before .new-desk .ensures .1) (c .before .before .write-on .ensures .0), new-buffer _ _ _ _ _ (c .before .before .before .before .before .new-desk .ensures .0) (c .before .before .before .before .before .new-desk .ensures .1) (c .before .before .write-on .ensures .1))
 
