@@ -1,4 +1,4 @@
-// Strokes: what tags and texts are made of. The only functions that know how a text looks.
+// Strokes: what tags are made of. These functions and those of group.rt alone know how a tag looks.
 ghost use mathlib.Core.Bool.{true, false};
 ghost use mathlib.Core.List.{[], _∷_};
 ghost use Rattle.parts.specs.Bytes.{b};
