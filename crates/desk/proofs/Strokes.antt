@@ -9,7 +9,7 @@ use Rattle.chars.specs.Decimal.{decimal}
 use Rattle.chars.proofs.Escapes.{escape-append}
 use Rattle.window.specs.Page.{Page, pageOf, paint}
 use Rattle.window.specs.declared.Window.{Window}
-use Rattle.window.proofs.Paint.{paint-append}
+use Rattle.window.proofs.Paint.{paint-append, paint-two}
 use Rattle.tags.specs.Names.{nameOf}
 use Rattle.tags.specs.Items.{Attr, Item, start, empty, close, text, line, valueOf, attrBytes, attrsBytes, bytesOf, render}
 use Rattle.events.specs.Event.{item}
@@ -38,6 +38,10 @@ module _ {at at₁ at₂ : ℕ} (d d₁ d₂ : List ℕ) {out out₁ out₂ : By
   pub drew-two : {x y : List Stroke} → Drew at d out x at₁ d₁ out₁ → Drew at₁ d₁ out₁ y at₂ d₂ out₂ → Drew at d out (x ++ y) at₂ d₂ out₂
   drew-two {x} {y} e f = record { on = λ source. f .on source ∙ ap (λ (w : Desk). strokes w y) (e .on source) ∙ sym (strokes-append (deskOf source at d out) x y) }
 
+pub drew-none : {at : ℕ} (d : List ℕ) {out : Bytes} → Drew at d out [] at d out
+unfolding strokes putOn inkAll paint
+drew-none d = record { on = λ source. refl }
+
 -- ---- from bytes
 
 -- bytes through the window of a desk are a row of strokes
@@ -52,12 +56,17 @@ unfolding inkAll
 drew-one at d out s ev = drew-run at d out (s ∷ []) (sym (append-nil (ink s))) ev
 
 -- the name of an element
-module _ (k : Element) (p : Page) {q : Page} {e : Element} (h : e ≡ k) where
-  pub open-by : q ≡ paint p (ink (opens (numberOf k))) → q ≡ paint p (ink (opens (numberOf e)))
-  open-by eq = eq ∙ ap (λ (x : Element). paint p (ink (opens (numberOf x)))) (sym h)
+pub name-by : (k : Element) (p : Page) {q : Page} {e : Element} → e ≡ k → q ≡ paint p (nameOf (numberOf k)) → q ≡ paint p (nameOf (numberOf e))
+name-by k p h eq = eq ∙ ap (λ (x : Element). paint p (nameOf (numberOf x))) (sym h)
 
-  pub close-by : q ≡ paint p (ink (closes (numberOf k))) → q ≡ paint p (ink (closes (numberOf e)))
-  close-by eq = eq ∙ ap (λ (x : Element). paint p (ink (closes (numberOf x)))) (sym h)
+-- the front of a tag, and a closing tag, from their runs
+pub open-bytes : (p : Page) {q r : Page} (n : ℕ) → q ≡ paint p (b "<") → r ≡ paint q (nameOf n) → r ≡ paint p (ink (opens n))
+unfolding ink
+open-bytes p n e₁ e₂ = paint-two p (b "<") (nameOf n) e₁ e₂
+
+pub close-bytes : (p : Page) {q r s : Page} (n : ℕ) → q ≡ paint p (b "</") → r ≡ paint q (nameOf n) → s ≡ paint r (b ">") → s ≡ paint p (ink (closes n))
+unfolding ink
+close-bytes p n e₁ e₂ e₃ = paint-three p (b "</") (nameOf n) (b ">") e₁ e₂ e₃
 
 -- a key from its runs
 pub key-bytes : (p : Page) {q r s : Page} (k : Bytes) → q ≡ paint p (b " ") → r ≡ paint q k → s ≡ paint r (b "=\"") → s ≡ paint p (ink (key k))

@@ -5,6 +5,7 @@ ghost use Rattle.parts.specs.Bytes.{b};
 ghost use Rattle.chars.specs.Decimal.{decimal};
 ghost use mathlib.Core.Path.{_≡_};
 ghost use Rattle.window.specs.Page.{pageOf, paint};
+ghost use Rattle.tags.specs.Names.{nameOf};
 ghost use Rattle.desk.specs.Desk.{shownAs};
 ghost use Rattle.desk.specs.Named.{numberOf};
 ghost use Rattle.desk.specs.Stroke.{opens, key as keyStroke, piece as pieceStroke, endValue, ends, shuts, closes, ink, Drew};
@@ -34,52 +35,45 @@ pub enum Element {
     Ref,
 }
 
+// The name of an element.
+fn put_name(w: Window, out: &mut [u8], e: Element) -> Window
+    ensures { λ r. ⌜ pageOf r (now (out .exit)) ≡ paint (pageOf w (now (out .entry))) (nameOf (numberOf e)) ⌝ }
+{
+    match e {
+        Element::Usx => put_run(w, out, b"usx"),
+        Element::Book => put_run(w, out, b"book"),
+        Element::Chapter => put_run(w, out, b"chapter"),
+        Element::Verse => put_run(w, out, b"verse"),
+        Element::Para => put_run(w, out, b"para"),
+        Element::Char => put_run(w, out, b"char"),
+        Element::Note => put_run(w, out, b"note"),
+        Element::Ms => put_run(w, out, b"ms"),
+        Element::Figure => put_run(w, out, b"figure"),
+        Element::Table => put_run(w, out, b"table"),
+        Element::Row => put_run(w, out, b"row"),
+        Element::Cell => put_run(w, out, b"cell"),
+        Element::Sidebar => put_run(w, out, b"sidebar"),
+        Element::Periph => put_run(w, out, b"periph"),
+        Element::Optbreak => put_run(w, out, b"optbreak"),
+        Element::Ref => put_run(w, out, b"ref"),
+    }
+}
+
 // `<` and the name of an element.
 fn put_open(w: Window, out: &mut [u8], e: Element) -> Window
     ensures { λ r. ⌜ pageOf r (now (out .exit)) ≡ paint (pageOf w (now (out .entry))) (ink (opens (numberOf e))) ⌝ }
 {
-    match e {
-        Element::Usx => put_run(w, out, b"<usx"),
-        Element::Book => put_run(w, out, b"<book"),
-        Element::Chapter => put_run(w, out, b"<chapter"),
-        Element::Verse => put_run(w, out, b"<verse"),
-        Element::Para => put_run(w, out, b"<para"),
-        Element::Char => put_run(w, out, b"<char"),
-        Element::Note => put_run(w, out, b"<note"),
-        Element::Ms => put_run(w, out, b"<ms"),
-        Element::Figure => put_run(w, out, b"<figure"),
-        Element::Table => put_run(w, out, b"<table"),
-        Element::Row => put_run(w, out, b"<row"),
-        Element::Cell => put_run(w, out, b"<cell"),
-        Element::Sidebar => put_run(w, out, b"<sidebar"),
-        Element::Periph => put_run(w, out, b"<periph"),
-        Element::Optbreak => put_run(w, out, b"<optbreak"),
-        Element::Ref => put_run(w, out, b"<ref"),
-    }
+    let v = put_run(w, out, b"<");
+    put_name(v, out, e)
 }
 
 // `</`, the name of an element and `>`.
 fn put_close(w: Window, out: &mut [u8], e: Element) -> Window
     ensures { λ r. ⌜ pageOf r (now (out .exit)) ≡ paint (pageOf w (now (out .entry))) (ink (closes (numberOf e))) ⌝ }
 {
-    match e {
-        Element::Usx => put_run(w, out, b"</usx>"),
-        Element::Book => put_run(w, out, b"</book>"),
-        Element::Chapter => put_run(w, out, b"</chapter>"),
-        Element::Verse => put_run(w, out, b"</verse>"),
-        Element::Para => put_run(w, out, b"</para>"),
-        Element::Char => put_run(w, out, b"</char>"),
-        Element::Note => put_run(w, out, b"</note>"),
-        Element::Ms => put_run(w, out, b"</ms>"),
-        Element::Figure => put_run(w, out, b"</figure>"),
-        Element::Table => put_run(w, out, b"</table>"),
-        Element::Row => put_run(w, out, b"</row>"),
-        Element::Cell => put_run(w, out, b"</cell>"),
-        Element::Sidebar => put_run(w, out, b"</sidebar>"),
-        Element::Periph => put_run(w, out, b"</periph>"),
-        Element::Optbreak => put_run(w, out, b"</optbreak>"),
-        Element::Ref => put_run(w, out, b"</ref>"),
-    }
+    let v = put_run(w, out, b"</");
+    let u = put_name(v, out, e);
+    put_run(u, out, b">")
 }
 
 // A value as it is, or with its escapes.

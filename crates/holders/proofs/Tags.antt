@@ -27,8 +27,7 @@ use Rattle.events.specs.Walk.{style, unclosed}
 use Rattle.events.specs.Emit.{Desk, emit, emitAll}
 use Rattle.desk.specs.Desk.{deskOf}
 use Rattle.desk.specs.Stroke.{opens, key, piece, endValue, ends, shuts, closes, strokesOfAttr, strokesOfAttrs, strokesOf, ink, strokes, Drew}
-use Rattle.desk.proofs.Strokes.{drew-one, drew-two, drew-attr, drew-item, strokes-item, attrs-append}
-use Rattle.values.proofs.Written.{drew-none}
+use Rattle.desk.proofs.Strokes.{drew-none, drew-one, drew-two, drew-attr, drew-item, strokes-item, attrs-append}
 use Rattle.holders.specs.Holders.{isBlockOrRow, sidebarAttrs, periphAttrs, attrsOf, elementNo}
 
 -- ---- what a list is searched for

@@ -6,7 +6,6 @@ use mathlib.Core.Option.{some}
 use Prim.Native.Nat.{ℕ}
 use Rattle.parts.specs.Bytes.{Bytes, b, part}
 use Rattle.chars.specs.Decimal.{decimal}
-use Rattle.window.specs.Page.{paint}
 use Rattle.words.specs.declared.Part.{Part}
 use Rattle.marks.specs.declared.OpenChapter.{OpenChapter}
 use Rattle.marks.specs.declared.OpenChapter.the-variants.{NoChapter, Chapter}
@@ -14,16 +13,11 @@ use Rattle.marks.specs.declared.OpenVerse.{OpenVerse}
 use Rattle.marks.specs.declared.OpenVerse.the-variants.{NoVerse, Verse}
 use Rattle.events.specs.Event.{rawly}
 use Rattle.events.specs.Pairing.{chapterId, verseId, endOf}
-use Rattle.desk.specs.Desk.{chapterIn, verseIn, putOn}
-use Rattle.desk.specs.Stroke.{Stroke, opens, key, piece, endValue, shuts, strokesOfAttr, strokesOfAttrs, strokesOf, strokesOfAll, inkAll, strokes, Drew}
-use Rattle.desk.proofs.Strokes.{drew-two, drew-pieces}
+use Rattle.desk.specs.Desk.{chapterIn, verseIn}
+use Rattle.desk.specs.Stroke.{Stroke, opens, key, piece, endValue, shuts, strokesOfAttr, strokesOfAttrs, strokesOf, strokesOfAll, strokes, Drew}
+use Rattle.desk.proofs.Strokes.{drew-none, drew-two, drew-pieces}
 
 -- ---- in a row
-
--- no stroke at all
-drew-none : (at : ℕ) (d : List ℕ) (out : Bytes) → Drew at d out [] at d out
-unfolding strokes putOn inkAll paint
-drew-none at d out = record { on = λ source. refl }
 
 -- strokes by another name
 pub drew-as : {at r : ℕ} (d last-d : List ℕ) {out last : Bytes} {x y : List Stroke} → x ≡ y → Drew at d out x r last-d last → Drew at d out y r last-d last
@@ -73,11 +67,11 @@ end-strokes n i = refl
 module _ (at : ℕ) (d : List ℕ) (out source : Bytes) where
   pub chapter-shut : {held : OpenChapter} → held ≡ NoChapter → Drew at d out (strokesOfAll (endOf 3 (chapterIn source held))) at d out
   unfolding chapterIn endOf strokesOfAll
-  chapter-shut h = rw h (drew-none at d out)
+  chapter-shut h = rw h (drew-none d)
 
   pub verse-shut : {held : OpenVerse} → held ≡ NoVerse → Drew at d out (strokesOfAll (endOf 4 (verseIn source held))) at d out
   unfolding verseIn endOf strokesOfAll
-  verse-shut h = rw h (drew-none at d out)
+  verse-shut h = rw h (drew-none d)
 
 module _ {at a z r : ℕ} (d d₁ d₂ d₃ : List ℕ) {out o₁ o₂ last : Bytes} (source : Bytes) where
   pub chapter-ended : {held : OpenChapter} {code : Part} {n : ℕ} → held ≡ Chapter code n → {s : Bytes} → s ≡ part source (code .start) (code .len)

@@ -22,8 +22,8 @@ use Rattle.barred.proofs.Pairs.{barred-pairs, barred-escape}
 use Rattle.tags.specs.Items.{attrBytes, attrsBytes, valueOf}
 use Rattle.events.specs.Event.{escaped, collected}
 use Rattle.desk.specs.Stroke.{Stroke, strokesOfAttrs, Drew}
-use Rattle.desk.proofs.Strokes.{drew-run, ink-attrs}
-use Rattle.values.proofs.Written.{drew-none, Ahead, ahead-end, ahead-rest, ahead-turn}
+use Rattle.desk.proofs.Strokes.{drew-none, drew-run, ink-attrs}
+use Rattle.values.proofs.Written.{Ahead, ahead-end, ahead-rest, ahead-turn}
 use Rattle.values.proofs.Listed.{strokesOfPairs, pairs-append}
 
 -- such an attribute is written as it stands behind its `|`

@@ -35,9 +35,9 @@ use Rattle.figure.specs.Figure.{fieldAt, describedBy, valued, legacyPairs}
 use Rattle.tags.specs.Items.{Attr}
 use Rattle.events.specs.Event.{escaped, perhaps, collected}
 use Rattle.desk.specs.Stroke.{Stroke, piece, strokesOfAttr, strokesOfAttrs, Drew}
-use Rattle.desk.proofs.Strokes.{drew-two, attrs-append}
+use Rattle.desk.proofs.Strokes.{drew-none, drew-two, attrs-append}
 use Rattle.values.specs.Parts.{aboutPairs, placePairs}
-use Rattle.values.proofs.Written.{drew-none, drew-empty, Ahead, ahead-end, ahead-rest, ahead-turn, ahead-piece}
+use Rattle.values.proofs.Written.{drew-empty, Ahead, ahead-end, ahead-rest, ahead-turn, ahead-piece}
 
 -- the strokes of pairs
 abbrev pub strokesOfPairs : List Pair → List Stroke

@@ -19,14 +19,9 @@ use Rattle.events.specs.Event.{escaped}
 use Rattle.events.specs.Emit.{Desk}
 use Rattle.desk.specs.Desk.{deskOf, putOn}
 use Rattle.desk.specs.Stroke.{Stroke, key, piece, endValue, strokesOfAttr, ink, inkAll, strokes, Drew}
-use Rattle.desk.proofs.Strokes.{strokes-append, ink-pieces, drew-attr, drew-pieces}
+use Rattle.desk.proofs.Strokes.{drew-none, strokes-append, ink-pieces, drew-attr, drew-pieces}
 
 -- ---- strokes ahead
-
--- no strokes
-pub drew-none : {at : ℕ} (d : List ℕ) {out : Bytes} → Drew at d out [] at d out
-unfolding strokes putOn inkAll paint
-drew-none d = record { on = λ source. refl }
 
 -- the strokes that are ahead leave what all of them leave from the start
 pub record Ahead (at₀ : ℕ) (d₀ : List ℕ) (out₀ : Bytes) (all : List Stroke) (at : ℕ) (d : List ℕ) (out : Bytes) (ss : List Stroke) : Type 0 where
