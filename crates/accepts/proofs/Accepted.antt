@@ -17,8 +17,8 @@ use Rattle.checker.proofs.Joined.{items-accepted}
 use Rattle.events.specs.Pairing.{paired}
 use Rattle.events.specs.Text.{firstState, itemsOfTape, textOf}
 use Rattle.events.specs.Walk.{eventsOf}
-use Rattle.milestones.specs.Seen.{seen, openStarts, startOf, chaptersIn, versesIn}
-use Rattle.milestones.proofs.Plain.{tape-demand-unescaped, tape-counts}
+use Rattle.pairing.specs.Seen.{seen, openStarts, startOf, chaptersIn, versesIn}
+use Rattle.pairing.proofs.Plain.{tape-demand-unescaped, tape-counts}
 use Rattle.accepts.specs.Sound.{Sound}
 use Rattle.accepts.proofs.Tree.{tape-low, tape-tree}
 use Rattle.accepts.proofs.Legal.{sound-form}

@@ -17,10 +17,10 @@ use Rattle.events.specs.Text.{firstState}
 use Rattle.events.specs.Walk.{eventsOf}
 use Rattle.grammar.specs.Grammar.{a-text, a-line, an-empty, a-chapter, a-verse, an-aside, a-back, Written, by-itself, of-book, opening, closing, AllWritten}
 use Rattle.grammar.proofs.Written.{walk-written, given-range}
-use Rattle.milestones.specs.Seen.{pairs, tokenOf, seen}
+use Rattle.pairing.specs.Seen.{pairs, tokenOf, seen}
 use Rattle.accepts.specs.Proviso.{Free}
 use Rattle.accepts.specs.Sound.{SoundEvent, SoundEvents, Sound}
-use Rattle.milestones.proofs.Paired.{chapter-seen, verse-seen}
+use Rattle.pairing.proofs.Paired.{chapter-seen, verse-seen}
 use Rattle.accepts.proofs.Free.{free-escape}
 use Rattle.accepts.proofs.Sids.{chapter-sid, verse-sid}
 use Rattle.accepts.proofs.Starts.{single-mark}

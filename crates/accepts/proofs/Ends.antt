@@ -18,8 +18,8 @@ use Rattle.events.specs.Event.{Event, item, chapter, verse, book, aside, back, 
 use Rattle.events.specs.Pairing.{State, after, endOf, verseAttrs, bookItems, itemsOf, lastEnds, paired}
 use Rattle.events.specs.Text.{firstState, itemsOfTape}
 use Rattle.events.specs.Walk.{eventsOf}
-use Rattle.milestones.specs.Seen.{pairs, PlainItem, PlainEvents}
-use Rattle.milestones.proofs.Plain.{walk-plain}
+use Rattle.pairing.specs.Seen.{pairs, PlainItem, PlainEvents}
+use Rattle.pairing.proofs.Plain.{walk-plain}
 use Rattle.accepts.specs.Proviso.{Free}
 use Rattle.accepts.specs.Ends.{NoTag, Ended, Agrees, AllAgree, FreeNames, WrittenFree}
 use Rattle.accepts.proofs.Free.{free-chapter, free-verse, free-escape}

@@ -13,8 +13,8 @@ use Rattle.checker.proofs.Tags.{start-exact}
 use Rattle.events.specs.Event.{Event, item, chapter, verse, book, aside, back, rawly}
 use Rattle.events.specs.Pairing.{State, chapterId, verseId, after, endOf, chapterAttrs, verseAttrs, bookItems, itemsOf, lastEnds, paired}
 use Rattle.events.proofs.Emits.{chapter-items, verse-items}
-use Rattle.milestones.specs.Seen.{pairs, tokenOf, PlainItem, PlainEvents}
-use Rattle.milestones.proofs.Paired.{chapter-seen, verse-seen, end-seen}
+use Rattle.pairing.specs.Seen.{pairs, tokenOf, PlainItem, PlainEvents}
+use Rattle.pairing.proofs.Paired.{chapter-seen, verse-seen, end-seen}
 
 -- ---- what a tag is
 

@@ -17,7 +17,7 @@ use Rattle.events.specs.Event.{Event, item, chapter, verse, book, aside, back}
 use Rattle.events.specs.Pairing.{State, after}
 use Rattle.events.specs.Text.{firstState, textOf, Outcome, fitting, outcomeBy, outcome}
 use Rattle.events.specs.Walk.{eventsOf}
-use Rattle.milestones.specs.Seen.{chaptersIn, versesIn}
+use Rattle.pairing.specs.Seen.{chaptersIn, versesIn}
 use Rattle.accepts.specs.Proviso.{Proviso}
 use Rattle.accepts.specs.Sound.{SoundEvents}
 use Rattle.accepts.specs.Ends.{AllAgree, FreeNames}

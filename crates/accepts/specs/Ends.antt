@@ -11,7 +11,7 @@ use Rattle.events.specs.Event.{Event, item, chapter, verse, book, aside, back}
 use Rattle.events.specs.Pairing.{State, after}
 use Rattle.events.specs.Text.{firstState, itemsOfTape}
 use Rattle.events.specs.Walk.{eventsOf}
-use Rattle.milestones.specs.Seen.{pairs}
+use Rattle.pairing.specs.Seen.{pairs}
 use Rattle.accepts.specs.Proviso.{Free}
 
 -- no tag of that kind stands among the items: neither a start nor an end

@@ -21,10 +21,10 @@ use Rattle.tape.specs.declared.Sections.{Sections}
 use Rattle.tape.specs.declared.Cursor.{Cursor}
 use Rattle.tape.proofs.Laws.{node-count}
 use Rattle.tape.proofs.NameRule.{name-of}
-use Rattle.places.specs.Seek.{Right, solidAt, toWord}
-use Rattle.places.specs.declared.Test.the-variants.{Ender, Gap}
-use Rattle.places.proofs.Runs.{name-le}
-use Rattle.places.proofs.Spans.{source-short, span-name, span-words, bare-span, bare-le, solid-bare}
+use Rattle.source_index.specs.Seek.{Right, solidAt, toWord}
+use Rattle.source_index.specs.declared.Test.the-variants.{Ender, Gap}
+use Rattle.source_index.proofs.Runs.{name-le}
+use Rattle.source_index.proofs.Spans.{source-short, span-name, span-words, bare-span, bare-le, solid-bare}
 use Rattle.nest.proofs.Tape.{no-is, yes-is, clash}
 use Rattle.admit.specs.Rules.{LabelCut}
 use Rattle.admit.specs.Pieces.{SoundNode, SoundNodes, GoodLabel, GoodVerse, GoodVerses, Tables}

@@ -11,8 +11,8 @@ use Rattle.tape.specs.File.{le32, entriesAt, namesAt, sourceAt, Tape, nodeAt, e
 use Rattle.tape.specs.Name.{markerName}
 use Rattle.tape.specs.declared.Node.{Node}
 use Rattle.tape.specs.declared.Sections.{Sections}
-use Rattle.places.specs.Seek.{Right}
-use Rattle.places.specs.declared.Test.the-variants.{Ender, Gap}
+use Rattle.source_index.specs.Seek.{Right}
+use Rattle.source_index.specs.declared.Test.the-variants.{Ender, Gap}
 use Rattle.admit.specs.Rules.{GoodEntry, LabelCut}
 use Rattle.admit.specs.Limits as limits
 use Rattle.tape.specs.Kind as kinds

@@ -4,7 +4,7 @@ ghost use mathlib.Core.Bool.{true};
 ghost use mathlib.Core.Logic.{_↔_};
 ghost use Rattle.tape.specs.File.{tapeIn};
 ghost use Rattle.admit.specs.Pieces.{SoundNode, SoundNodes, GoodLabel, GoodVerse, GoodVerses, Tables};
-use places::Test;
+use source_index::Test;
 use tape::Cursor;
 use tape::Kind;
 use tape::Sections;
@@ -53,8 +53,8 @@ fn good_label(file: &[u8], t: Sections, k: u32, enders: &[u32], gaps: &[u32]) ->
     let source = tape::source(file, t);
     let n = tape::node_at(file, t, k);
     let start = long(n.start);
-    if places::name_passes(enders, source, start + (text.len() - name.len()), base) {
-        return places::word_follows(gaps, source, start, start + long(n.len));
+    if source_index::name_passes(enders, source, start + (text.len() - name.len()), base) {
+        return source_index::word_follows(gaps, source, start, start + long(n.len));
     }
     true
 }
@@ -88,8 +88,8 @@ fn tabled(file: &[u8], t: Sections, enders: &mut [u32], gaps: &mut [u32]) -> boo
     ensures { λ r. ⌜ (SoundNodes (tapeIn t (now (file .entry))) → (r ≡ true) ↔ GoodVerses (tapeIn t (now (file .entry)))) ⌝ }
 {
     let source = tape::source(file, t);
-    places::fill(enders, source, Test::Ender);
-    places::fill(gaps, source, Test::Gap);
+    source_index::fill(enders, source, Test::Ender);
+    source_index::fill(gaps, source, Test::Gap);
     good_verses(file, t, enders, gaps)
 }
 

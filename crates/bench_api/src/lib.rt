@@ -46,7 +46,7 @@ pub extern "C" fn bench_body(out: &mut [u8], at: usize, from: usize, s: &[u8]) -
     ensures count { λ r. ⌜ r ≡ paint (record { at = at; from = from; buf = now (out .entry) }) (escape false (bodyOf (now (s .entry)))) .at ⌝ }
     ensures buffer { λ _. ⌜ now (out .exit) ≡ paint (record { at = at; from = from; buf = now (out .entry) }) (escape false (bodyOf (now (s .entry)))) .buf ⌝ }
 {
-    let w = prose::put_body(Window { at, from }, out, s);
+    let w = put_body::put_body(Window { at, from }, out, s);
     w.at
 }
 

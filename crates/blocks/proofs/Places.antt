@@ -31,8 +31,8 @@ use Rattle.events.proofs.Turns.{blocks-turn}
 use Rattle.desk.specs.Desk.{deskOf}
 use Rattle.desk.specs.Stroke.{opens, key, piece, endValue, ends, closes, strokesOfAttr, strokesOfAttrs, strokesOf, Drew}
 use Rattle.desk.proofs.Strokes.{drew-two, drew-item}
-use Rattle.turns.specs.Turn.{behindOf}
-use Rattle.turns.specs.declared.Behind.the-variants.{Ends}
+use Rattle.inline_turns.specs.Turn.{behindOf}
+use Rattle.inline_turns.specs.declared.Behind.the-variants.{Ends}
 use Rattle.tables.specs.Rows.{isNoRow}
 use Rattle.tables.proofs.Spans.{up-row}
 use Rattle.blocks.specs.Blocks.{holderOf, runOpens, runIn, uncut, stepBehind}

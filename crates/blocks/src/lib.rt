@@ -6,7 +6,7 @@ ghost use Prim.Native.Nat.{ℕ, _<_};
 ghost use Rattle.parts.specs.Bytes.{Bytes};
 ghost use Rattle.tape.specs.File.{tapeIn};
 ghost use Rattle.tape.specs.Tree.{left, nextSibling, firstChild};
-ghost use Rattle.lean.specs.Lean.{Solids};
+ghost use Rattle.leading_white.specs.Lean.{Solids};
 ghost use Rattle.tape.specs.declared.Step.the-variants.{At};
 ghost use Rattle.render.specs.Shape.{isTopLevelBlock};
 ghost use Rattle.tags.specs.Items.{line as lineItem, close, start};
@@ -28,6 +28,7 @@ use holders::close_holder;
 use holders::empty_holder;
 use holders::has_block;
 use holders::open_holder;
+use inline_turns::Behind;
 use lists::Member;
 use lists::Span;
 use lists::Stop;
@@ -40,7 +41,6 @@ use tape::Element;
 use tape::Kind;
 use tape::Sections;
 use tape::Step;
-use turns::Behind;
 
 // What a node holds blocks as.
 pub enum Holder {
@@ -104,7 +104,7 @@ fn chapter(
     let published = f.published;
     let next = f.rest;
     let s = line(at, desk, out, level as usize);
-    let r = milestone::chapter(
+    let r = put_chapters::chapter(
         file,
         tape,
         c.number(file, tape),

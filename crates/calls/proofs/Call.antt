@@ -11,7 +11,7 @@ use Rattle.checker.specs.declared.Verdict.the-variants.{Accepted}
 use Rattle.checker.proofs.Answers.{settled}
 use Rattle.events.specs.Text.{textOf, Outcome, outcome}
 use Rattle.events.specs.Walk.{eventsOf}
-use Rattle.milestones.specs.Seen.{chaptersIn, versesIn}
+use Rattle.pairing.specs.Seen.{chaptersIn, versesIn}
 use Rattle.usx.specs.Answer.{answerNumber, answerLength, outcomeOf}
 use Rattle.usx.specs.declared.Answer.{Answer}
 use Rattle.usx.specs.declared.Answer.the-variants.{Written as AnswerWritten, Refused as AnswerRefused, NoRoom as AnswerNoRoom}

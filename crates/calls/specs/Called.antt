@@ -9,7 +9,7 @@ use Rattle.checker.specs.declared.Verdict.{Verdict}
 use Rattle.checker.specs.declared.Verdict.the-variants.{Accepted}
 use Rattle.events.specs.Text.{textOf}
 use Rattle.events.specs.Walk.{eventsOf}
-use Rattle.milestones.specs.Seen.{chaptersIn, versesIn}
+use Rattle.pairing.specs.Seen.{chaptersIn, versesIn}
 use Rattle.usx.specs.declared.Answer.{Answer}
 use Rattle.usx.specs.declared.Answer.the-variants.{Written as AnswerWritten, Refused as AnswerRefused, NoRoom as AnswerNoRoom}
 use Rattle.accepts.specs.Proviso.{Proviso}

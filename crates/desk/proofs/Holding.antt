@@ -5,11 +5,11 @@ use Prim.Native.Nat.{ℕ, _≤_, _<_, _^_}
 use lib.ListN.{getD}
 use borrow.Author.Tests.{lt-ltb, le-ltb, eq-eqb, ne-eqb}
 use Rattle.words.specs.declared.Part.{Part}
-use Rattle.marks.specs.declared.OpenChapter.{OpenChapter}
-use Rattle.marks.specs.declared.OpenChapter.the-variants.{NoChapter, Chapter}
-use Rattle.marks.specs.declared.OpenVerse.{OpenVerse}
-use Rattle.marks.specs.declared.OpenVerse.the-variants.{NoVerse, Verse}
-use Rattle.marks.specs.declared.Marks.{Marks}
+use Rattle.usx_state.specs.declared.OpenChapter.{OpenChapter}
+use Rattle.usx_state.specs.declared.OpenChapter.the-variants.{NoChapter, Chapter}
+use Rattle.usx_state.specs.declared.OpenVerse.{OpenVerse}
+use Rattle.usx_state.specs.declared.OpenVerse.the-variants.{NoVerse, Verse}
+use Rattle.usx_state.specs.declared.Marks.{Marks}
 use Rattle.desk.specs.Desk.{narrowed, partAt, chapterBy, verseBy, marksOf}
 
 -- ---- numbers of 32 bits

@@ -11,11 +11,11 @@ use Rattle.parts.specs.Bytes.{Bytes}
 use Rattle.words.specs.Words.{bytesOf}
 use Rattle.chars.specs.Escape.{escape}
 use Rattle.window.specs.Page.{paint}
-use Rattle.marks.specs.declared.Marks.{Marks}
-use Rattle.marks.specs.declared.OpenChapter.{OpenChapter}
-use Rattle.marks.specs.declared.OpenChapter.the-variants.{NoChapter, Chapter}
-use Rattle.marks.specs.declared.OpenVerse.{OpenVerse}
-use Rattle.marks.specs.declared.OpenVerse.the-variants.{NoVerse, Verse}
+use Rattle.usx_state.specs.declared.Marks.{Marks}
+use Rattle.usx_state.specs.declared.OpenChapter.{OpenChapter}
+use Rattle.usx_state.specs.declared.OpenChapter.the-variants.{NoChapter, Chapter}
+use Rattle.usx_state.specs.declared.OpenVerse.{OpenVerse}
+use Rattle.usx_state.specs.declared.OpenVerse.the-variants.{NoVerse, Verse}
 use Rattle.tags.specs.Items.{render}
 use Rattle.events.specs.Pairing.{State, chapterId, verseId, lastEnds}
 use Rattle.events.specs.Emit.{Desk}

@@ -1,11 +1,11 @@
 // The numbers of a desk, and the record of the open chapter and verse that they hold.
 ghost use mathlib.Core.Path.{_≡_};
 ghost use lib.ListN.{getD};
-ghost use Rattle.marks.specs.Mark.{newMarks};
+ghost use Rattle.usx_state.specs.Mark.{newMarks};
 ghost use Rattle.desk.specs.Desk.{narrowed, chapterBy, verseBy, marksOf, Kept};
-use marks::Marks;
-use marks::OpenChapter;
-use marks::OpenVerse;
+use usx_state::Marks;
+use usx_state::OpenChapter;
+use usx_state::OpenVerse;
 use words::Part;
 
 // 0 the byte of the text that the buffer starts with; 1 and 2 the book's code, a part of the source; 3 the chapter's number; 4 whether a chapter is open, 5 and 6 its

@@ -12,7 +12,7 @@ ghost use mathlib.Core.List.{_++_};
 ghost use Rattle.parts.specs.Bytes.{Bytes};
 ghost use Rattle.words.specs.Words.{bytesOf};
 ghost use Rattle.tape.specs.File.{tapeIn};
-ghost use Rattle.lean.specs.Lean.{Solids};
+ghost use Rattle.leading_white.specs.Lean.{Solids};
 ghost use Rattle.fold.specs.Fold.{slotBy, slotOf, free as freeOf, claimOf, ownText, numberIn};
 ghost use Rattle.fold.specs.Number.{collapse, runList, toCome, numberStart, pieceList, wordSome, pieceSome};
 

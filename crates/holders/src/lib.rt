@@ -26,12 +26,12 @@ use desk::shut_tag;
 use lists::Member;
 use lists::Span;
 use lists::member_of;
-use tagging::put_unclosed;
+use put_attrs::put_category;
+use put_attrs::put_collected;
+use put_markers::put_unclosed;
 use tape::Cursor;
 use tape::Sections;
 use tape::Step;
-use values::put_category;
-use values::put_collected;
 use window::Window;
 use words::Set;
 
@@ -101,7 +101,7 @@ fn put_alt(
         return at;
     }
     let a = key(at, desk, out, b"alt");
-    let w = prose::put_words(
+    let w = put_body::put_words(
         Window {
             at: a,
             from: desk[0],

@@ -25,16 +25,16 @@ use Rattle.events.specs.Emit.{Desk, emit, emitAll}
 use Rattle.events.proofs.Emits.{emit-append}
 use Rattle.events.proofs.Turns.{inline-none}
 use Rattle.roles.specs.Roles.{isWhole, mannerOf, mannerBy}
-use Rattle.tagging.specs.Marker.{markerOpens, markerCloses, leafOf}
-use Rattle.tagging.proofs.Splits.{marker-split}
-use Rattle.turns.specs.Turn.{sortIn, noteSort, plainFrom, onward, notePlain, noteOnward, KeptAt, behindOf, learnt, followsBy, behindBy, noteBehindBy}
-use Rattle.turns.specs.declared.Behind.{Behind}
-use Rattle.turns.specs.declared.Behind.the-variants.{Unasked}
-use Rattle.turns.specs.declared.Sort.{Sort}
-use Rattle.turns.specs.declared.Sort.the-variants.{End, Enter, Plain}
-use Rattle.turns.specs.declared.Child.{Child}
-use Rattle.turns.proofs.Sorts.{sort-turn, note-sort-turn}
-use Rattle.turns.proofs.Laws.{asked-same, follows-learnt, turn-same, note-turn-same}
+use Rattle.put_markers.specs.Marker.{markerOpens, markerCloses, leafOf}
+use Rattle.put_markers.proofs.Splits.{marker-split}
+use Rattle.inline_turns.specs.Turn.{sortIn, noteSort, plainFrom, onward, notePlain, noteOnward, KeptAt, behindOf, learnt, followsBy, behindBy, noteBehindBy}
+use Rattle.inline_turns.specs.declared.Behind.{Behind}
+use Rattle.inline_turns.specs.declared.Behind.the-variants.{Unasked}
+use Rattle.inline_turns.specs.declared.Sort.{Sort}
+use Rattle.inline_turns.specs.declared.Sort.the-variants.{End, Enter, Plain}
+use Rattle.inline_turns.specs.declared.Child.{Child}
+use Rattle.inline_turns.proofs.Sorts.{sort-turn, note-sort-turn}
+use Rattle.inline_turns.proofs.Laws.{asked-same, follows-learnt, turn-same, note-turn-same}
 
 -- ---- markers
 

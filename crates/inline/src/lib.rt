@@ -4,27 +4,27 @@ ghost use mathlib.Core.Bool.{true};
 ghost use Prim.Native.Nat.{_+_};
 ghost use Rattle.tape.specs.File.{tapeIn};
 ghost use Rattle.tape.specs.Tree.{walkFrom};
-ghost use Rattle.lean.specs.Lean.{Solids};
+ghost use Rattle.leading_white.specs.Lean.{Solids};
 ghost use Rattle.events.specs.Walk.{roleOf, markerAs, nodeIn, inside as insideOf, inlineAll, noteAll};
 ghost use Rattle.events.specs.Emit.{emitAll};
 ghost use Rattle.desk.specs.Desk.{deskOf};
 ghost use Rattle.lists.specs.Span.{nodesIn};
 ghost use Rattle.roles.specs.Roles.{mannerBy};
-ghost use Rattle.turns.specs.Turn.{behindOf};
-ghost use Rattle.turns.specs.declared.Behind.the-variants.{Unasked};
+ghost use Rattle.inline_turns.specs.Turn.{behindOf};
+ghost use Rattle.inline_turns.specs.declared.Behind.the-variants.{Unasked};
 use desk::Numbers;
+use inline_turns::Behind;
+use inline_turns::Sort;
+use inline_turns::follows;
+use inline_turns::note_sort;
+use inline_turns::note_turn;
+use inline_turns::plain_turn;
+use inline_turns::sort_in;
 use lists::Span;
 use tape::Cursor;
 use tape::Kind;
 use tape::Sections;
 use tape::Step;
-use turns::Behind;
-use turns::Sort;
-use turns::follows;
-use turns::note_sort;
-use turns::note_turn;
-use turns::plain_turn;
-use turns::sort_in;
 
 // A marker: its opening tags, what stands inside, its closing tags; or a leaf.
 fn marker(
@@ -43,7 +43,7 @@ fn marker(
 {
     let role = roles::role_of(file, tape, c);
     if roles::is_whole(file, tape, c, role) {
-        let a = tagging::open_marker(file, tape, solids, c, role, at, desk, out);
+        let a = put_markers::open_marker(file, tape, solids, c, role, at, desk, out);
         let z = inside(
             file,
             tape,
@@ -56,9 +56,9 @@ fn marker(
             desk,
             out,
         );
-        tagging::close_marker(file, tape, solids, c, role, z, desk, out)
+        put_markers::close_marker(file, tape, solids, c, role, z, desk, out)
     } else {
-        tagging::write_leaf(file, tape, c, role, at, desk, out)
+        put_markers::write_leaf(file, tape, c, role, at, desk, out)
     }
 }
 
@@ -79,7 +79,7 @@ pub fn node(
 {
     let kind = c.kind(file, tape);
     if kind.code == Kind::CHAPTER {
-        return milestone::chapter(
+        return put_chapters::chapter(
             file,
             tape,
             c.number(file, tape),
@@ -91,7 +91,7 @@ pub fn node(
         );
     }
     if kind.code == Kind::VERSE {
-        return milestone::verse(file, tape, c, Step::Done, Step::Done, at, desk, out);
+        return put_chapters::verse(file, tape, c, Step::Done, Step::Done, at, desk, out);
     }
     if kind.code == Kind::MARKER_OPEN {
         return marker(file, tape, solids, c, depth, outer, at, desk, out);
@@ -183,7 +183,7 @@ pub fn inline(
             Step::At(c) => match sort_in(file, tape, span, c) {
                 Sort::End => return s,
                 Sort::Enter => {
-                    known = turns::ask(file, tape, solids, parent, outer, known);
+                    known = inline_turns::ask(file, tape, solids, parent, outer, known);
                     s = node(file, tape, solids, c, depth, follows(known), s, desk, out);
                     trim = render::trims_after(file, tape, c);
                     step = c.next_sibling(file, tape);
@@ -244,7 +244,7 @@ fn note_inline(
             Step::At(c) => match note_sort(file, tape, c) {
                 Sort::End => return s,
                 Sort::Enter => {
-                    known = turns::ask(file, tape, solids, parent, outer, known);
+                    known = inline_turns::ask(file, tape, solids, parent, outer, known);
                     s = node(file, tape, solids, c, depth, follows(known), s, desk, out);
                     trim = render::trims_after(file, tape, c);
                     step = c.next_sibling(file, tape);

@@ -5,7 +5,7 @@ ghost use Prim.Native.Nat.{_≤_};
 ghost use Rattle.render.specs.Shape.{isCategoryMarker, isTopLevelBlock};
 ghost use Rattle.tape.specs.File.{tapeIn};
 ghost use Rattle.tape.specs.Tree.{left, fromFirst};
-ghost use Rattle.lean.specs.Lean.{Solids};
+ghost use Rattle.leading_white.specs.Lean.{Solids};
 ghost use Rattle.fold.specs.Fold.{foldAt};
 ghost use Rattle.lists.specs.Span.{nodesIn, memberOf, stopsAt, runEnd, foldsAt, foldedIn};
 use fold::Claim;

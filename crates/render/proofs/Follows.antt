@@ -18,8 +18,8 @@ use Rattle.tape.specs.declared.Cursor.{Cursor}
 use Rattle.tape.specs.declared.Step.{Step}
 use Rattle.tape.specs.declared.Step.the-variants.{At, Done}
 use Rattle.tape.proofs.Walk.{siblings-walk}
-use Rattle.lean.specs.Lean.{lean}
-use Rattle.lean.proofs.Leans.{blank-lean}
+use Rattle.leading_white.specs.Lean.{lean}
+use Rattle.leading_white.proofs.Leans.{blank-lean}
 use Rattle.render.specs.declared.children.Seen.the-variants.{Solid}
 use Rattle.render.specs.Shape.{isInline}
 use Rattle.render.specs.First.{firstWith}

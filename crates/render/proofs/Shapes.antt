@@ -6,8 +6,8 @@ use lib.Dec.{eqb}
 use borrow.Author.Tests.{eq-eqb, ne-eqb}
 use Rattle.parts.specs.Bytes.{Bytes, b, same}
 use Rattle.words.specs.Words.{isBlank as blank}
-use Rattle.lean.specs.Lean.{lean}
-use Rattle.lean.proofs.Leans.{blank-lean}
+use Rattle.leading_white.specs.Lean.{lean}
+use Rattle.leading_white.proofs.Leans.{blank-lean}
 use Rattle.words.specs.declared.Set.the-variants.{Unicode}
 use Rattle.tape.specs.File.{Tape, nodeAt, kindAt, textAt, infoAt, entryName}
 use Rattle.tape.specs.Tree.{isClose}

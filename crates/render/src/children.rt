@@ -4,7 +4,7 @@ ghost use lib.Dec.{eqb};
 ghost use Rattle.tape.specs.File.{tapeIn, kindAt};
 ghost use Rattle.tape.specs.Tree.{walkFrom};
 ghost use Rattle.render.specs.First.{firstWith};
-ghost use Rattle.lean.specs.Lean.{Solids};
+ghost use Rattle.leading_white.specs.Lean.{Solids};
 ghost use Rattle.render.specs.Children.{passes as isPassing, sees as isSeen, hasContent, isPlainText, firstText};
 use crate::follow::is_solid;
 use crate::shape::is_category_marker;

@@ -2,12 +2,12 @@
 ghost use mathlib.Core.Path.{_≡_};
 ghost use mathlib.Core.Bool.{true};
 ghost use Rattle.tape.specs.File.{tapeIn};
-ghost use Rattle.lean.specs.Lean.{Solids};
+ghost use Rattle.leading_white.specs.Lean.{Solids};
 ghost use Rattle.render.specs.Follow.{isSolid, nextSolid, inlineAt, inlineFollows, followed as isFollowed, Kept};
 use crate::children::Seen;
 use crate::children::find_seen;
 use crate::shape::is_inline;
-use lean::lean_text;
+use leading_white::lean_text;
 use tape::Cursor;
 use tape::Kind;
 use tape::Sections;

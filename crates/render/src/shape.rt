@@ -1,9 +1,9 @@
 // What a node is.
 ghost use mathlib.Core.Path.{_≡_};
 ghost use Rattle.tape.specs.File.{tapeIn};
-ghost use Rattle.lean.specs.Lean.{Solids};
+ghost use Rattle.leading_white.specs.Lean.{Solids};
 ghost use Rattle.render.specs.Shape.{closedBy, unknownShape, isInlineShape, isBlockShape, inlineCategory, isInline, isTopLevelBlock, trimsAfter, isElement, isRow, isCategoryMarker, isBlankText, isContent};
-use lean::lean_text;
+use leading_white::lean_text;
 use tape::Category;
 use tape::Cursor;
 use tape::Element;

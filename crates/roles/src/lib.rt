@@ -5,7 +5,7 @@ ghost use Rattle.tape.specs.File.{tapeIn, entryName};
 ghost use Rattle.tape.specs.Name.{markerName};
 ghost use Rattle.tape.specs.Tree.{children};
 ghost use Rattle.tape.specs.declared.Info.the-variants.{Known};
-ghost use Rattle.lean.specs.Lean.{Solids};
+ghost use Rattle.leading_white.specs.Lean.{Solids};
 ghost use Rattle.render.specs.First.{any};
 ghost use Rattle.attrs.specs.Walk.{soughtOf};
 ghost use Rattle.events.specs.Walk.{roleOf, roleBy, roleOfShape, roleOfCategory, isRef, canLink, linkOf};

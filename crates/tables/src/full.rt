@@ -6,7 +6,7 @@ ghost use Rattle.parts.specs.Bytes.{b};
 ghost use Rattle.tape.specs.File.{tapeIn};
 ghost use Rattle.tape.specs.Name.{markerName};
 ghost use Rattle.tape.specs.Tree.{upTo, walkFrom};
-ghost use Rattle.lean.specs.Lean.{Solids};
+ghost use Rattle.leading_white.specs.Lean.{Solids};
 ghost use Rattle.render.specs.Note.{cellAlign, alignWord};
 ghost use Rattle.events.specs.Event.{escaped, element};
 ghost use Rattle.events.specs.Walk.{asInline, inside as insideOf, style, cellIn, cellsAlong, cells as cellsOf, rowE, rowsE, tableE};

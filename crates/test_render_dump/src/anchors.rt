@@ -1,6 +1,6 @@
 // What a Chapter or Verse says: its label and its folded numbers.
 ghost use Rattle.tape.specs.File.{tapeIn};
-ghost use Rattle.lean.specs.Lean.{Solids};
+ghost use Rattle.leading_white.specs.Lean.{Solids};
 use crate::say;
 use fold::Number;
 use fold::Piece;

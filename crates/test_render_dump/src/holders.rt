@@ -1,6 +1,6 @@
 // What a node that holds others says.
 ghost use Rattle.tape.specs.File.{tapeIn};
-ghost use Rattle.lean.specs.Lean.{Solids};
+ghost use Rattle.leading_white.specs.Lean.{Solids};
 use crate::pairs;
 use crate::say;
 use attrs::Sought;

@@ -3,7 +3,7 @@
 // Standard input is a stream (crate `test_stream`) of admitted tapes of at most 65,536 bytes.
 // The forms of the lines stand in oracle/README.md, under `oracle render`.
 ghost use Rattle.tape.specs.File.{tapeIn};
-ghost use Rattle.lean.specs.Lean.{Solids};
+ghost use Rattle.leading_white.specs.Lean.{Solids};
 
 mod anchors;
 mod holders;
@@ -45,7 +45,7 @@ fn nodes(file: &[u8], t: Sections, solids: &[u32])
 
 fn tabled(file: &[u8], table: &mut [u32]) {
     let t = Sections::of(file);
-    lean::fill(table, file, t);
+    leading_white::fill(table, file, t);
     nodes(file, t, table);
     say::run(b"\n");
 }

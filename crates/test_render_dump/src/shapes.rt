@@ -1,6 +1,6 @@
 // What a node is and what follows it.
 ghost use Rattle.tape.specs.File.{tapeIn};
-ghost use Rattle.lean.specs.Lean.{Solids};
+ghost use Rattle.leading_white.specs.Lean.{Solids};
 use crate::say;
 use crate::say::digit;
 use render::Shape;

@@ -1,6 +1,6 @@
 // What a Text says: its edges and body, what is written of it alone, what follows its first word.
 ghost use Rattle.tape.specs.File.{tapeIn};
-ghost use Rattle.lean.specs.Lean.{Solids};
+ghost use Rattle.leading_white.specs.Lean.{Solids};
 use crate::say;
 use crate::say::digit;
 use tape::Cursor;

@@ -33,8 +33,8 @@ use Rattle.events.specs.Walk.{blocksE, eventsWithin, eventsOf}
 use Rattle.events.specs.Text.{anyChapter, firstState, itemsOfTape, textOf, fitting}
 use Rattle.events.specs.Emit.{Desk, lay, emit, emitAll, emitted, afterAll}
 use Rattle.events.proofs.Emits.{paired-emitted, emit-page, emit-state}
-use Rattle.marks.specs.Mark.{newMarks}
-use Rattle.marks.specs.declared.Marks.{Marks}
+use Rattle.usx_state.specs.Mark.{newMarks}
+use Rattle.usx_state.specs.declared.Marks.{Marks}
 use Rattle.desk.specs.Desk.{chapterIn, verseIn, stateIn, marksOf, deskOf, putOn, ended}
 use Rattle.desk.specs.Stroke.{opens as openStroke, key, piece, endValue, ends as endStroke, closes as closeStroke, strokesOf, strokesOfAttrs, strokesOfAttr, ink, inkAll, strokes, Drew}
 use Rattle.desk.proofs.Strokes.{drew-two}

@@ -9,8 +9,8 @@ ghost use Rattle.events.specs.Emit.{lay};
 ghost use Rattle.desk.specs.Stroke.{strokesOf, Drew};
 ghost use Prim.Native.Nat.{_+_, _/_, _≤_, min};
 ghost use Rattle.tape.specs.File.{tapeIn};
-ghost use Rattle.lean.specs.Lean.{Solids};
-ghost use Rattle.marks.specs.Mark.{newMarks};
+ghost use Rattle.leading_white.specs.Lean.{Solids};
+ghost use Rattle.usx_state.specs.Mark.{newMarks};
 ghost use Rattle.events.specs.Text.{firstState};
 ghost use Rattle.desk.specs.Desk.{marksOf, deskOf};
 ghost use lib.ListN.{getD};
@@ -84,7 +84,7 @@ fn write_on(
     let first = Cursor::new(0).first_child(file, tape);
     let a = open_usx(0, desk, out);
     let d = blocks(file, tape, solids, false, first, 1, a, desk, out);
-    let e = milestone::last_ends(file, tape, d, desk, out);
+    let e = put_chapters::last_ends(file, tape, d, desk, out);
     close_usx(e, desk, out)
 }
 
@@ -160,7 +160,7 @@ fn write_tabled(
 ) -> usize
     ensures { λ r. ⌜ Walked (tapeIn tape (now (file .entry))) asked (now (out .entry)) r (now (out .exit)) ⌝ }
 {
-    lean::fill(solids, file, tape);
+    leading_white::fill(solids, file, tape);
     write_by(file, tape, solids, asked, out)
 }
 

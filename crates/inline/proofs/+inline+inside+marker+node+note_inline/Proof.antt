@@ -9,9 +9,9 @@ use Rattle.lists.specs.Span.{nodesIn}
 use Rattle.events.specs.Walk.{nodeIn, inside as insideOf, inlineAll, noteAll}
 use Rattle.events.specs.Emit.{emitAll}
 use Rattle.desk.specs.Desk.{deskOf}
-use Rattle.turns.specs.Turn.{KeptAt, behindOf}
+use Rattle.inline_turns.specs.Turn.{KeptAt, behindOf}
 use Rattle.inline.proofs.Steps.{marker-whole, marker-leaf, node-chapter, node-verse, node-marker, node-other, inside-zero, inside-inline, inside-note, inline-done, inline-ended, inline-entered, inline-plain, note-done, note-ended, note-entered, note-plain, kept-plain}
-use Rattle.turns.proofs.Laws.{kept-here}
+use Rattle.inline_turns.proofs.Laws.{kept-here}
 use borrow.Fn.Kinds.{In}
 use borrow.Fn.PlainCycle.{Measures, is, falls, and}
 use Rattle.inline.proofs.inline.Reads as inline
@@ -29,25 +29,25 @@ use Rattle.inline.proofs.+inline+inside+marker+node+note_inline.Lts-nod
 use Rattle.inline.proofs.note_inline.Reads as note-inline
 use Rattle.inline.proofs.note_inline.Kinds as note-inline-kinds
 use Rattle.inline.proofs.+inline+inside+marker+node+note_inline.Lts-note_inline as note-inline-lts
-use Rattle.milestone.proofs.chapter.Reads as chapter-reads
-use Rattle.milestone.proofs.verse.Reads as verse-reads
+use Rattle.put_chapters.proofs.chapter.Reads as chapter-reads
+use Rattle.put_chapters.proofs.verse.Reads as verse-reads
 use Rattle.render.proofs.trims_after.Reads as trims-after-reads
 use Rattle.roles.proofs.is_note.Reads as is-note-reads
 use Rattle.roles.proofs.is_whole.Reads as is-whole-reads
 use Rattle.roles.proofs.role_of.Reads as role-of-reads
-use Rattle.tagging.proofs.close_marker.Reads as close-marker-reads
-use Rattle.tagging.proofs.write_leaf.Reads as write-leaf-reads
-use Rattle.tagging.proofs.open_marker.Reads as open-marker-reads
+use Rattle.put_markers.proofs.close_marker.Reads as close-marker-reads
+use Rattle.put_markers.proofs.write_leaf.Reads as write-leaf-reads
+use Rattle.put_markers.proofs.open_marker.Reads as open-marker-reads
 use Rattle.tape.proofs.Cursor.first_child.Reads as first-child-reads
 use Rattle.tape.proofs.Cursor.kind.Reads as kind-reads
 use Rattle.tape.proofs.Cursor.next_sibling.Reads as next-sibling-reads
 use Rattle.tape.proofs.Cursor.number.Reads as number-reads
-use Rattle.turns.proofs.ask.Reads as ask-reads
-use Rattle.turns.proofs.follows.Reads as follows-reads
-use Rattle.turns.proofs.note_sort.Reads as note-sort-reads
-use Rattle.turns.proofs.note_turn.Reads as note-turn-reads
-use Rattle.turns.proofs.plain_turn.Reads as plain-turn-reads
-use Rattle.turns.proofs.sort_in.Reads as sort-in-reads
+use Rattle.inline_turns.proofs.ask.Reads as ask-reads
+use Rattle.inline_turns.proofs.follows.Reads as follows-reads
+use Rattle.inline_turns.proofs.note_sort.Reads as note-sort-reads
+use Rattle.inline_turns.proofs.note_turn.Reads as note-turn-reads
+use Rattle.inline_turns.proofs.plain_turn.Reads as plain-turn-reads
+use Rattle.inline_turns.proofs.sort_in.Reads as sort-in-reads
 use Rattle.inline.proofs.+inline+inside+marker+node+note_inline.{statement}
 use Rattle.inline.proofs.+inline+inside+marker+node+note_inline.Tie.{close}
 

@@ -1,0 +1,33 @@
+use Rattle.put_chapters.proofs.Idents.{chapter-id}
+use borrow.Author.Needs.{needs}
+use Rattle.put_chapters.proofs.ident.chapter_id.Statement.{statement}
+use Rattle.put_chapters.proofs.ident.chapter_id.Tie as tie
+
+piece-requires : tie.Need-piece-requires
+piece-requires c κs = search needs
+
+slice-aggregate-piece : tie.Need-slice-aggregate-piece
+slice-aggregate-piece c = search needs
+
+piece-requires-2 : tie.Need-piece-requires-2
+piece-requires-2 c κs = search needs
+
+digits-requires : tie.Need-digits-requires
+digits-requires c κs = search needs
+
+same-length : tie.Need-same-length
+same-length c = search needs
+
+returns : tie.Need-returns
+returns c = search chapter-id
+
+pub chapter-id-spec : {M : Type 1} → statement M
+chapter-id-spec =
+    tie.close
+    (tie.spec
+    piece-requires
+    slice-aggregate-piece
+    piece-requires-2
+    digits-requires
+    same-length
+    returns)

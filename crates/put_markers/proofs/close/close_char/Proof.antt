@@ -1,0 +1,49 @@
+use Rattle.put_markers.proofs.Closes.{char-closed, link-closed}
+use borrow.Author.Needs.{needs}
+use Rattle.put_markers.proofs.close.close_char.Statement.{statement}
+use Rattle.put_markers.proofs.close.close_char.Tie as tie
+
+link-of-requires : tie.Need-link-of-requires
+link-of-requires c κs = search needs
+
+enum-told : tie.Need-enum-told
+enum-told c = search needs
+
+close-char-requires : tie.Need-close-char-requires
+close-char-requires c κs = search needs
+
+enum-told-2 : tie.Need-enum-told-2
+enum-told-2 c = search needs
+
+close-tag-requires : tie.Need-close-tag-requires
+close-tag-requires c κs = search needs
+
+close-char-requires-2 : tie.Need-close-char-requires-2
+close-char-requires-2 c κs = search needs
+
+same-length : tie.Need-same-length
+same-length c = search needs
+
+returns : tie.Need-returns
+returns c = search char-closed
+
+same-length-2 : tie.Need-same-length-2
+same-length-2 c = search needs
+
+returns-2 : tie.Need-returns-2
+returns-2 c = search link-closed
+
+pub close-char-spec : {M : Type 1} → statement M
+close-char-spec =
+    tie.close
+    (tie.spec
+    link-of-requires
+    enum-told
+    close-char-requires
+    enum-told-2
+    close-tag-requires
+    close-char-requires-2
+    same-length
+    returns
+    same-length-2
+    returns-2)
