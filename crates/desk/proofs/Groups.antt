@@ -1,17 +1,19 @@
 -- Frequent rows of strokes, from their runs.
-use mathlib.Core.Path.{_≡_, refl}
+use mathlib.Core.Path.{_≡_, refl, sym, _∙_}
 use mathlib.Core.Bool.{true, false}
-use mathlib.Core.List.{List, [], _∷_}
+use mathlib.Core.List.{List, [], _∷_, _++_}
 use Prim.Native.Nat.{ℕ}
 use lib.ListN.{getD}
 use Rattle.parts.specs.Bytes.{Bytes, b}
 use Rattle.chars.specs.Escape.{escape}
 use Rattle.window.specs.Page.{pageOf, paint}
 use Rattle.window.specs.declared.Window.{Window}
+use Rattle.window.proofs.Paint.{paint-two}
 use Rattle.tags.specs.Names.{nameOf}
-use Rattle.desk.specs.Stroke.{opens, key, piece, endValue, shuts, closes, ink, inkAll, Drew}
+use Rattle.desk.specs.Stroke.{opens, key, piece, endValue, shuts, closes, strokesOfAttrs, ink, inkAll, Drew}
+use Rattle.tags.specs.Items.{Attr, attrsBytes}
 use Rattle.desk.proofs.Chains.{paint-three}
-use Rattle.desk.proofs.Strokes.{drew-run}
+use Rattle.desk.proofs.Strokes.{drew-run, ink-attrs}
 
 module _ (at : ℕ) (d : List ℕ) (out : Bytes) where
   pub char-closed : {v : Window} {last : Bytes} → pageOf v last ≡ paint (record { at = at; from = getD d 0 0; buf = out }) (b "</char>") → Drew at d out (closes 6 ∷ []) (v .at) d last
@@ -26,9 +28,17 @@ module _ (at : ℕ) (d : List ℕ) (out : Bytes) where
   unfolding ink inkAll nameOf
   end-opened e = drew-run at d out (opens 4 ∷ key (b "eid") ∷ []) refl e
 
+  pub sid-opened : {v : Window} {last : Bytes} → pageOf v last ≡ paint (record { at = at; from = getD d 0 0; buf = out }) (b " sid=\"") → Drew at d out (key (b "sid") ∷ []) (v .at) d last
+  unfolding ink inkAll
+  sid-opened e = drew-run at d out (key (b "sid") ∷ []) refl e
+
   pub value-shut : {v : Window} {last : Bytes} → pageOf v last ≡ paint (record { at = at; from = getD d 0 0; buf = out }) (b "\" />") → Drew at d out (endValue ∷ shuts ∷ []) (v .at) d last
   unfolding ink inkAll
   value-shut e = drew-run at d out (endValue ∷ shuts ∷ []) refl e
+
+  pub attr-stands : {w v : Window} {o₁ last : Bytes} (s : Bytes) → pageOf w o₁ ≡ paint (record { at = at; from = getD d 0 0; buf = out }) (b " ") → pageOf v last ≡ paint (pageOf w o₁) s
+      → (qs : List Attr) → b " " ++ s ≡ attrsBytes qs → Drew at d out (strokesOfAttrs qs) (v .at) d last
+  attr-stands s e₁ e₂ qs es = drew-run at d out (strokesOfAttrs qs) (es ∙ sym (ink-attrs qs)) (paint-two _ (b " ") s e₁ e₂)
 
   module _ {w v u : Window} {o₁ o₂ last : Bytes} (s : Bytes) where
     pub char-opened : pageOf w o₁ ≡ paint (record { at = at; from = getD d 0 0; buf = out }) (b "<char style=\"") → pageOf v o₂ ≡ paint (pageOf w o₁) s → pageOf u last ≡ paint (pageOf v o₂) (b "\"")

@@ -65,11 +65,11 @@ pub a-verse : {held : OpenVerse} (code label : Part) {n m : ℕ} → held ≡ Ve
 unfolding verseBy
 a-verse code label {n} {m} h f e = ap (λ (k : ℕ). Verse code k label) (ap narrowed e ∙ sym (narrow-low n f)) ∙ sym h
 
-pub numbers-hold : (from : ℕ) (m : Marks) {n : ℕ} (c v : List ℕ) → chapterBy (getD c 0 0) (getD c 1 0) (getD c 2 0) (getD c 3 0) ≡ m .chapter
+pub numbers-hold : (from profile : ℕ) (m : Marks) {n : ℕ} (c v : List ℕ) → chapterBy (getD c 0 0) (getD c 1 0) (getD c 2 0) (getD c 3 0) ≡ m .chapter
     → verseBy (getD v 0 0) (getD v 1 0) (getD v 2 0) (getD v 3 0) (getD v 4 0) (getD v 5 0) ≡ m .verse → m .number < 2 ^ 32 → n ≡ m .number
-    → marksOf (from ∷ m .book .start ∷ m .book .len ∷ n ∷ getD c 0 0 ∷ getD c 1 0 ∷ getD c 2 0 ∷ getD c 3 0 ∷ getD v 0 0 ∷ getD v 1 0 ∷ getD v 2 0 ∷ getD v 3 0 ∷ getD v 4 0 ∷ getD v 5 0 ∷ []) ≡ m
+    → marksOf (from ∷ m .book .start ∷ m .book .len ∷ n ∷ getD c 0 0 ∷ getD c 1 0 ∷ getD c 2 0 ∷ getD c 3 0 ∷ getD v 0 0 ∷ getD v 1 0 ∷ getD v 2 0 ∷ getD v 3 0 ∷ getD v 4 0 ∷ getD v 5 0 ∷ profile ∷ []) ≡ m
 unfolding marksOf
-numbers-hold from m c v ec ev f en =
+numbers-hold from profile m c v ec ev f en =
     ap (λ (k : ℕ). record { book = m .book; number = k; chapter = chapterBy (getD c 0 0) (getD c 1 0) (getD c 2 0) (getD c 3 0); verse = verseBy (getD v 0 0) (getD v 1 0) (getD v 2 0) (getD v 3 0) (getD v 4 0) (getD v 5 0) })
     (ap narrowed en ∙ sym (narrow-low (m .number) f))
     ∙ ap (λ (k : OpenChapter). record { book = m .book; number = m .number; chapter = k; verse = verseBy (getD v 0 0) (getD v 1 0) (getD v 2 0) (getD v 3 0) (getD v 4 0) (getD v 5 0) }) ec

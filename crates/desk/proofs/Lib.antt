@@ -3,3 +3,4 @@ pub mod Holding
 pub mod Shown
 pub mod Strokes
 pub mod Groups
+pub mod Texts

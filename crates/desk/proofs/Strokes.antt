@@ -6,6 +6,7 @@ use Prim.Native.Nat.{ℕ}
 use lib.ListN.{getD}
 use Rattle.parts.specs.Bytes.{Bytes, b}
 use Rattle.chars.specs.Decimal.{decimal}
+use Rattle.chars.specs.Escape.{escape}
 use Rattle.chars.proofs.Escapes.{escape-append}
 use Rattle.window.specs.Page.{Page, pageOf, paint}
 use Rattle.window.specs.declared.Window.{Window}
@@ -13,8 +14,10 @@ use Rattle.window.proofs.Paint.{paint-append, paint-two}
 use Rattle.tags.specs.Names.{nameOf}
 use Rattle.tags.specs.Items.{Attr, Item, start, empty, close, text, line, valueOf, attrBytes, attrsBytes, bytesOf, render}
 use Rattle.events.specs.Event.{item}
+use Rattle.events.specs.Profile.{Profile, rust, renderAs}
 use Rattle.events.specs.Emit.{Desk, emit}
-use Rattle.desk.specs.Desk.{deskOf, putOn, shownAs}
+use Rattle.events.proofs.Emits.{one-profile}
+use Rattle.desk.specs.Desk.{profileOf, deskOf, putOn, shownAs}
 use Rattle.desk.specs.Named.{numberOf}
 use Rattle.desk.specs.declared.stroke.Element.{Element}
 use Rattle.desk.specs.Stroke.{Stroke, opens, key, piece, endValue, ends, shuts, closes, strokesOfAttr, strokesOfAttrs, strokesOf, strokesOfAll, ink, inkAll, strokes, Drew}
@@ -23,16 +26,16 @@ use Rattle.desk.proofs.Shown.{shown-decimal}
 
 -- ---- strokes in a row
 
-pub ink-append : (x y : List Stroke) → inkAll (x ++ y) ≡ inkAll x ++ inkAll y
+pub ink-append : (p : Profile) (x y : List Stroke) → inkAll p (x ++ y) ≡ inkAll p x ++ inkAll p y
 unfolding inkAll
-ink-append [] y = refl
-ink-append (s ∷ x) y = ap (λ (z : Bytes). ink s ++ z) (ink-append x y) ∙ sym (append-assoc (ink s) (inkAll x) (inkAll y))
+ink-append p [] y = refl
+ink-append p (s ∷ x) y = ap (λ (z : Bytes). ink p s ++ z) (ink-append p x y) ∙ sym (append-assoc (ink p s) (inkAll p x) (inkAll p y))
 
 pub strokes-append : (w : Desk) (x y : List Stroke) → strokes w (x ++ y) ≡ strokes (strokes w x) y
 unfolding strokes putOn
 strokes-append w x y =
-    ap (λ (z : Bytes). record { page = paint (w .page) z; state = w .state }) (ink-append x y)
-    ∙ ap (λ (p : Page). record { page = p; state = w .state }) (sym (paint-append (w .page) (inkAll x) (inkAll y)))
+    ap (λ (z : Bytes). record { page = paint (w .page) z; state = w .state; profile = w .profile }) (ink-append (w .profile) x y)
+    ∙ ap (λ (p : Page). record { page = p; state = w .state; profile = w .profile }) (sym (paint-append (w .page) (inkAll (w .profile) x) (inkAll (w .profile) y)))
 
 module _ {at at₁ at₂ : ℕ} (d d₁ d₂ : List ℕ) {out out₁ out₂ : Bytes} where
   pub drew-two : {x y : List Stroke} → Drew at d out x at₁ d₁ out₁ → Drew at₁ d₁ out₁ y at₂ d₂ out₂ → Drew at d out (x ++ y) at₂ d₂ out₂
@@ -44,52 +47,62 @@ drew-none d = record { on = λ source. refl }
 
 -- ---- from bytes
 
--- bytes through the window of a desk are a row of strokes
-pub drew-run : (at : ℕ) {v : Window} (d : List ℕ) (out : Bytes) {last : Bytes} (ss : List Stroke) {x : Bytes} → x ≡ inkAll ss
+-- bytes through the window of a desk are a row of strokes: those of the one profile
+pub drew-run : (at : ℕ) {v : Window} (d : List ℕ) (out : Bytes) {last : Bytes} (ss : List Stroke) {x : Bytes} → x ≡ inkAll rust ss
     → pageOf v last ≡ paint (record { at = at; from = getD d 0 0; buf = out }) x → Drew at d out ss (v .at) d last
 unfolding strokes
-drew-run at d out ss {x} ex ev = record { on = λ source. desk-on at d out x ev source ∙ ap (putOn (deskOf source at d out)) ex }
+drew-run at d out ss {x} ex ev = record { on = λ source. desk-on at d out x ev source ∙ ap (putOn (deskOf source at d out)) (ex ∙ ap (λ (p : Profile). inkAll p ss) (sym (one-profile (profileOf (getD d 14 0))))) }
 
 pub drew-one : (at : ℕ) {v : Window} (d : List ℕ) (out : Bytes) {last : Bytes} (s : Stroke)
-    → pageOf v last ≡ paint (record { at = at; from = getD d 0 0; buf = out }) (ink s) → Drew at d out (s ∷ []) (v .at) d last
+    → pageOf v last ≡ paint (record { at = at; from = getD d 0 0; buf = out }) (ink rust s) → Drew at d out (s ∷ []) (v .at) d last
 unfolding inkAll
-drew-one at d out s ev = drew-run at d out (s ∷ []) (sym (append-nil (ink s))) ev
+drew-one at d out s ev = drew-run at d out (s ∷ []) (sym (append-nil (ink rust s))) ev
 
 -- the name of an element
 pub name-by : (k : Element) (p : Page) {q : Page} {e : Element} → e ≡ k → q ≡ paint p (nameOf (numberOf k)) → q ≡ paint p (nameOf (numberOf e))
 name-by k p h eq = eq ∙ ap (λ (x : Element). paint p (nameOf (numberOf x))) (sym h)
 
 -- the front of a tag, and a closing tag, from their runs
-pub open-bytes : (p : Page) {q r : Page} (n : ℕ) → q ≡ paint p (b "<") → r ≡ paint q (nameOf n) → r ≡ paint p (ink (opens n))
+pub open-bytes : (p : Page) {q r : Page} (n : ℕ) → q ≡ paint p (b "<") → r ≡ paint q (nameOf n) → r ≡ paint p (ink rust (opens n))
 unfolding ink
 open-bytes p n e₁ e₂ = paint-two p (b "<") (nameOf n) e₁ e₂
 
-pub close-bytes : (p : Page) {q r s : Page} (n : ℕ) → q ≡ paint p (b "</") → r ≡ paint q (nameOf n) → s ≡ paint r (b ">") → s ≡ paint p (ink (closes n))
+pub close-bytes : (p : Page) {q r s : Page} (n : ℕ) → q ≡ paint p (b "</") → r ≡ paint q (nameOf n) → s ≡ paint r (b ">") → s ≡ paint p (ink rust (closes n))
 unfolding ink
 close-bytes p n e₁ e₂ e₃ = paint-three p (b "</") (nameOf n) (b ">") e₁ e₂ e₃
 
 -- a key from its runs
-pub key-bytes : (p : Page) {q r s : Page} (k : Bytes) → q ≡ paint p (b " ") → r ≡ paint q k → s ≡ paint r (b "=\"") → s ≡ paint p (ink (key k))
+pub key-bytes : (p : Page) {q r s : Page} (k : Bytes) → q ≡ paint p (b " ") → r ≡ paint q k → s ≡ paint r (b "=\"") → s ≡ paint p (ink rust (key k))
 unfolding ink
 key-bytes p k e₁ e₂ e₃ = paint-three p (b " ") k (b "=\"") e₁ e₂ e₃
 
 -- a piece of a value as it is shown
-pub piece-bytes : (p : Page) {q : Page} (raw : Bool) (s : Bytes) → q ≡ paint p (shownAs raw s) → q ≡ paint p (ink (piece raw s))
+pub piece-bytes : (p : Page) {q : Page} (raw : Bool) (s : Bytes) → q ≡ paint p (shownAs raw s) → q ≡ paint p (ink rust (piece raw s))
 unfolding ink shownAs
 piece-bytes p raw s e = e
 
+-- a piece that its escapes leave as it is, raw or escaped
+plain-bytes : (p : Page) {q : Page} (raw : Bool) (s : Bytes) → escape true s ≡ s → q ≡ paint p s → q ≡ paint p (ink rust (piece raw s))
+unfolding ink
+plain-bytes p true s h e = e
+plain-bytes p false s h e = e ∙ ap (paint p) (sym h)
+
+pub plain-drawn : (at : ℕ) {v : Window} (d : List ℕ) (out : Bytes) {last : Bytes} (s : Bytes) → pageOf v last ≡ paint (record { at = at; from = getD d 0 0; buf = out }) s
+    → escape true s ≡ s → (raw : Bool) → Drew at d out (piece raw s ∷ []) (v .at) d last
+plain-drawn at d out s ev h raw = drew-one at d out (piece raw s) (plain-bytes _ raw s h ev)
+
 -- digits are written as they are, raw or escaped
-pub digits-bytes : (p : Page) {q : Page} (raw : Bool) (n : ℕ) → q ≡ paint p (decimal n) → q ≡ paint p (ink (piece raw (decimal n)))
+pub digits-bytes : (p : Page) {q : Page} (raw : Bool) (n : ℕ) → q ≡ paint p (decimal n) → q ≡ paint p (ink rust (piece raw (decimal n)))
 digits-bytes p raw n e = piece-bytes p raw (decimal n) (e ∙ ap (paint p) (sym (shown-decimal raw n)))
 
 -- a front of a tag and its style from their runs
-pub styled-bytes : (p : Page) {q r s t : Page} (n : ℕ) (v : Bytes) → q ≡ paint p (ink (opens n)) → r ≡ paint q (b " style=\"") → s ≡ paint r v → t ≡ paint s (b "\"")
-    → t ≡ paint p (inkAll (opens n ∷ key (b "style") ∷ piece true v ∷ endValue ∷ []))
+pub styled-bytes : (p : Page) {q r s t : Page} (n : ℕ) (v : Bytes) → q ≡ paint p (ink rust (opens n)) → r ≡ paint q (b " style=\"") → s ≡ paint r v → t ≡ paint s (b "\"")
+    → t ≡ paint p (inkAll rust (opens n ∷ key (b "style") ∷ piece true v ∷ endValue ∷ []))
 unfolding ink inkAll
-styled-bytes p n v e₁ e₂ e₃ e₄ = paint-four p (ink (opens n)) (b " style=\"") v (b "\"") e₁ e₂ e₃ e₄
+styled-bytes p n v e₁ e₂ e₃ e₄ = paint-four p (ink rust (opens n)) (b " style=\"") v (b "\"") e₁ e₂ e₃ e₄
 
 pub drew-styled : (at : ℕ) {w v u z : Window} (d : List ℕ) (out : Bytes) {o₁ o₂ o₃ last : Bytes} (n : ℕ) (s : Bytes)
-    → pageOf w o₁ ≡ paint (record { at = at; from = getD d 0 0; buf = out }) (ink (opens n)) → pageOf v o₂ ≡ paint (pageOf w o₁) (b " style=\"") → pageOf u o₃ ≡ paint (pageOf v o₂) s → pageOf z last ≡ paint (pageOf u o₃) (b "\"")
+    → pageOf w o₁ ≡ paint (record { at = at; from = getD d 0 0; buf = out }) (ink rust (opens n)) → pageOf v o₂ ≡ paint (pageOf w o₁) (b " style=\"") → pageOf u o₃ ≡ paint (pageOf v o₂) s → pageOf z last ≡ paint (pageOf u o₃) (b "\"")
     → Drew at d out (opens n ∷ key (b "style") ∷ piece true s ∷ endValue ∷ []) (z .at) d last
 drew-styled at d out n s e₁ e₂ e₃ e₄ = drew-run at d out _ refl (styled-bytes _ n s e₁ e₂ e₃ e₄)
 
@@ -100,36 +113,42 @@ drew-attr d d₁ d₂ d₃ k raw v e₁ e₂ e₃ = drew-two d d₁ d₃ e₁ (d
 
 -- ---- items
 
-ink-attr : (a : Attr) → inkAll (strokesOfAttr a) ≡ attrBytes a
+ink-attr : (a : Attr) → inkAll rust (strokesOfAttr a) ≡ attrBytes a
 unfolding inkAll ink strokesOfAttr attrBytes valueOf
 ink-attr a = ap (λ (z : Bytes). 32 ∷ z) (append-assoc (a .key) (b "=\"") (valueOf a ++ b "\""))
 
-pub ink-attrs : (qs : List Attr) → inkAll (strokesOfAttrs qs) ≡ attrsBytes qs
+pub ink-attrs : (qs : List Attr) → inkAll rust (strokesOfAttrs qs) ≡ attrsBytes qs
 unfolding inkAll strokesOfAttrs attrsBytes
 ink-attrs [] = refl
 ink-attrs (a ∷ qs) =
-    ink-append (strokesOfAttr a) (strokesOfAttrs qs)
-    ∙ ap (λ (z : Bytes). inkAll (strokesOfAttr a) ++ z) (ink-attrs qs)
+    ink-append rust (strokesOfAttr a) (strokesOfAttrs qs)
+    ∙ ap (λ (z : Bytes). inkAll rust (strokesOfAttr a) ++ z) (ink-attrs qs)
     ∙ ap (λ (z : Bytes). z ++ attrsBytes qs) (ink-attr a)
 
 -- the bytes of an item are those of its strokes
-pub ink-item : (i : Item) → inkAll (strokesOf i) ≡ bytesOf i
+ink-item : (i : Item) → inkAll rust (strokesOf i) ≡ bytesOf i
 unfolding inkAll ink strokesOf bytesOf
-ink-item (start n qs) = ap (λ (z : Bytes). 60 ∷ (nameOf n ++ z)) (ink-append (strokesOfAttrs qs) (ends ∷ []) ∙ ap (λ (z : Bytes). z ++ b ">") (ink-attrs qs))
-ink-item (empty n qs) = ap (λ (z : Bytes). 60 ∷ (nameOf n ++ z)) (ink-append (strokesOfAttrs qs) (shuts ∷ []) ∙ ap (λ (z : Bytes). z ++ b " />") (ink-attrs qs))
+ink-item (start n qs) = ap (λ (z : Bytes). 60 ∷ (nameOf n ++ z)) (ink-append rust (strokesOfAttrs qs) (ends ∷ []) ∙ ap (λ (z : Bytes). z ++ b ">") (ink-attrs qs))
+ink-item (empty n qs) = ap (λ (z : Bytes). 60 ∷ (nameOf n ++ z)) (ink-append rust (strokesOfAttrs qs) (shuts ∷ []) ∙ ap (λ (z : Bytes). z ++ b " />") (ink-attrs qs))
 ink-item (close n) = append-nil _
 ink-item (text t) = append-nil _
 ink-item (line d) = append-nil _
 
--- items in a row
-pub ink-items : (is : List Item) → inkAll (strokesOfAll is) ≡ render is
-unfolding inkAll strokesOfAll render
-ink-items [] = refl
-ink-items (i ∷ is) = ink-append (strokesOf i) (strokesOfAll is) ∙ ap (λ (z : Bytes). inkAll (strokesOf i) ++ z) (ink-items is) ∙ ap (λ (z : Bytes). z ++ render is) (ink-item i)
+-- items in a row, in any profile
+pub ink-items : (p : Profile) (is : List Item) → inkAll p (strokesOfAll is) ≡ renderAs p is
+unfolding inkAll strokesOfAll renderAs render
+ink-items rust [] = refl
+ink-items rust (i ∷ is) =
+    ink-append rust (strokesOf i) (strokesOfAll is) ∙ ap (λ (z : Bytes). inkAll rust (strokesOf i) ++ z) (ink-items rust is) ∙ ap (λ (z : Bytes). z ++ render is) (ink-item i)
+
+-- an item alone, in any profile
+ink-alone : (p : Profile) (i : Item) → inkAll p (strokesOf i) ≡ renderAs p (i ∷ [])
+unfolding strokesOfAll
+ink-alone p i = ap (inkAll p) (sym (append-nil (strokesOf i))) ∙ ink-items p (i ∷ [])
 
 pub strokes-item : (w : Desk) (i : Item) → strokes w (strokesOf i) ≡ emit w (item i)
 unfolding strokes
-strokes-item w i = ap (putOn w) (ink-item i) ∙ item-on w i
+strokes-item w i = ap (putOn w) (ink-alone (w .profile) i) ∙ item-on w i
 
 -- strokes that are an item's
 pub drew-item : {at r : ℕ} (d last-d : List ℕ) {out last : Bytes} (i : Item) → Drew at d out (strokesOf i) r last-d last
@@ -145,10 +164,10 @@ attrs-append (a ∷ x) y = ap (λ (z : List Stroke). strokesOfAttr a ++ z) (attr
 
 -- ---- pieces of one value
 
-pub ink-pieces : (raw : Bool) (s t : Bytes) → ink (piece raw s) ++ ink (piece raw t) ≡ ink (piece raw (s ++ t))
+pub ink-pieces : (p : Profile) (raw : Bool) (s t : Bytes) → ink p (piece raw s) ++ ink p (piece raw t) ≡ ink p (piece raw (s ++ t))
 unfolding ink
-ink-pieces true s t = refl
-ink-pieces false s t = sym (escape-append true s t)
+ink-pieces rust true s t = refl
+ink-pieces rust false s t = sym (escape-append true s t)
 
 pub drew-pieces : {at a r : ℕ} (d d₁ d₂ : List ℕ) {out o₁ last : Bytes} (raw : Bool) (s t : Bytes) → Drew at d out (piece raw s ∷ []) a d₁ o₁ → Drew a d₁ o₁ (piece raw t ∷ []) r d₂ last
     → Drew at d out (piece raw (s ++ t) ∷ []) r d₂ last
@@ -156,6 +175,7 @@ unfolding strokes inkAll
 drew-pieces {at} d d₁ d₂ {out} raw s t e f =
     record {
       on = λ source.
+          let p : Profile = profileOf (getD d 14 0) in
           drew-two d d₁ d₂ e f .on source
-          ∙ ap (putOn (deskOf source at d out)) (sym (append-assoc (ink (piece raw s)) (ink (piece raw t)) []) ∙ ap (λ (z : Bytes). z ++ []) (ink-pieces raw s t));
+          ∙ ap (putOn (deskOf source at d out)) (sym (append-assoc (ink p (piece raw s)) (ink p (piece raw t)) []) ∙ ap (λ (z : Bytes). z ++ []) (ink-pieces p raw s t));
     }

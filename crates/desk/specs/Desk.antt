@@ -16,8 +16,8 @@ use Rattle.usx_state.specs.declared.OpenChapter.{OpenChapter}
 use Rattle.usx_state.specs.declared.OpenChapter.the-variants.{NoChapter, Chapter}
 use Rattle.usx_state.specs.declared.OpenVerse.{OpenVerse}
 use Rattle.usx_state.specs.declared.OpenVerse.the-variants.{NoVerse, Verse}
-use Rattle.tags.specs.Items.{render}
 use Rattle.events.specs.Pairing.{State, chapterId, verseId, lastEnds}
+use Rattle.events.specs.Profile.{Profile, rust, renderAs}
 use Rattle.events.specs.Emit.{Desk}
 
 -- the identifier of a chapter that is open
@@ -68,27 +68,34 @@ marksOf d =
       verse = verseBy (getD d 8 0) (getD d 9 0) (getD d 10 0) (getD d 11 0) (getD d 12 0) (getD d 13 0);
     }
 
--- other numbers hold a record, and the window is as it was
+-- the profile that a number names: there is one
+unfoldable pub profileOf : ℕ → Profile
+profileOf n = rust
+
+-- other numbers hold a record, and the window and the profile are as they were
 pub record Kept (d : List ℕ) (m : Marks) (last : List ℕ) : Type 0 where
   pub from : getD last 0 0 ≡ getD d 0 0
   pub marks : marksOf last ≡ m
+  pub profile : getD last 14 0 ≡ getD d 14 0
 
 -- ---- the desk
 
--- the desk that a count, numbers and the buffer beside them stand for: the window starts with byte 0 of the numbers
+-- the desk that a count, numbers and the buffer beside them stand for: number 0 is the byte that the window starts with, and number 14 the profile's
 abbrev pub deskOf : Bytes → ℕ → List ℕ → Bytes → Desk
-deskOf source at d out = record { page = record { at = at; from = getD d 0 0; buf = out }; state = stateIn source (marksOf d) }
+deskOf source at d out =
+    record { page = record { at = at; from = getD d 0 0; buf = out }; state = stateIn source (marksOf d); profile = profileOf (getD d 14 0) }
 
 -- bytes more, which open and end nothing
 unfoldable pub putOn : Desk → Bytes → Desk
-putOn d x = record { page = paint (d .page) x; state = d .state }
+putOn d x = record { page = paint (d .page) x; state = d .state; profile = d .profile }
 
 -- the ends of what is open are written, and nothing is open any more
 unfoldable pub ended : Desk → Desk
 ended w =
     record {
-      page = paint (w .page) (render (lastEnds (w .state)));
+      page = paint (w .page) (renderAs (w .profile) (lastEnds (w .state)));
       state = record { book = w .state .book; number = w .state .number; chapter = none; verse = none };
+      profile = w .profile;
     }
 
 -- two spaces a level

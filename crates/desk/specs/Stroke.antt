@@ -7,6 +7,7 @@ use Rattle.parts.specs.Bytes.{Bytes, b}
 use Rattle.chars.specs.Escape.{escape}
 use Rattle.tags.specs.Names.{nameOf}
 use Rattle.tags.specs.Items.{Attr, Item, start, empty, close, text, line, newLine}
+use Rattle.events.specs.Profile.{Profile, rust}
 use Rattle.events.specs.Emit.{Desk}
 use Rattle.desk.specs.Desk.{deskOf, putOn}
 
@@ -46,28 +47,28 @@ strokesOfAll (i ∷ is) = strokesOf i ++ strokesOfAll is
 
 -- ---- how a stroke looks
 
--- in XML, as the Rust writes it
-unfoldable pub ink : Stroke → Bytes
-ink (opens n) = b "<" ++ nameOf n
-ink (key k) = b " " ++ (k ++ b "=\"")
-ink (piece raw v) = cond raw v (escape true v)
-ink endValue = b "\""
-ink ends = b ">"
-ink shuts = b " />"
-ink (closes n) = b "</" ++ (nameOf n ++ b ">")
-ink (words t) = escape false t
-ink (breaks d) = newLine d
+-- the bytes of a stroke in a profile: in XML, as the Rust writes them
+unfoldable pub ink : Profile → Stroke → Bytes
+ink rust (opens n) = b "<" ++ nameOf n
+ink rust (key k) = b " " ++ (k ++ b "=\"")
+ink rust (piece raw v) = cond raw v (escape true v)
+ink rust endValue = b "\""
+ink rust ends = b ">"
+ink rust shuts = b " />"
+ink rust (closes n) = b "</" ++ (nameOf n ++ b ">")
+ink rust (words t) = escape false t
+ink rust (breaks d) = newLine d
 
 -- strokes in a row
-unfoldable pub inkAll : List Stroke → Bytes
-inkAll [] = []
-inkAll (s ∷ ss) = ink s ++ inkAll ss
+unfoldable pub inkAll : Profile → List Stroke → Bytes
+inkAll p [] = []
+inkAll p (s ∷ ss) = ink p s ++ inkAll p ss
 
 -- ---- strokes on a desk
 
 -- strokes more, which open and end no chapter and no verse
 unfoldable pub strokes : Desk → List Stroke → Desk
-strokes w ss = putOn w (inkAll ss)
+strokes w ss = putOn w (inkAll (w .profile) ss)
 
 -- from one count, numbers and buffer to others by strokes, whatever the source is
 pub record Drew (at : ℕ) (d : List ℕ) (out : Bytes) (ss : List Stroke) (last-at : ℕ) (last-d : List ℕ) (last : Bytes) : Type 0 where

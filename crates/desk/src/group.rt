@@ -1,8 +1,10 @@
 // Rows of strokes that are frequent, each written by few runs.
+ghost use mathlib.Core.Path.{_≡_};
 ghost use mathlib.Core.Bool.{true, false};
-ghost use mathlib.Core.List.{[], _∷_};
+ghost use mathlib.Core.List.{List, [], _∷_, _++_};
 ghost use Rattle.parts.specs.Bytes.{b};
-ghost use Rattle.desk.specs.Stroke.{opens, key, piece, endValue, shuts, closes, Drew};
+ghost use Rattle.desk.specs.Stroke.{opens, key, piece, endValue, shuts, closes, strokesOfAttrs, Drew};
+ghost use Rattle.tags.specs.Items.{Attr, attrsBytes};
 use crate::held::Numbers;
 use window::Window;
 use window::escape_xml_attr;
@@ -54,6 +56,14 @@ pub fn open_verse(at: usize, desk: &mut Numbers, out: &mut [u8], label: &[u8]) -
     u.at
 }
 
+// The key of an identifier, and the front of its value.
+pub fn open_sid(at: usize, desk: &mut Numbers, out: &mut [u8]) -> usize
+    ensures { λ r. ⌜ Drew at (now (desk .entry)) (now (out .entry)) (key (b "sid") ∷ []) r (now (desk .exit)) (now (out .exit)) ⌝ }
+{
+    let w = put_run(Window { at, from: desk[0] }, out, b" sid=\"");
+    w.at
+}
+
 // The front of a verse's end, up to its `eid`.
 pub fn open_verse_end(at: usize, desk: &mut Numbers, out: &mut [u8]) -> usize
     ensures { λ r. ⌜ Drew at (now (desk .entry)) (now (out .entry)) (opens 4 ∷ key (b "eid") ∷ []) r (now (desk .exit)) (now (out .exit)) ⌝ }
@@ -68,4 +78,13 @@ pub fn shut_value(at: usize, desk: &mut Numbers, out: &mut [u8]) -> usize
 {
     let w = put_run(Window { at, from: desk[0] }, out, b"\" />");
     w.at
+}
+
+// An attribute as it stands: a space and its run, which are the bytes of attributes.
+pub fn attr_as_it_stands(at: usize, desk: &mut Numbers, out: &mut [u8], run: &[u8]) -> usize
+    ensures { λ r. ⌜ ((qs : List Attr) → b " " ++ now (run .entry) ≡ attrsBytes qs → Drew at (now (desk .entry)) (now (out .entry)) (strokesOfAttrs qs) r (now (desk .exit)) (now (out .exit))) ⌝ }
+{
+    let w = put_run(Window { at, from: desk[0] }, out, b" ");
+    let v = put_run(w, out, run);
+    v.at
 }

@@ -9,8 +9,8 @@ use usx_state::OpenVerse;
 use words::Part;
 
 // 0 the byte of the text that the buffer starts with; 1 and 2 the book's code, a part of the source; 3 the chapter's number; 4 whether a chapter is open, 5 and 6 its
-// book, 7 its number; 8 whether a verse is open, 9 and 10 its book, 11 its chapter, 12 and 13 its label.
-pub type Numbers = [usize; 14];
+// book, 7 its number; 8 whether a verse is open, 9 and 10 its book, 11 its chapter, 12 and 13 its label; 14 the number of the profile, 0 that of the text that the Rust writes.
+pub type Numbers = [usize; 15];
 
 // A number of 32 bits; 0 for any other.
 fn narrow(n: usize) -> u32
@@ -102,10 +102,11 @@ fn verse_numbers(held: OpenVerse) -> [usize; 6]
     }
 }
 
-// Numbers that hold a window and a record.
-fn numbers_of(from: usize, m: Marks) -> Numbers
+// Numbers that hold a window, a record and the number of a profile.
+fn numbers_of(from: usize, m: Marks, profile: usize) -> Numbers
     ensures { λ r. ⌜ getD r 0 0 ≡ from ⌝ }
     ensures { λ r. ⌜ marksOf r ≡ m ⌝ }
+    ensures { λ r. ⌜ getD r 14 0 ≡ profile ⌝ }
 {
     let book = m.book;
     let chapter = m.chapter;
@@ -127,20 +128,22 @@ fn numbers_of(from: usize, m: Marks) -> Numbers
         v[3],
         v[4],
         v[5],
+        profile,
     ]
 }
 
-// A desk on which nothing is open, and whose buffer starts with this byte of the text.
+// A desk on which nothing is open, whose buffer starts with this byte of the text that the Rust writes.
 pub fn new_desk(from: usize, number: u32) -> Numbers
     ensures { λ r. ⌜ getD r 0 0 ≡ from ⌝ }
     ensures { λ r. ⌜ marksOf r ≡ newMarks number ⌝ }
+    ensures { λ r. ⌜ getD r 14 0 ≡ 0 ⌝ }
 {
-    numbers_of(from, Marks::new(number))
+    numbers_of(from, Marks::new(number), 0)
 }
 
 // The numbers hold another record from here on.
 pub fn keep(desk: &mut Numbers, m: Marks)
     ensures { λ _. ⌜ Kept (now (desk .entry)) m (now (desk .exit)) ⌝ }
 {
-    *desk = numbers_of(desk[0], m);
+    *desk = numbers_of(desk[0], m, desk[14]);
 }

@@ -1,11 +1,13 @@
 // Strokes: what tags are made of. These functions and those of group.rt alone know how a tag looks.
-ghost use mathlib.Core.Bool.{true, false};
+ghost use mathlib.Core.Bool.{Bool, true, false};
 ghost use mathlib.Core.List.{[], _∷_};
 ghost use Rattle.parts.specs.Bytes.{b};
 ghost use Rattle.chars.specs.Decimal.{decimal};
+ghost use Rattle.chars.specs.Escape.{escape};
 ghost use mathlib.Core.Path.{_≡_};
 ghost use Rattle.window.specs.Page.{pageOf, paint};
 ghost use Rattle.tags.specs.Names.{nameOf};
+ghost use Rattle.events.specs.Profile.{rust};
 ghost use Rattle.desk.specs.Desk.{shownAs};
 ghost use Rattle.desk.specs.Named.{numberOf};
 ghost use Rattle.desk.specs.Stroke.{opens, key as keyStroke, piece as pieceStroke, endValue, ends, shuts, closes, ink, Drew};
@@ -61,7 +63,7 @@ fn put_name(w: Window, out: &mut [u8], e: Element) -> Window
 
 // `<` and the name of an element.
 fn put_open(w: Window, out: &mut [u8], e: Element) -> Window
-    ensures { λ r. ⌜ pageOf r (now (out .exit)) ≡ paint (pageOf w (now (out .entry))) (ink (opens (numberOf e))) ⌝ }
+    ensures { λ r. ⌜ pageOf r (now (out .exit)) ≡ paint (pageOf w (now (out .entry))) (ink rust (opens (numberOf e))) ⌝ }
 {
     let v = put_run(w, out, b"<");
     put_name(v, out, e)
@@ -69,7 +71,7 @@ fn put_open(w: Window, out: &mut [u8], e: Element) -> Window
 
 // `</`, the name of an element and `>`.
 fn put_close(w: Window, out: &mut [u8], e: Element) -> Window
-    ensures { λ r. ⌜ pageOf r (now (out .exit)) ≡ paint (pageOf w (now (out .entry))) (ink (closes (numberOf e))) ⌝ }
+    ensures { λ r. ⌜ pageOf r (now (out .exit)) ≡ paint (pageOf w (now (out .entry))) (ink rust (closes (numberOf e))) ⌝ }
 {
     let v = put_run(w, out, b"</");
     let u = put_name(v, out, e);
@@ -138,6 +140,14 @@ pub fn piece(at: usize, desk: &mut Numbers, out: &mut [u8], s: &[u8], raw: bool)
     ensures { λ r. ⌜ Drew at (now (desk .entry)) (now (out .entry)) (pieceStroke raw (now (s .entry)) ∷ []) r (now (desk .exit)) (now (out .exit)) ⌝ }
 {
     let w = put_shown(Window { at, from: desk[0] }, out, s, raw);
+    w.at
+}
+
+// A piece of a value that has nothing to escape, raw or not.
+pub fn plain_piece(at: usize, desk: &mut Numbers, out: &mut [u8], s: &[u8]) -> usize
+    ensures { λ r. ⌜ (escape true (now (s .entry)) ≡ now (s .entry) → (raw : Bool) → Drew at (now (desk .entry)) (now (out .entry)) (pieceStroke raw (now (s .entry)) ∷ []) r (now (desk .exit)) (now (out .exit))) ⌝ }
+{
+    let w = put_run(Window { at, from: desk[0] }, out, s);
     w.at
 }
 

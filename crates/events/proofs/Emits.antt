@@ -11,7 +11,22 @@ use Rattle.tags.specs.Items.{Item, empty, render}
 use Rattle.tags.proofs.Rendered.{render-append}
 use Rattle.events.specs.Event.{Event, chapter, verse, aside, back, asided, besides}
 use Rattle.events.specs.Pairing.{State, endOf, chapterAttrs, verseAttrs, itemsOf, after, paired, lastEnds}
+use Rattle.events.specs.Profile.{Profile, rust, renderAs}
 use Rattle.events.specs.Emit.{Desk, emit, emitAll, emitted, afterAll}
+
+-- there is one profile
+pub one-profile : (p : Profile) → p ≡ rust
+one-profile rust = refl
+
+-- no items have no bytes, in any profile
+pub as-none : (p : Profile) → [] ≡ renderAs p []
+unfolding renderAs render
+as-none rust = refl
+
+-- the bytes of items and of others behind them, in any profile
+pub as-append : (p : Profile) (x y : List Item) → renderAs p (x ++ y) ≡ renderAs p x ++ renderAs p y
+unfolding renderAs
+as-append rust x y = render-append x y
 
 -- what a list and another behind it emit
 pub emit-append : (w : Desk) (a z : List Event) → emitAll w (a ++ z) ≡ emitAll (emitAll w a) z
@@ -30,15 +45,24 @@ between d xs ys zs ee ef eg =
     ∙ ap (λ (u : Desk). emitAll u zs) (sym (emit-append d xs ys)) ∙ sym (emit-append d (xs ++ ys) zs)
     ∙ ap (emitAll d) (append-assoc xs ys zs)
 
+-- no items leave the page as it is
+paint-none : (w : Desk) → w .page ≡ paint (w .page) (renderAs (w .profile) [])
+unfolding paint
+paint-none w = ap (paint (w .page)) (as-none (w .profile))
+
+-- an event without items that changes no state
+silent-on : (d : Desk) → d ≡ record { page = paint (d .page) (renderAs (d .profile) []); state = d .state; profile = d .profile }
+silent-on d = ap (λ (p : Page). record { page = p; state = d .state; profile = d .profile }) (paint-none d)
+
 -- `aside` before events writes nothing and changes no state
 pub aside-on : (d : Desk) (es : List Event) → emitAll d es ≡ emitAll d (aside ∷ es)
-unfolding emitAll emit itemsOf after paint render
-aside-on d es = refl
+unfolding emitAll emit itemsOf after
+aside-on d es = ap (λ (u : Desk). emitAll u es) (silent-on d)
 
 -- nor does `back` behind them
 pub back-on : (d : Desk) (es : List Event) → emitAll d es ≡ emitAll d (es ++ (back ∷ []))
-unfolding emitAll emit itemsOf after paint render
-back-on d es = sym (emit-append d es (back ∷ []))
+unfolding emitAll emit itemsOf after
+back-on d es = silent-on (emitAll d es) ∙ sym (emit-append d es (back ∷ []))
 
 -- what may be a note or a figure, and others behind it
 pub besides-on : (d : Desk) (one : Bool) (es fs : List Event) → emitAll d (es ++ fs) ≡ emitAll d (besides one es ++ fs)
@@ -75,20 +99,22 @@ paired-emitted s (e ∷ es) =
     ap (λ (is : List Item). itemsOf s e ++ is) (paired-emitted (after s e) es)
     ∙ sym (append-assoc (itemsOf s e) (emitted (after s e) es) (lastEnds (afterAll (after s e) es)))
 
-paint-none : (p : Page) → p ≡ paint p (render [])
-unfolding paint render
-paint-none p = refl
-
 -- emission paints what pairing gives
-pub emit-page : (w : Desk) (es : List Event) → emitAll w es .page ≡ paint (w .page) (render (emitted (w .state) es))
+pub emit-page : (w : Desk) (es : List Event) → emitAll w es .page ≡ paint (w .page) (renderAs (w .profile) (emitted (w .state) es))
 unfolding emitAll emit emitted
-emit-page w [] = paint-none (w .page)
+emit-page w [] = paint-none w
 emit-page w (e ∷ es) =
     emit-page (emit w e) es
-    ∙ paint-append (w .page) (render (itemsOf (w .state) e)) (render (emitted (after (w .state) e) es))
-    ∙ ap (paint (w .page)) (sym (render-append (itemsOf (w .state) e) (emitted (after (w .state) e) es)))
+    ∙ paint-append (w .page) (renderAs (w .profile) (itemsOf (w .state) e)) (renderAs (w .profile) (emitted (after (w .state) e) es))
+    ∙ ap (paint (w .page)) (sym (as-append (w .profile) (itemsOf (w .state) e) (emitted (after (w .state) e) es)))
 
 pub emit-state : (w : Desk) (es : List Event) → emitAll w es .state ≡ afterAll (w .state) es
 unfolding emitAll emit afterAll
 emit-state w [] = refl
 emit-state w (e ∷ es) = emit-state (emit w e) es
+
+-- emission changes no profile
+pub emit-profile : (w : Desk) (es : List Event) → emitAll w es .profile ≡ w .profile
+unfolding emitAll emit
+emit-profile w [] = refl
+emit-profile w (e ∷ es) = emit-profile (emit w e) es

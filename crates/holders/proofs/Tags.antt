@@ -13,8 +13,6 @@ use Rattle.words.specs.declared.Set.the-variants.{Unicode}
 use Rattle.words.proofs.Places.{words-nil}
 use Rattle.words.proofs.Joins.{words-again}
 use Rattle.words.proofs.Blank.{blank-words}
-use Rattle.window.specs.Page.{pageOf, paint}
-use Rattle.window.specs.declared.Window.{Window}
 use Rattle.tape.specs.File.{Tape}
 use Rattle.tape.specs.Name.{markerName}
 use Rattle.render.specs.Shape.{isRow, isTopLevelBlock}
@@ -42,6 +40,40 @@ module _ (t : Tape) (k : ℕ) {x : Bool} (ex : x ≡ isTopLevelBlock t k) where
   or-row h er = rw (sym ex ∙ h) er
 
 -- ---- a sidebar's attributes
+
+module _ (t : Tape) (k : ℕ) {at u v r : ℕ} (d d₁ d₂ last-d : List ℕ) {out o₁ o₂ last : Bytes} where
+  pub sidebar-put : {name : Bytes} → name ≡ markerName t k → Drew at d out (opens 13 ∷ key (b "style") ∷ piece true name ∷ endValue ∷ []) u d₁ o₁
+      → Drew u d₁ o₁ (strokesOfAttrs (perhaps (b "category") (writtenCategory t k))) v d₂ o₂ → Drew v d₂ o₂ (strokesOfAttrs (unclosed t k)) r last-d last
+      → Drew at d out (opens (elementNo true) ∷ strokesOfAttrs (sidebarAttrs t k)) r last-d last
+  unfolding elementNo sidebarAttrs style rawly strokesOfAttrs strokesOfAttr
+  sidebar-put en e₁ e₂ e₃ =
+      rw (attrs-append (perhaps (b "category") (writtenCategory t k)) (unclosed t k), ← en) (drew-two d d₁ last-d e₁ (drew-two d₁ d₂ last-d e₂ e₃))
+
+-- ---- a periph's attributes
+
+unless-some : (s : Bytes) → (s ≡ [] → ⊥) → unlessEmpty s ≡ some s
+unfolding unlessEmpty
+unless-some [] h = absurd (h refl)
+unless-some (x ∷ s) h = refl
+
+joined-some : (s : Bytes) → isBlank Unicode s ≡ false → joined (words Unicode s) ≡ [] → ⊥
+joined-some s h e =
+    let bare : words Unicode s ≡ [] = sym (words-again Unicode s) ∙ ap (words Unicode) e ∙ words-nil Unicode in
+    let yes : isBlank Unicode s ≡ true = blank-words Unicode s .1 bare in
+    let no-way : _≡_ {A = ℕ} 0 1 = cc in omega arith
+
+module _ (t : Tape) (k : ℕ) {text : Bytes} (et : text ≡ stepText t (firstText t k)) {x : Bool} (ex : x ≡ isBlank Unicode text) {at : ℕ} (d : List ℕ) {out : Bytes} where
+  pub alt-none : x ≡ true → Drew at d out (strokesOfAttrs (perhaps (b "alt") (periphAlt t k))) at d out
+  unfolding strokesOfAttrs perhaps periphAlt unlessEmpty firstWords joined
+  alt-none h = rw (← et, blank-words Unicode text .0 (sym ex ∙ h)) (drew-none d)
+
+  pub alt-some : x ≡ false → {a z r : ℕ} (d₁ d₂ last-d : List ℕ) {o₁ o₂ last : Bytes} → Drew at d out (key (b "alt") ∷ []) a d₁ o₁
+      → Drew a d₁ o₁ (piece false (joined (words Unicode text)) ∷ []) z d₂ o₂ → Drew z d₂ o₂ (endValue ∷ []) r last-d last
+      → Drew at d out (strokesOfAttrs (perhaps (b "alt") (periphAlt t k))) r last-d last
+  unfolding strokesOfAttrs strokesOfAttr escaped perhaps periphAlt firstWords
+  alt-some h d₁ d₂ last-d e₁ e₂ e₃ =
+      let s : Bytes = joined (words Unicode text) in
+      rw (← et, unless-some s (joined-some text (sym ex ∙ h))) (drew-attr d d₁ d₂ last-d (b "alt") false s e₁ e₂ e₃)
 
 module _ (t : Tape) (k : ℕ) {at u v r : ℕ} (d d₁ d₂ last-d : List ℕ) {out o₁ o₂ last : Bytes} where
   pub sidebar-put : {name : Bytes} → name ≡ markerName t k → Drew at d out (opens 13 ∷ key (b "style") ∷ piece true name ∷ endValue ∷ []) u d₁ o₁

@@ -22,6 +22,7 @@ use desk::key;
 use desk::line;
 use desk::open_styled;
 use desk::open_tag;
+use desk::piece_joined;
 use desk::shut_tag;
 use lists::Member;
 use lists::Span;
@@ -32,7 +33,6 @@ use put_markers::put_unclosed;
 use tape::Cursor;
 use tape::Sections;
 use tape::Step;
-use window::Window;
 use words::Set;
 
 // Whether a node is a block or a row.
@@ -101,16 +101,8 @@ fn put_alt(
         return at;
     }
     let a = key(at, desk, out, b"alt");
-    let w = put_body::put_words(
-        Window {
-            at: a,
-            from: desk[0],
-        },
-        out,
-        text,
-        true,
-    );
-    end_value(w.at, desk, out)
+    let d = piece_joined(a, desk, out, text);
+    end_value(d, desk, out)
 }
 
 // A periph's tag up to its end: alt and its attributes.

@@ -12,6 +12,11 @@ ghost use Rattle.lists.specs.Span.{nodesIn};
 ghost use Rattle.roles.specs.Roles.{mannerBy};
 ghost use Rattle.inline_turns.specs.Turn.{behindOf};
 ghost use Rattle.inline_turns.specs.declared.Behind.the-variants.{Unasked};
+
+mod lone;
+
+use crate::lone::lone_marker;
+use crate::lone::lone_of;
 use desk::Numbers;
 use inline_turns::Behind;
 use inline_turns::Sort;
@@ -43,20 +48,15 @@ fn marker(
 {
     let role = roles::role_of(file, tape, c);
     if roles::is_whole(file, tape, c, role) {
-        let a = put_markers::open_marker(file, tape, solids, c, role, at, desk, out);
-        let z = inside(
-            file,
-            tape,
-            solids,
-            c,
-            depth,
-            outer,
-            roles::is_note(role),
-            a,
-            desk,
-            out,
-        );
-        put_markers::close_marker(file, tape, solids, c, role, z, desk, out)
+        let note = roles::is_note(role);
+        match lone_of(file, tape, c, depth, note) {
+            Step::At(k) => lone_marker(file, tape, solids, c, role, k, at, desk, out),
+            Step::Done => {
+                let a = put_markers::open_marker(file, tape, solids, c, role, at, desk, out);
+                let z = inside(file, tape, solids, c, depth, outer, note, a, desk, out);
+                put_markers::close_marker(file, tape, solids, c, role, z, desk, out)
+            }
+        }
     } else {
         put_markers::write_leaf(file, tape, c, role, at, desk, out)
     }

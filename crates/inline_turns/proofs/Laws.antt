@@ -4,19 +4,22 @@ use mathlib.Core.Bool.{Bool, true, false, cond, not, _&&_, _||_}
 use mathlib.Core.List.{List, _++_}
 use Prim.Native.Nat.{ℕ, _+_, _-_, _≤_, _<_}
 use native.Mathlib.Omega.{arith}
-use lib.Dec.{eqb}
+use lib.ListN.{length, take, drop, length-take}
+use lib.Dec.{eqb, ltb}
 use borrow.Author.Tests.{eq-eqb, ne-eqb, eqb-true, eqb-false}
 use Rattle.parts.specs.Bytes.{Bytes}
 use Rattle.texts.specs.Text.{endsWhite, normalizeText, written, segments}
 use Rattle.texts.specs.declared.Normalized.{Normalized}
+use Rattle.put_body.specs.Frame.{Frame, whiteFront, whiteBack, frameOf, framedText, Framed}
 use Rattle.texts.proofs.Edges.{trail-unasked}
-use Rattle.tape.specs.File.{Tape, tapeIn, textAt}
+use Rattle.tape.specs.File.{Tape, tapeIn, nodeAt, textAt}
 use Rattle.tape.specs.Tree.{nextSibling, walkFrom, left}
 use Rattle.tape.specs.declared.Sections.{Sections}
 use Rattle.tape.specs.declared.kinds.Kind.{Kind}
 use Rattle.tape.specs.declared.Cursor.{Cursor}
 use Rattle.tape.specs.declared.Step.{Step}
 use Rattle.tape.specs.declared.Step.the-variants.{At, Done}
+use Rattle.tape.proofs.Laws.{text-front}
 use Rattle.tape.proofs.Walk.{left-turn}
 use Rattle.leading_white.specs.Lean.{lean}
 use Rattle.leading_white.proofs.Leans.{normalize-lean, body-lean, ends-lean}
@@ -33,7 +36,7 @@ use Rattle.events.specs.Walk.{normalized, unbroken, broken, inlineTurn, inlineA
 use Rattle.events.specs.Emit.{Desk, emit, emitAll}
 use Rattle.events.proofs.Emits.{emit-append}
 use Rattle.desk.specs.Desk.{deskOf}
-use Rattle.inline_turns.specs.Turn.{plainFrom, notePlain, nextBy, trimBy, noteTrimBy, KeptAt, keptPast, keptBehind, keptBy, noteKeptBy, behindOf, learnt, followsBy, behindText, behindBy, noteBehindBy}
+use Rattle.inline_turns.specs.Turn.{plainFrom, notePlain, nextBy, trimBy, noteTrimBy, KeptAt, keptPast, keptBehind, keptBy, noteKeptBy, behindOf, learnt, followsBy, behindText, behindBy, noteBehindBy, Here}
 use Rattle.inline_turns.specs.declared.Behind.{Behind}
 use Rattle.inline_turns.specs.declared.Behind.the-variants.{Unasked, Follows, Ends}
 use Rattle.inline_turns.specs.declared.Child.{Child}
@@ -82,14 +85,14 @@ module _ (k : ℕ) (next : Step) {kept : Step} where
     unfolding keptPast
     past-other n = rw (h, ne-eqb (d .at) k n)
 
-module _ (t : Tape) (c : Cursor) (s : Bytes) (kept next : Step) {x : Bool} (ex : x ≡ endsWhite s) where
-  pub behind-solid : x ≡ true → {solid : Step} → (Kept t c kept → solid ≡ nextSolid t (c .at)) → Kept t c kept → solid ≡ keptBehind t s kept (c .at) next
+module _ (t : Tape) (c : Cursor) (kept next : Step) {x : Bool} where
+  pub behind-solid : x ≡ true → {solid : Step} → (Kept t c kept → solid ≡ nextSolid t (c .at)) → (s : Bytes) → x ≡ endsWhite s → Kept t c kept → solid ≡ keptBehind t s kept (c .at) next
   unfolding keptBehind
-  behind-solid h es k = rw (sym ex ∙ h) (es k)
+  behind-solid h es s ex k = rw (sym ex ∙ h) (es k)
 
-  pub behind-past : x ≡ false → {r : Step} → r ≡ keptPast kept (c .at) next → Kept t c kept → r ≡ keptBehind t s kept (c .at) next
+  pub behind-past : x ≡ false → {r : Step} → r ≡ keptPast kept (c .at) next → (s : Bytes) → x ≡ endsWhite s → Kept t c kept → r ≡ keptBehind t s kept (c .at) next
   unfolding keptBehind
-  behind-past h er k = rw (sym ex ∙ h) er
+  behind-past h er s ex k = rw (sym ex ∙ h) er
 
 -- ---- whether inline content follows the parent
 
@@ -163,35 +166,49 @@ module _ (t : Tape) (parent : Cursor) (outer : Bool) (known : Behind) (k : ℕ) 
   note-turn-same first Passed = refl
 
 -- what a look learns
-module _ (t : Tape) (parent c : Cursor) (outer : Bool) (known : Behind) (s : Bytes) (kept : Step) {x : Bool} (ex : x ≡ endsWhite s) where
-  pub text-solid : x ≡ false → Kept t c kept → known ≡ behindText t parent outer known (c .at) s
+module _ (t : Tape) (parent c : Cursor) (outer : Bool) (known : Behind) (kept : Step) {x : Bool} where
+  pub text-solid : x ≡ false → (s : Bytes) → x ≡ endsWhite s → Kept t c kept → known ≡ behindText t parent outer known (c .at) s
   unfolding behindText
-  text-solid h k = rw (sym ex ∙ h)
+  text-solid h s ex k = rw (sym ex ∙ h)
 
   module _ (h : x ≡ true) {solid : Step} (es : Kept t c kept → solid ≡ nextSolid t (c .at)) {y : Bool} (ey : y ≡ inlineAt t solid) where
-    pub text-inline : y ≡ true → Kept t c kept → known ≡ behindText t parent outer known (c .at) s
+    pub text-inline : y ≡ true → (s : Bytes) → x ≡ endsWhite s → Kept t c kept → known ≡ behindText t parent outer known (c .at) s
     unfolding behindText
-    text-inline e k = rw (sym ex ∙ h, sym (follows-of t (c .at) (es k) ey) ∙ e)
+    text-inline e s ex k = rw (sym ex ∙ h, sym (follows-of t (c .at) (es k) ey) ∙ e)
 
-    pub text-asked : y ≡ false → {r : Behind} → r ≡ learnt (behindOf t parent outer known) → Kept t c kept → r ≡ behindText t parent outer known (c .at) s
+    pub text-asked : y ≡ false → {r : Behind} → r ≡ learnt (behindOf t parent outer known) → (s : Bytes) → x ≡ endsWhite s → Kept t c kept → r ≡ behindText t parent outer known (c .at) s
     unfolding behindText
-    text-asked e er k = rw (sym ex ∙ h, sym (follows-of t (c .at) (es k) ey) ∙ e) er
+    text-asked e er s ex k = rw (sym ex ∙ h, sym (follows-of t (c .at) (es k) ey) ∙ e) er
 
 -- ---- a text as it is normalized
 
-module _ (t : Tape) (c : Cursor) (s : Bytes) (trim : Bool) (kept : Step) {n : Normalized} where
-  pub look-unasked : (b : Bool) {x : Bool} → x ≡ endsWhite s → x ≡ false → n ≡ normalizeText s (not trim) false → Kept t c kept → n ≡ normalized t (c .at) s trim b
+module _ (t : Tape) (c : Cursor) (kept : Step) (b : Bool) {e : Bool} where
+  pub look-unasked : e ≡ false → (s : Bytes) (trim : Bool) → e ≡ endsWhite s → Kept t c kept → normalizeText s (not trim) false ≡ normalized t (c .at) s trim b
   unfolding normalized
-  look-unasked b ex h en k = en ∙ trail-unasked s (not trim) false (inlineFollows t (c .at) || b) (sym ex ∙ h)
+  look-unasked h s trim ex k = trail-unasked s (not trim) false (inlineFollows t (c .at) || b) (sym ex ∙ h)
 
   module _ {solid : Step} (es : Kept t c kept → solid ≡ nextSolid t (c .at)) {x : Bool} (ex : x ≡ inlineAt t solid) where
-    pub look-inline : (b : Bool) → x ≡ true → n ≡ normalizeText s (not trim) true → Kept t c kept → n ≡ normalized t (c .at) s trim b
+    pub look-inline : x ≡ true → (s : Bytes) (trim : Bool) → e ≡ endsWhite s → Kept t c kept → normalizeText s (not trim) true ≡ normalized t (c .at) s trim b
     unfolding normalized
-    look-inline b h en k = rw (sym (follows-of t (c .at) (es k) ex) ∙ h) en
+    look-inline h s trim ee k = rw (sym (follows-of t (c .at) (es k) ex) ∙ h)
 
-    pub look-asked : (b : Bool) → x ≡ false → {y : Bool} → y ≡ b → n ≡ normalizeText s (not trim) y → Kept t c kept → n ≡ normalized t (c .at) s trim b
+    pub look-asked : x ≡ false → {y : Bool} → y ≡ b → (s : Bytes) (trim : Bool) → e ≡ endsWhite s → Kept t c kept → normalizeText s (not trim) y ≡ normalized t (c .at) s trim b
     unfolding normalized
-    look-asked b h ey en k = rw (sym (follows-of t (c .at) (es k) ex) ∙ h) (en ∙ ap (normalizeText s (not trim)) ey)
+    look-asked h ey s trim ee k = rw (sym (follows-of t (c .at) (es k) ex) ∙ h) (ap (normalizeText s (not trim)) ey)
+
+-- what was looked for behind a text, of the text itself
+module _ (t : Tape) (c : Cursor) (kept : Step) (s : Bytes) {e : Bool} (ee : e ≡ endsWhite s) where
+  pub looked-text : (trim b y : Bool) {n : Normalized} → n ≡ normalizeText s (not trim) y
+      → ((s : Bytes) (trim : Bool) → e ≡ endsWhite s → Kept t c kept → normalizeText s (not trim) y ≡ normalized t (c .at) s trim b)
+      → Kept t c kept → n ≡ normalized t (c .at) s trim b
+  looked-text trim b y en f k = en ∙ f s trim ee k
+
+  pub looked-kept : (next : Step) {r : Step} → ((s : Bytes) → e ≡ endsWhite s → Kept t c kept → r ≡ keptBehind t s kept (c .at) next) → Kept t c kept → r ≡ keptBehind t s kept (c .at) next
+  looked-kept next f k = f s ee k
+
+  pub looked-known : (parent : Cursor) (outer : Bool) (known : Behind) {r : Behind}
+      → ((s : Bytes) → e ≡ endsWhite s → Kept t c kept → r ≡ behindText t parent outer known (c .at) s) → Kept t c kept → r ≡ behindText t parent outer known (c .at) s
+  looked-known parent outer known f k = f s ee k
 
 -- ---- a text
 
@@ -207,23 +224,59 @@ broken-lean : (s : Bytes) (n : Normalized) → broken (lean s) n ≡ broken s n
 unfolding broken segments
 broken-lean s n = rw (body-lean s, unbroken-lean s n)
 
+-- what a frame tells of a text
+frame-ends : (t : Tape) (k : ℕ) (tail : Bytes) (f : Frame) → Here t k tail f → f .ends ≡ endsWhite (textAt t k)
+frame-ends t k tail f here = here .framed .ends ∙ ap endsWhite (here .text)
+
+framed-text : (t : Tape) (c : Cursor) (trim b : Bool) (kept : Step) (tail : Bytes) (f : Frame) (y : Bool) {n : Normalized} → n ≡ framedText f (not trim) y
+    → ((s : Bytes) (trim : Bool) → f .ends ≡ endsWhite s → Kept t c kept → normalizeText s (not trim) y ≡ normalized t (c .at) s trim b)
+    → Here t (c .at) tail f → Kept t c kept → n ≡ normalized t (c .at) (textAt t (c .at)) trim b
+framed-text t c trim b kept tail f y en el here h =
+    en ∙ sym (here .framed .edges (not trim) y) ∙ ap (λ (z : Bytes). normalizeText z (not trim) y) (here .text) ∙ el (textAt t (c .at)) trim (frame-ends t (c .at) tail f here) h
+
 module _ (c : Sections) (file : Bytes) (k : Cursor) (trim behind : Bool) (kept : Step) (at : ℕ) (d : List ℕ) (out : Bytes) where
+  text-written : {n : Normalized} → n ≡ normalized (tapeIn c file) (k .at) (textAt (tapeIn c file) (k .at)) trim behind
+      → (r : ℕ) (last-d : List ℕ) (last : Bytes) → ((source : Bytes) → deskOf source r last-d last ≡ emitAll (deskOf source at d out) (broken (textAt (tapeIn c file) (k .at)) n))
+      → {x : Bool} → x ≡ trim && not (n .shows) → (node : ℕ → Bool → List Event) (ks : List ℕ)
+      → emitAll (deskOf (tapeIn c file .source) r last-d last) (inlineAll node (tapeIn c file) behind x ks)
+      ≡ emitAll (deskOf (tapeIn c file .source) at d out) (plainFrom node (tapeIn c file) behind trim (k .at) ks Words)
+  unfolding plainFrom inlineOn inlineTurn
+  text-written {n} is r last-d last er {x} ex node ks =
+      let t : Tape = tapeIn c file in
+      let w : Desk = deskOf (t .source) at d out in
+      let s : Bytes = textAt t (k .at) in
+      ap (λ (z : Desk). emitAll z (inlineAll node t behind x ks)) (er (t .source))
+      ∙ sym (emit-append w (broken s n) (inlineAll node t behind x ks))
+      ∙ ap (λ (z : Bool). emitAll w (broken s n ++ inlineAll node t behind z ks)) ex
+      ∙ ap (λ (z : Normalized). emitAll w (broken s z ++ inlineAll node t behind (trim && not (z .shows)) ks)) is
+
   pub words-written : {s : Bytes} → s ≡ lean (textAt (tapeIn c file) (k .at)) → {n : Normalized} → (Kept (tapeIn c file) k kept → n ≡ normalized (tapeIn c file) (k .at) s trim behind)
       → (r : ℕ) (last-d : List ℕ) (last : Bytes) → ((source : Bytes) → deskOf source r last-d last ≡ emitAll (deskOf source at d out) (broken s n))
       → {x : Bool} → x ≡ trim && not (n .shows)
       → Kept (tapeIn c file) k kept → (node : ℕ → Bool → List Event) (ks : List ℕ)
       → emitAll (deskOf (tapeIn c file .source) r last-d last) (inlineAll node (tapeIn c file) behind x ks)
       ≡ emitAll (deskOf (tapeIn c file .source) at d out) (plainFrom node (tapeIn c file) behind trim (k .at) ks Words)
-  unfolding plainFrom inlineOn inlineTurn
-  words-written {s} es {n} en r last-d last er {x} ex h node ks =
+  words-written {s} es {n} en r last-d last er ex h =
       let t : Tape = tapeIn c file in
-      let w : Desk = deskOf (t .source) at d out in
-      let is : n ≡ normalized t (k .at) (textAt t (k .at)) trim behind = en h ∙ ap (λ (z : Bytes). normalized t (k .at) z trim behind) es ∙ normalized-lean t (k .at) (textAt t (k .at)) trim behind in
-      ap (λ (z : Desk). emitAll z (inlineAll node t behind x ks)) (er (t .source))
-      ∙ sym (emit-append w (broken s n) (inlineAll node t behind x ks))
-      ∙ ap (λ (z : Bool). emitAll w (broken s n ++ inlineAll node t behind z ks)) ex
-      ∙ ap (λ (es : List Event). emitAll w (es ++ inlineAll node t behind (trim && not (n .shows)) ks)) (ap (λ (z : Bytes). broken z n) es ∙ broken-lean (textAt t (k .at)) n)
-      ∙ ap (λ (z : Normalized). emitAll w (broken (textAt t (k .at)) z ++ inlineAll node t behind (trim && not (z .shows)) ks)) is
+      text-written (en h ∙ ap (λ (z : Bytes). normalized t (k .at) z trim behind) es ∙ normalized-lean t (k .at) (textAt t (k .at)) trim behind)
+      r last-d last
+      (λ source. er source ∙ ap (emitAll (deskOf source at d out)) (ap (λ (z : Bytes). broken z n) es ∙ broken-lean (textAt t (k .at)) n))
+      ex
+
+  -- a text that is told by its frame
+  pub framed-written : (tail : Bytes) (front len : ℕ) (ends y : Bool) {n : Normalized} → n ≡ framedText (record { front = front; len = len; ends = ends }) (not trim) y
+      → ((s : Bytes) (trim : Bool) → ends ≡ endsWhite s → Kept (tapeIn c file) k kept → normalizeText s (not trim) y ≡ normalized (tapeIn c file) (k .at) s trim behind)
+      → (r : ℕ) (last-d : List ℕ) (last : Bytes) → ((size : ℕ) (ends : Bool) → Framed tail size (record { front = front; len = len; ends = ends }) → (source : Bytes) → deskOf source r last-d last ≡ emitAll (deskOf source at d out) (broken (take size tail) n))
+      → {x : Bool} → x ≡ trim && not (n .shows)
+      → Here (tapeIn c file) (k .at) tail (record { front = front; len = len; ends = ends }) → Kept (tapeIn c file) k kept → (node : ℕ → Bool → List Event) (ks : List ℕ)
+      → emitAll (deskOf (tapeIn c file .source) r last-d last) (inlineAll node (tapeIn c file) behind x ks)
+      ≡ emitAll (deskOf (tapeIn c file .source) at d out) (plainFrom node (tapeIn c file) behind trim (k .at) ks Words)
+  framed-written tail front len ends y {n} en el r last-d last er ex here h =
+      let t : Tape = tapeIn c file in
+      text-written (framed-text t k trim behind kept tail (record { front = front; len = len; ends = ends }) y en el here h)
+      r last-d last
+      (λ source. er (here .size) ends (here .framed) source ∙ ap (λ (z : Bytes). emitAll (deskOf source at d out) (broken z n)) (here .text))
+      ex
 
   pub note-written : (parent : Cursor) {s : Bytes} → s ≡ lean (noteText (tapeIn c file) (parent .at + 1) (k .at)) → {n : Normalized}
       → (Kept (tapeIn c file) k kept → n ≡ normalized (tapeIn c file) (k .at) s trim behind)
@@ -398,6 +451,12 @@ module _ (t : Tape) (c : Cursor) (trim behind : Bool) (kept : Step) {x : Bool} w
   shown u es en ex =
       ex ∙ ap (λ (z : Normalized). trim && not (z .shows)) (en ∙ ap (λ (z : Bytes). normalized t (c .at) z trim behind) es ∙ normalized-lean t (c .at) u trim behind)
 
+  pub framed-trim : (tail : Bytes) (front len : ℕ) (ends y : Bool) {n : Normalized} → n ≡ framedText (record { front = front; len = len; ends = ends }) (not trim) y
+      → ((s : Bytes) (trim : Bool) → ends ≡ endsWhite s → Kept t c kept → normalizeText s (not trim) y ≡ normalized t (c .at) s trim behind)
+      → x ≡ trim && not (n .shows) → Here t (c .at) tail (record { front = front; len = len; ends = ends }) → Kept t c kept → x ≡ trimBy t behind trim (c .at) Words
+  unfolding trimBy
+  framed-trim tail front len ends y en el ex here h = ex ∙ ap (λ (z : Normalized). trim && not (z .shows)) (framed-text t c trim behind kept tail (record { front = front; len = len; ends = ends }) y en el here h)
+
   pub words-trim : {s : Bytes} → s ≡ lean (textAt t (c .at)) → {n : Normalized} → (Kept t c kept → n ≡ normalized t (c .at) s trim behind) → x ≡ trim && not (n .shows)
       → Kept t c kept → x ≡ trimBy t behind trim (c .at) Words
   unfolding trimBy
@@ -443,6 +502,10 @@ module _ (t : Tape) (c : Cursor) (trim behind : Bool) (kept : Step) {x : Bool} w
 -- ---- what a turn keeps
 
 module _ (t : Tape) (c : Cursor) (kept : Step) {r : Step} where
+  pub framed-keeps : (tail : Bytes) (front len : ℕ) (ends : Bool) (next : Step) → ((s : Bytes) → ends ≡ endsWhite s → Kept t c kept → r ≡ keptBehind t s kept (c .at) next)
+      → Here t (c .at) tail (record { front = front; len = len; ends = ends }) → Kept t c kept → r ≡ keptBehind t (textAt t (c .at)) kept (c .at) next
+  framed-keeps tail front len ends next er here h = er (textAt t (c .at)) (frame-ends t (c .at) tail (record { front = front; len = len; ends = ends }) here) h
+
   -- behind a text, by what its lean form is
   pub words-keeps : (u : Bytes) {s : Bytes} → s ≡ lean u → (next : Step) → (Kept t c kept → r ≡ keptBehind t s kept (c .at) next) → Kept t c kept
       → r ≡ keptBehind t u kept (c .at) next
@@ -489,6 +552,10 @@ module _ (t : Tape) (c : Cursor) (kept : Step) {r : Step} where
 -- ---- what a turn learns of the parent
 
 module _ (t : Tape) (parent c : Cursor) (outer : Bool) (known : Behind) (kept : Step) {r : Behind} where
+  pub framed-learnt : (tail : Bytes) (front len : ℕ) (ends : Bool) → ((s : Bytes) → ends ≡ endsWhite s → Kept t c kept → r ≡ behindText t parent outer known (c .at) s)
+      → Here t (c .at) tail (record { front = front; len = len; ends = ends }) → Kept t c kept → r ≡ behindText t parent outer known (c .at) (textAt t (c .at))
+  framed-learnt tail front len ends er here h = er (textAt t (c .at)) (frame-ends t (c .at) tail (record { front = front; len = len; ends = ends }) here) h
+
   -- behind a text, by what its lean form is
   pub words-learnt : (u : Bytes) {s : Bytes} → s ≡ lean u → (Kept t c kept → r ≡ behindText t parent outer known (c .at) s) → Kept t c kept
       → r ≡ behindText t parent outer known (c .at) u
@@ -530,3 +597,17 @@ module _ (t : Tape) (parent c : Cursor) (outer : Bool) (known : Behind) (kept : 
       pub note-learnt-skipped : (first : ℕ) → child ≡ Skipped → Kept t c kept → r ≡ noteBehindBy t first parent outer known (c .at) child
       unfolding noteBehindBy
       note-learnt-skipped first ec h = rw ec er
+
+-- ---- a text that is told by its frame
+
+-- what is found in what stands from a node on is found of its text
+pub here-of : (t : Tape) (k : ℕ) {tail : Bytes} {size front back len : ℕ} {r : Bool} → tail ≡ drop (nodeAt t k .start) (t .source) → size ≡ length (textAt t k)
+    → front ≡ whiteFront tail size → back ≡ whiteBack tail front size → len ≡ size - front - back
+    → (front ≡ frameOf tail size .front → len ≡ frameOf tail size .len → r ≡ true → size ≤ length tail → Framed tail size (frameOf tail size)) → r ≡ true
+    → Here t k tail (record { front = front; len = len; ends = ltb 0 back })
+unfolding frameOf
+here-of t k {tail} {size} {front} {back} et es ef eb el e h =
+    let same : take size tail ≡ textAt t k = rw (et, es) (text-front t k) in
+    let eb′ : back ≡ whiteBack tail (whiteFront tail size) size = eb ∙ ap (λ (i : ℕ). whiteBack tail i size) ef in
+    let is : record { front = front; len = size - front - back; ends = ltb 0 back } ≡ frameOf tail size = rw (eb′, ef) in
+    record { size = size; text = same; framed = rw (el, is) (e ef (el ∙ rw (eb′, ef)) h (omega (arith, length-take size tail, ap length same, es))) }

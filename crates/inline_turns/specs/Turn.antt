@@ -1,10 +1,13 @@
 -- Turns along a list of inline children, by what a child is to it.
 use Prim.Native.Nat.{ℕ}
+use mathlib.Core.Path.{_≡_}
 use mathlib.Core.List.{List, [], _++_}
 use mathlib.Core.Bool.{Bool, true, false, cond, not, _&&_, _||_}
+use lib.ListN.{take}
 use lib.Dec.{eqb}
 use Rattle.parts.specs.Bytes.{Bytes}
 use Rattle.texts.specs.Text.{endsWhite}
+use Rattle.put_body.specs.Frame.{Frame, Framed}
 use Rattle.tape.specs.File.{Tape, kindAt, textAt}
 use Rattle.tape.specs.Tree.{nextSibling}
 use Rattle.tape.specs.declared.Step.{Step}
@@ -166,3 +169,11 @@ noteBehindBy t first parent outer known k Skipped = known
 noteBehindBy t first parent outer known k Anchor = known
 noteBehindBy t first parent outer known k Words = behindText t parent outer known k (noteText t first k)
 noteBehindBy t first parent outer known k Passed = known
+
+-- ---- texts told by their frames
+
+-- the text of a node is told by a frame in what stands from it on
+pub record Here (t : Tape) (k : ℕ) (tail : Bytes) (f : Frame) : Type 0 where
+  pub size : ℕ
+  pub text : take size tail ≡ textAt t k
+  pub framed : Framed tail size f

@@ -4,6 +4,8 @@ ghost use mathlib.Core.Bool.{Bool, true, not, _&&_};
 ghost use mathlib.Core.List.{List};
 ghost use Prim.Native.Nat.{ℕ, _+_, _<_};
 ghost use lib.Dec.{eqb};
+ghost use Rattle.parts.specs.Bytes.{Bytes};
+ghost use Rattle.texts.specs.Text.{endsWhite, normalizeText};
 ghost use Rattle.tape.specs.File.{Tape, tapeIn, textAt};
 ghost use Rattle.tape.specs.Tree.{nextSibling, walkFrom, left};
 ghost use Rattle.tape.specs.declared.Step.the-variants.{At};
@@ -14,7 +16,7 @@ ghost use Rattle.events.specs.Walk.{normalized, inlineAll, noteText, noteAll};
 ghost use Rattle.events.specs.Emit.{emitAll};
 ghost use Rattle.desk.specs.Desk.{deskOf};
 ghost use Rattle.lists.specs.Span.{nodesIn};
-ghost use Rattle.inline_turns.specs.Turn.{sortOf, sortIn, noteSort, plainFrom, notePlain, nextBy, trimBy, noteTrimBy, KeptAt, keptPast, keptBehind, keptBy, noteKeptBy, behindOf, learnt, followsBy, behindText, behindBy, noteBehindBy};
+ghost use Rattle.inline_turns.specs.Turn.{sortOf, sortIn, noteSort, plainFrom, notePlain, nextBy, trimBy, noteTrimBy, KeptAt, keptPast, keptBehind, keptBy, noteKeptBy, behindOf, learnt, followsBy, behindText, behindBy, noteBehindBy, Here};
 ghost use Rattle.inline_turns.specs.declared.Child.the-variants.{Anchor, Words};
 use desk::Numbers;
 use leading_white::lean_of;
@@ -58,6 +60,13 @@ pub struct Going {
     pub behind: Behind,
     pub kept: Step,
     pub next: Step,
+}
+
+// What stands behind a text: whether inline content follows it, what is known of the parent, and the solid sibling to keep.
+struct Waited {
+    follows: bool,
+    behind: Behind,
+    kept: Step,
 }
 
 // A text as it is normalized, what is known of the parent, and the solid sibling to keep.
@@ -173,7 +182,49 @@ pub fn follows(behind: Behind) -> bool
     }
 }
 
-// Normalizes a text; what follows it, and then what follows the parent, is looked for only where its trailing space hangs on it.
+// Looks behind a text: what follows it, and then what follows the parent, is looked for only where the text ends with white space.
+fn wait(
+    file: &[u8],
+    tape: Sections,
+    solids: &[u32],
+    parent: Cursor,
+    outer: bool,
+    c: Cursor,
+    ends: bool,
+    behind: Behind,
+    kept: Step,
+    next: Step,
+) -> Waited
+    requires { ⌜ Solids (tapeIn tape (now file)) (now solids) ⌝ }
+    ensures { λ r. ⌜ ((s : Bytes) (trim : Bool) → ends ≡ endsWhite s → Kept (tapeIn tape (now (file .entry))) c kept → normalizeText s (not trim) (r .follows) ≡ normalized (tapeIn tape (now (file .entry))) (c .at) s trim (behindOf (tapeIn tape (now (file .entry))) parent outer behind)) ⌝ }
+    ensures { λ r. ⌜ (Kept (tapeIn tape (now (file .entry))) c kept → next ≡ nextSibling (tapeIn tape (now (file .entry))) (c .at) → KeptAt (tapeIn tape (now (file .entry))) next (r .kept)) ⌝ }
+    ensures { λ r. ⌜ ((s : Bytes) → ends ≡ endsWhite s → Kept (tapeIn tape (now (file .entry))) c kept → r .kept ≡ keptBehind (tapeIn tape (now (file .entry))) s kept (c .at) next) ⌝ }
+    ensures { λ r. ⌜ ((s : Bytes) → ends ≡ endsWhite s → Kept (tapeIn tape (now (file .entry))) c kept → r .behind ≡ behindText (tapeIn tape (now (file .entry))) parent outer behind (c .at) s) ⌝ }
+{
+    if ends {
+        let solid = render::solid_behind(file, tape, solids, c, kept);
+        if render::inline_at(file, tape, solid) {
+            return Waited {
+                follows: true,
+                behind,
+                kept: solid,
+            };
+        }
+        let asked = ask(file, tape, solids, parent, outer, behind);
+        return Waited {
+            follows: follows(asked),
+            behind: asked,
+            kept: solid,
+        };
+    }
+    Waited {
+        follows: false,
+        behind,
+        kept: past(kept, c, next),
+    }
+}
+
+// A text as it is normalized, with what was looked for behind it.
 fn look(
     file: &[u8],
     tape: Sections,
@@ -193,26 +244,25 @@ fn look(
     ensures { λ r. ⌜ (Kept (tapeIn tape (now (file .entry))) c kept → r .kept ≡ keptBehind (tapeIn tape (now (file .entry))) (now (s .entry)) kept (c .at) next) ⌝ }
     ensures { λ r. ⌜ (Kept (tapeIn tape (now (file .entry))) c kept → r .behind ≡ behindText (tapeIn tape (now (file .entry))) parent outer behind (c .at) (now (s .entry))) ⌝ }
 {
-    if texts::ends_white(s) {
-        let solid = render::solid_behind(file, tape, solids, c, kept);
-        if render::inline_at(file, tape, solid) {
-            return Looked {
-                text: texts::normalize_text(s, !trim, true),
-                behind,
-                kept: solid,
-            };
-        }
-        let asked = ask(file, tape, solids, parent, outer, behind);
-        return Looked {
-            text: texts::normalize_text(s, !trim, follows(asked)),
-            behind: asked,
-            kept: solid,
-        };
-    }
-    Looked {
-        text: texts::normalize_text(s, !trim, false),
+    let ends = texts::ends_white(s);
+    let w = wait(
+        file,
+        tape,
+        solids,
+        parent,
+        outer,
+        c,
+        ends,
         behind,
-        kept: past(kept, c, next),
+        kept,
+        next,
+    );
+    let known = w.behind;
+    let solid = w.kept;
+    Looked {
+        text: texts::normalize_text(s, !trim, w.follows),
+        behind: known,
+        kept: solid,
     }
 }
 
@@ -226,8 +276,8 @@ fn still(trim: bool, n: Normalized) -> bool
     false
 }
 
-// A text of a list.
-fn words_turn(
+// A text of a list, made lean and read from its front.
+fn worded_turn(
     file: &[u8],
     tape: Sections,
     solids: &[u32],
@@ -275,6 +325,125 @@ fn words_turn(
         kept: solid,
         next,
     }
+}
+
+// A text of a list that is told by its frame.
+fn framed_turn(
+    file: &[u8],
+    tape: Sections,
+    solids: &[u32],
+    parent: Cursor,
+    outer: bool,
+    c: Cursor,
+    trim: bool,
+    behind: Behind,
+    kept: Step,
+    next: Step,
+    tail: &[u8],
+    front: usize,
+    len: usize,
+    ends: bool,
+    at: usize,
+    desk: &mut Numbers,
+    out: &mut [u8],
+) -> Going
+    requires { ⌜ Solids (tapeIn tape (now file)) (now solids) ⌝ }
+    ensures { λ r. ⌜ (Here (tapeIn tape (now (file .entry))) (c .at) (now (tail .entry)) (record { front = front; len = len; ends = ends }) → Kept (tapeIn tape (now (file .entry))) c kept → (node : ℕ → Bool → List Event) (ks : List ℕ) → emitAll (deskOf (tapeIn tape (now (file .entry)) .source) (r .at) (now (desk .exit)) (now (out .exit))) (inlineAll node (tapeIn tape (now (file .entry))) (behindOf (tapeIn tape (now (file .entry))) parent outer behind) (r .trim) ks) ≡ emitAll (deskOf (tapeIn tape (now (file .entry)) .source) at (now (desk .entry)) (now (out .entry))) (plainFrom node (tapeIn tape (now (file .entry))) (behindOf (tapeIn tape (now (file .entry))) parent outer behind) trim (c .at) ks Words)) ⌝ }
+    ensures { λ r. ⌜ (Here (tapeIn tape (now (file .entry))) (c .at) (now (tail .entry)) (record { front = front; len = len; ends = ends }) → Kept (tapeIn tape (now (file .entry))) c kept → next ≡ nextSibling (tapeIn tape (now (file .entry))) (c .at) → KeptAt (tapeIn tape (now (file .entry))) (r .next) (r .kept)) ⌝ }
+    ensures { λ r. ⌜ r .next ≡ next ⌝ }
+    ensures { λ r. ⌜ (Here (tapeIn tape (now (file .entry))) (c .at) (now (tail .entry)) (record { front = front; len = len; ends = ends }) → Kept (tapeIn tape (now (file .entry))) c kept → r .trim ≡ trimBy (tapeIn tape (now (file .entry))) (behindOf (tapeIn tape (now (file .entry))) parent outer behind) trim (c .at) Words) ⌝ }
+    ensures { λ r. ⌜ (Here (tapeIn tape (now (file .entry))) (c .at) (now (tail .entry)) (record { front = front; len = len; ends = ends }) → Kept (tapeIn tape (now (file .entry))) c kept → r .kept ≡ keptBehind (tapeIn tape (now (file .entry))) (textAt (tapeIn tape (now (file .entry))) (c .at)) kept (c .at) (r .next)) ⌝ }
+    ensures { λ r. ⌜ (Here (tapeIn tape (now (file .entry))) (c .at) (now (tail .entry)) (record { front = front; len = len; ends = ends }) → Kept (tapeIn tape (now (file .entry))) c kept → r .behind ≡ behindText (tapeIn tape (now (file .entry))) parent outer behind (c .at) (textAt (tapeIn tape (now (file .entry))) (c .at))) ⌝ }
+{
+    let w = wait(
+        file,
+        tape,
+        solids,
+        parent,
+        outer,
+        c,
+        ends,
+        behind,
+        kept,
+        next,
+    );
+    let known = w.behind;
+    let solid = w.kept;
+    let n = put_body::framed_text(front, len, ends, !trim, w.follows);
+    let r = put_texts::put_framed(tail, front, len, n, at, desk, out);
+    Going {
+        at: r,
+        trim: still(trim, n),
+        behind: known,
+        kept: solid,
+        next,
+    }
+}
+
+// A text of a list.
+fn words_turn(
+    file: &[u8],
+    tape: Sections,
+    solids: &[u32],
+    parent: Cursor,
+    outer: bool,
+    c: Cursor,
+    trim: bool,
+    behind: Behind,
+    kept: Step,
+    at: usize,
+    desk: &mut Numbers,
+    out: &mut [u8],
+) -> Going
+    requires { ⌜ Solids (tapeIn tape (now file)) (now solids) ⌝ }
+    ensures { λ r. ⌜ (Kept (tapeIn tape (now (file .entry))) c kept → (node : ℕ → Bool → List Event) (ks : List ℕ) → emitAll (deskOf (tapeIn tape (now (file .entry)) .source) (r .at) (now (desk .exit)) (now (out .exit))) (inlineAll node (tapeIn tape (now (file .entry))) (behindOf (tapeIn tape (now (file .entry))) parent outer behind) (r .trim) ks) ≡ emitAll (deskOf (tapeIn tape (now (file .entry)) .source) at (now (desk .entry)) (now (out .entry))) (plainFrom node (tapeIn tape (now (file .entry))) (behindOf (tapeIn tape (now (file .entry))) parent outer behind) trim (c .at) ks Words)) ⌝ }
+    ensures { λ r. ⌜ (Kept (tapeIn tape (now (file .entry))) c kept → KeptAt (tapeIn tape (now (file .entry))) (r .next) (r .kept)) ⌝ }
+    ensures { λ r. ⌜ r .next ≡ nextSibling (tapeIn tape (now (file .entry))) (c .at) ⌝ }
+    ensures { λ r. ⌜ (Kept (tapeIn tape (now (file .entry))) c kept → r .trim ≡ trimBy (tapeIn tape (now (file .entry))) (behindOf (tapeIn tape (now (file .entry))) parent outer behind) trim (c .at) Words) ⌝ }
+    ensures { λ r. ⌜ (Kept (tapeIn tape (now (file .entry))) c kept → r .kept ≡ keptBehind (tapeIn tape (now (file .entry))) (textAt (tapeIn tape (now (file .entry))) (c .at)) kept (c .at) (r .next)) ⌝ }
+    ensures { λ r. ⌜ (Kept (tapeIn tape (now (file .entry))) c kept → r .behind ≡ behindText (tapeIn tape (now (file .entry))) parent outer behind (c .at) (textAt (tapeIn tape (now (file .entry))) (c .at))) ⌝ }
+{
+    let tail = c.tail(file, tape);
+    let size = c.size(file, tape);
+    let front = put_body::white_front(tail, size);
+    let back = put_body::white_back(tail, front, size);
+    let len = size - front - back;
+    if put_body::is_framed(tail, size, front, len) {
+        let next = c.next_sibling(file, tape);
+        return framed_turn(
+            file,
+            tape,
+            solids,
+            parent,
+            outer,
+            c,
+            trim,
+            behind,
+            kept,
+            next,
+            tail,
+            front,
+            len,
+            0 < back,
+            at,
+            desk,
+            out,
+        );
+    }
+    worded_turn(
+        file,
+        tape,
+        solids,
+        parent,
+        outer,
+        c,
+        trim,
+        behind,
+        kept,
+        at,
+        desk,
+        out,
+    )
 }
 
 // A verse of a list, with the numbers behind it.

@@ -4,11 +4,10 @@ use mathlib.Core.Bool.{Bool, true, false}
 use mathlib.Core.List.{List, [], _∷_, _++_, append-assoc}
 use Prim.Native.Nat.{ℕ, _+_, _-_, _≤_, _<_}
 use native.Mathlib.Omega.{arith}
-use lib.ListN.{length, drop, length-drop}
+use lib.ListN.{length, drop, length-drop, getD}
 use lib.Seq.{drop-drop}
 use Rattle.parts.specs.Bytes.{Bytes, b, part}
 use Rattle.chars.specs.Escape.{escape}
-use Rattle.window.specs.Page.{paint}
 use Rattle.attrs.specs.Attr.{pieceLen, unquoted, shown}
 use Rattle.attrs.specs.Walk.{fixedKeys, valueOf, keyOf}
 use Rattle.attrs.specs.declared.Value.{Value}
@@ -16,8 +15,9 @@ use Rattle.attrs.specs.declared.Key.{Key}
 use Rattle.attrs.proofs.Values.{piece-some, piece-last, piece-in}
 use Rattle.fold.specs.Number.{gapSpace}
 use Rattle.events.specs.Event.{escaped}
+use Rattle.events.specs.Profile.{Profile, rust}
 use Rattle.events.specs.Emit.{Desk}
-use Rattle.desk.specs.Desk.{deskOf, putOn}
+use Rattle.desk.specs.Desk.{profileOf, deskOf, putOn}
 use Rattle.desk.specs.Stroke.{Stroke, key, piece, endValue, strokesOfAttr, ink, inkAll, strokes, Drew}
 use Rattle.desk.proofs.Strokes.{drew-none, strokes-append, ink-pieces, drew-attr, drew-pieces}
 
@@ -49,10 +49,15 @@ module _ {at₀ at : ℕ} (d₀ d : List ℕ) {out₀ out : Bytes} {all ss : Lis
 
 -- ---- the pieces of one value
 
+-- a piece of no bytes has none, in any profile
+ink-empty : (p : Profile) → [] ≡ inkAll p (piece false [] ∷ [])
+unfolding inkAll ink escape
+ink-empty rust = refl
+
 -- a value of no bytes is no stroke
 pub drew-empty : {at : ℕ} (d : List ℕ) {out : Bytes} → Drew at d out (piece false [] ∷ []) at d out
-unfolding strokes putOn inkAll ink escape paint
-drew-empty d = record { on = λ source. refl }
+unfolding strokes inkAll
+drew-empty {at} d {out} = record { on = λ source. drew-none d .on source ∙ ap (putOn (deskOf source at d out)) (ink-empty (profileOf (getD d 14 0))) }
 
 -- a piece of what is ahead
 pub ahead-piece : {at₀ at a : ℕ} (d₀ d d₁ : List ℕ) {out₀ out o₁ : Bytes} {all : List Stroke} {s : Bytes} → Ahead at₀ d₀ out₀ all at d out (piece false s ∷ []) → (x y : Bytes) → s ≡ x ++ y
@@ -62,7 +67,8 @@ ahead-piece {at = at} d₀ d d₁ {out = out} inv x y e f =
     ahead-turn d₀ d
     (record {
       on = λ source.
-          ap (putOn (deskOf source at d out)) (sym (append-assoc (ink (piece false x)) (ink (piece false y)) []) ∙ ap (λ (z : Bytes). z ++ []) (ink-pieces false x y))
+          let p : Profile = profileOf (getD d 14 0) in
+          ap (putOn (deskOf source at d out)) (sym (append-assoc (ink p (piece false x)) (ink p (piece false y)) []) ∙ ap (λ (z : Bytes). z ++ []) (ink-pieces p false x y))
           ∙ ap (λ (z : Bytes). strokes (deskOf source at d out) (piece false z ∷ [])) (sym e)
           ∙ inv .on source;
     })

@@ -13,14 +13,12 @@ use tape::Cursor;
 use tape::Kind;
 use tape::Sections;
 use tape::Step;
-use window::Window;
 use words::Part;
 ghost use mathlib.Core.Path.{_≡_};
 ghost use mathlib.Core.Bool.{false};
-ghost use mathlib.Core.List.{[], _∷_, _++_};
+ghost use mathlib.Core.List.{List, [], _∷_, _++_};
 ghost use lib.ListN.{drop};
 ghost use Rattle.parts.specs.Bytes.{Bytes, b};
-ghost use Rattle.window.specs.Page.{pageOf, paint};
 ghost use Rattle.tape.specs.File.{tapeIn};
 ghost use Rattle.tape.specs.Tree.{walkFrom};
 ghost use Rattle.render.specs.Note.{writtenCategory};
@@ -30,6 +28,7 @@ ghost use Rattle.fold.specs.Fold.{numberIn, foldedNumber};
 ghost use Rattle.fold.specs.Number.{gapSpace};
 ghost use Rattle.figure.specs.Figure.{fieldAt, valued, legacyPairs};
 ghost use Rattle.events.specs.Event.{escaped, perhaps, collected};
+ghost use Rattle.tags.specs.Items.{Attr, attrsBytes};
 ghost use Rattle.desk.specs.Stroke.{piece as pieceStroke, strokesOfAttr, strokesOfAttrs, Drew};
 ghost use Rattle.put_attrs.specs.Parts.{aboutPairs, placePairs};
 
@@ -137,12 +136,11 @@ fn put_pairs(
     }
 }
 
-// A space, and what stands behind the `|` of an attribute.
-fn put_barred(w: Window, out: &mut [u8], s: &[u8]) -> Window
-    ensures { λ r. ⌜ pageOf r (now (out .exit)) ≡ paint (pageOf w (now (out .entry))) (b " " ++ drop 1 (now (s .entry))) ⌝ }
+// What stands behind the `|` of an attribute, as the strokes that look so.
+fn put_barred(at: usize, desk: &mut Numbers, out: &mut [u8], s: &[u8]) -> usize
+    ensures { λ r. ⌜ ((qs : List Attr) → b " " ++ drop 1 (now (s .entry)) ≡ attrsBytes qs → Drew at (now (desk .entry)) (now (out .entry)) (strokesOfAttrs qs) r (now (desk .exit)) (now (out .exit))) ⌝ }
 {
-    let v = window::put_run(w, out, b" ");
-    window::put_run(v, out, parts::from(s, 1))
+    desk::attr_as_it_stands(at, desk, out, parts::from(s, 1))
 }
 
 // The attributes of the nodes from a step on: each is written as it stands, up to the first that cannot be.
@@ -172,15 +170,7 @@ fn put_from(
             if !barred::is_barred(s) {
                 return put_pairs(a, desk, out, file, tape, Step::At(d), marker);
             }
-            let w = put_barred(
-                Window {
-                    at: a,
-                    from: desk[0],
-                },
-                out,
-                s,
-            );
-            a = w.at;
+            a = put_barred(a, desk, out, s);
         }
     }
 }

@@ -117,23 +117,23 @@ same-here x [] e = last e
         rw (solid-above x (omega (arith, ltb-false x 32 (h .0), eqb-false x 32 (sym (and-true (eqb x 32)) ∙ k .1))), k .0)
 
 module _ (x : ℕ) (s : Bytes) (e : anyHard (x ∷ s) ≡ false) where
-  both : (hard x (getD s 0 0) ≡ false) × (anyHard s ≡ false)
+  pub both : (hard x (getD s 0 0) ≡ false) × (anyHard s ≡ false)
   unfolding anyHard
   both = or-both (hard x (getD s 0 0)) (anyHard s) e
 
-  first : (odd x (getD s 0 0) ≡ false) × (eqb x 47 ≡ false) × (special false x ≡ false)
+  pub first : (odd x (getD s 0 0) ≡ false) × (eqb x 47 ≡ false) × (special false x ≡ false)
   first = hard-none x (getD s 0 0) (both .0)
 
 rest-easy : (s : Bytes) → anyHard s ≡ false → restOf s ≡ s
 rest-easy [] e = rest-nil
 rest-easy (x ∷ s) e = rest-same x s (same-here x s (first x s e .0)) ∙ ap (λ (t : Bytes). x ∷ t) (rest-easy s (both x s e .1))
 
-escape-easy : (s : Bytes) → anyHard s ≡ false → escape false s ≡ s
+pub escape-easy : (s : Bytes) → anyHard s ≡ false → escape false s ≡ s
 unfolding escape
 escape-easy [] e = refl
 escape-easy (x ∷ s) e = rw (escaped-plain false x (first x s e .2), escape-easy s (both x s e .1))
 
-pair-easy : (s : Bytes) → anyHard s ≡ false → pairIn s ≡ false
+pub pair-easy : (s : Bytes) → anyHard s ≡ false → pairIn s ≡ false
 unfolding pairIn
 pair-easy [] e = refl
 pair-easy (x ∷ s) e = rw (first x s e .1) (pair-easy s (both x s e .1))
@@ -148,11 +148,11 @@ trim-easy (x ∷ s) n e = trim-solid x s (above (first x s e .0))
     above o = solid-above x (omega (arith, n, ltb-false x 32 (or-both (ltb x 32) (eqb x 126 || (eqb x 32 && ltb (getD s 0 0) 33)) o .0)))
 
 module _ (s : Bytes) (e : easy s ≡ true) where
-  easy-both : (eqb (getD s 0 0) 32 ≡ false) × (anyHard s ≡ false)
+  pub easy-both : (eqb (getD s 0 0) 32 ≡ false) × (anyHard s ≡ false)
   unfolding easy
   easy-both = or-both (eqb (getD s 0 0) 32) (anyHard s) (not-true (eqb (getD s 0 0) 32 || anyHard s) e)
 
-  body-easy : bodyOf s ≡ s
+  pub body-easy : bodyOf s ≡ s
   body-easy =
       body-rest s ∙ ap restOf (trim-easy s (eqb-false (getD s 0 0) 32 (easy-both .0)) (easy-both .1)) ∙ rest-easy s (easy-both .1)
 

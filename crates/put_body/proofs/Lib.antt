@@ -6,3 +6,5 @@ pub mod Characters
 pub mod Edges
 pub mod Ends
 pub mod Easy
+pub mod Tight
+pub mod Frames

@@ -1,10 +1,10 @@
 -- A text that is its own body and is written as it stands.
-use Prim.Native.Nat.{ℕ, _≤_}
+use Prim.Native.Nat.{ℕ, zero, suc, _≤_}
 use mathlib.Core.Path.{_≡_}
-use mathlib.Core.Bool.{Bool, false, not, _||_}
+use mathlib.Core.Bool.{Bool, false, cond, not, _&&_, _||_}
 use mathlib.Core.List.{[], _∷_, _++_}
 use lib.ListN.{length, getD, drop}
-use lib.Dec.{eqb}
+use lib.Dec.{eqb, leb}
 use Rattle.parts.specs.Bytes.{Bytes}
 use Rattle.words.specs.Words.{trim}
 use Rattle.words.specs.declared.Set.the-variants.{Ascii}
@@ -24,6 +24,20 @@ anyHard (x ∷ s) = hard x (getD s 0 0) || anyHard s
 -- a text with no such byte, and no space in front
 unfoldable pub easy : Bytes → Bool
 easy s = not (eqb (getD s 0 0) 32 || anyHard s)
+
+-- a text that is not empty and easy
+unfoldable pub tight : Bytes → Bool
+tight s = not (eqb (length s) 0) && easy s
+
+-- whether one of a text's first bytes is hard
+unfoldable pub hardFront : ℕ → Bytes → Bool
+hardFront zero s = false
+hardFront (suc k) [] = false
+hardFront (suc k) (x ∷ s) = hard x (getD s 0 0) || hardFront k s
+
+-- whether a byte before another is hard as number j of n bytes: it is one of them, and behind the last stands nothing
+unfoldable pub hardAs : ℕ → ℕ → ℕ → ℕ → Bool
+hardAs j n x y = leb j n && hard x (cond (eqb j n) 0 y)
 
 -- a place of a text before which no byte is hard
 pub record EasyTo (s : Bytes) (i : ℕ) : Type 0 where

@@ -1,3 +1,4 @@
 pub mod Body
 pub mod Easy
 pub mod Edge
+pub mod Frame

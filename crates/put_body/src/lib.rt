@@ -1,7 +1,8 @@
 // Normalized text written through the window, without a copy of it.
 ghost use mathlib.Core.Path.{_≡_};
 ghost use mathlib.Core.Bool.{false};
-ghost use lib.ListN.{length, getD, drop};
+ghost use Prim.Native.Nat.{min};
+ghost use lib.ListN.{length, getD, take, drop};
 ghost use Rattle.parts.specs.Pair.{anyPair};
 ghost use Rattle.chars.specs.Escape.{escape};
 ghost use Rattle.words.specs.Words.{words, joined, trim};
@@ -9,7 +10,15 @@ ghost use Rattle.texts.specs.Text.{bodyOf, spaced, written, spaceIf};
 ghost use Rattle.window.specs.Page.{pageOf, paint};
 ghost use Rattle.put_body.specs.Body.{restOf, plain, startsSolid, differs, sharedLen, odd, anyOdd, SharedTo, marked, gapWhite, gapOf};
 ghost use Rattle.put_body.specs.Edge.{softLen, coreEnd, coreOf, frontOf};
-ghost use Rattle.put_body.specs.Easy.{hard, anyHard, easy, EasyTo, innerOf, edged};
+ghost use Rattle.put_body.specs.Easy.{hard, anyHard, easy, tight, hardFront, hardAs, EasyTo, innerOf, edged};
+
+mod frame;
+
+pub use frame::framed_text;
+pub use frame::is_framed;
+pub use frame::put_framed;
+pub use frame::white_back;
+pub use frame::white_front;
 use texts::Normalized;
 use window::Window;
 use words::Set;
@@ -353,31 +362,76 @@ pub fn is_easy(s: &[u8]) -> bool
     !hard_each(&s[i..])
 }
 
+// Whether a byte before another is hard as number j of n bytes; with no branch, so that the bytes of a block are tested at once.
+fn is_hard_as(x: u8, y: u8, j: u8, n: u8) -> bool
+    ensures { λ r. ⌜ r ≡ hardAs j n x y ⌝ }
+{
+    (j <= n) & (is_hard(x, y) | ((x == b' ') & (j == n)))
+}
+
+// How many bytes a block of 16 and the byte behind it have of so many.
+fn block_len(n: usize) -> u8
+    ensures { λ r. ⌜ r ≡ min n 17 ⌝ }
+{
+    if n < 17 { n as u8 } else { 17 }
+}
+
+// Whether one of the first 16 of a text's first bytes is hard: all at once, and singly where the text ends sooner.
+fn hard_block(s: &[u8], n: usize) -> bool
+    ensures { λ r. ⌜ r ≡ hardFront 16 (take n (now (s .entry))) ⌝ }
+{
+    if s.len() < 17 {
+        return hard_each(parts::part(s, 0, n));
+    }
+    let m = block_len(n);
+    let mut found = false;
+    let mut k: u8 = 1;
+    let mut i = 1;
+    while i < 17 {
+        found = found | is_hard_as(s[i - 1], s[i], k, m);
+        k += 1;
+        i += 1;
+    }
+    found
+}
+
+// Whether one of a text's first bytes is hard, by blocks that may reach behind them.
+fn hard_front(s: &[u8], n: usize) -> bool
+    ensures { λ r. ⌜ r ≡ anyHard (take n (now (s .entry))) ⌝ }
+{
+    let mut i = 0;
+    loop {
+        if hard_block(parts::from(s, i), n - i) {
+            return true;
+        }
+        if n - i <= 16 {
+            return false;
+        }
+        i += 16;
+    }
+}
+
+// Whether the first bytes of a text are tight: by blocks of 16 that may reach behind them, and singly where the text ends sooner.
+pub fn is_tight(s: &[u8], n: usize) -> bool
+    ensures { λ r. ⌜ r ≡ tight (take n (now (s .entry))) ⌝ }
+{
+    if n == 0 {
+        return false;
+    }
+    if s.len() == 0 {
+        return false;
+    }
+    if s[0] == b' ' {
+        return false;
+    }
+    !hard_front(s, n)
+}
+
 // A text without white space at its edges: its body is the same.
 pub fn inner(s: &[u8]) -> &[u8]
     ensures { λ r. ⌜ now r ≡ innerOf (now (s .entry)) ⌝ }
 {
     words::trim(s, Set::Ascii)
-}
-
-// A run, where there is one.
-fn put_some(w: Window, out: &mut [u8], run: &[u8]) -> Window
-    ensures { λ r. ⌜ pageOf r (now (out .exit)) ≡ paint (pageOf w (now (out .entry))) (now (run .entry)) ⌝ }
-{
-    if 0 < run.len() {
-        window::put_run(w, out, run)
-    } else {
-        w
-    }
-}
-
-// A body that is written as it stands, with its lead and trail.
-pub fn put_easy(w: Window, out: &mut [u8], body: &[u8], n: Normalized) -> Window
-    ensures { λ r. ⌜ pageOf r (now (out .exit)) ≡ paint (pageOf w (now (out .entry))) (edged (now (body .entry)) n) ⌝ }
-{
-    let v = put_space(w, out, n.lead);
-    let u = put_some(v, out, body);
-    put_space(u, out, n.trail)
 }
 
 // The words from a place on, a space before each.

@@ -6,6 +6,7 @@ use mathlib.Core.Option.{some}
 use Prim.Native.Nat.{ℕ}
 use Rattle.parts.specs.Bytes.{Bytes, b, part}
 use Rattle.chars.specs.Decimal.{decimal}
+use Rattle.chars.specs.Escape.{escape, escapedByte}
 use Rattle.words.specs.declared.Part.{Part}
 use Rattle.usx_state.specs.declared.OpenChapter.{OpenChapter}
 use Rattle.usx_state.specs.declared.OpenChapter.the-variants.{NoChapter, Chapter}
@@ -39,16 +40,17 @@ unfolding chapterId verseId
 verse-chapter code n label = append-assoc code (b " " ++ decimal n) (b ":" ++ label)
 
 module _ {at a z r : ℕ} (d d₁ d₂ d₃ : List ℕ) {out o₁ o₂ last : Bytes} where
-  pub chapter-id : (raw : Bool) (code : Bytes) (n : ℕ) → Drew at d out (piece raw code ∷ []) a d₁ o₁ → Drew a d₁ o₁ (piece raw (b " ") ∷ []) z d₂ o₂
+  pub chapter-id : (raw : Bool) (code : Bytes) (n : ℕ) → Drew at d out (piece raw code ∷ []) a d₁ o₁ → (escape true (b " ") ≡ b " " → (raw : Bool) → Drew a d₁ o₁ (piece raw (b " ") ∷ []) z d₂ o₂)
       → Drew z d₂ o₂ (piece true (decimal n) ∷ []) r d₃ last → Drew z d₂ o₂ (piece false (decimal n) ∷ []) r d₃ last → Drew at d out (piece raw (chapterId code n) ∷ []) r d₃ last
-  unfolding chapterId
-  chapter-id raw code n e₁ e₂ e₃ e₄ = drew-pieces d d₁ d₃ raw code (b " " ++ decimal n) e₁ (drew-pieces d₁ d₂ d₃ raw (b " ") (decimal n) e₂ (by-raw raw e₃ e₄))
+  unfolding chapterId escape escapedByte
+  chapter-id raw code n e₁ e₂ e₃ e₄ = drew-pieces d d₁ d₃ raw code (b " " ++ decimal n) e₁ (drew-pieces d₁ d₂ d₃ raw (b " ") (decimal n) (e₂ refl raw) (by-raw raw e₃ e₄))
 
-  pub verse-id : (raw : Bool) (code : Bytes) (n : ℕ) (label : Bytes) → Drew at d out (piece raw (chapterId code n) ∷ []) a d₁ o₁ → Drew a d₁ o₁ (piece raw (b ":") ∷ []) z d₂ o₂
+  pub verse-id : (raw : Bool) (code : Bytes) (n : ℕ) (label : Bytes) → Drew at d out (piece raw (chapterId code n) ∷ []) a d₁ o₁ → (escape true (b ":") ≡ b ":" → (raw : Bool) → Drew a d₁ o₁ (piece raw (b ":") ∷ []) z d₂ o₂)
       → Drew z d₂ o₂ (piece raw label ∷ []) r d₃ last → Drew at d out (piece raw (verseId code n label) ∷ []) r d₃ last
+  unfolding escape escapedByte
   verse-id raw code n label e₁ e₂ e₃ =
       drew-as d d₃ (ap (λ (s : Bytes). piece raw s ∷ []) (verse-chapter code n label))
-      (drew-pieces d d₁ d₃ raw (chapterId code n) (b ":" ++ label) e₁ (drew-pieces d₁ d₂ d₃ raw (b ":") label e₂ e₃))
+      (drew-pieces d d₁ d₃ raw (chapterId code n) (b ":" ++ label) e₁ (drew-pieces d₁ d₂ d₃ raw (b ":") label (e₂ refl raw) e₃))
 
 -- ---- ends
 

@@ -13,8 +13,7 @@ use Rattle.words.specs.Words.{words, joined, isBlank, bytesOf}
 use Rattle.words.specs.declared.Set.the-variants.{Unicode}
 use Rattle.words.specs.declared.Part.{Part}
 use Rattle.texts.proofs.Texts.{joined-blank, joined-some}
-use Rattle.window.specs.Page.{pageOf, paint}
-use Rattle.window.specs.declared.Window.{Window}
+use Rattle.window.specs.Page.{paint}
 use Rattle.tape.specs.File.{tapeIn}
 use Rattle.tape.specs.declared.Sections.{Sections}
 use Rattle.tape.specs.declared.Step.{Step}
@@ -23,13 +22,14 @@ use Rattle.render.specs.Label.{labelOf, IsLabel}
 use Rattle.render.specs.Note.{stepText, remainder, bookCode, bookRest, IsCode}
 use Rattle.render.proofs.Notes.{rest-words}
 use Rattle.fold.specs.Fold.{foldedNumber}
-use Rattle.tags.specs.Items.{Item, empty, render}
+use Rattle.tags.specs.Items.{Item, empty}
 use Rattle.usx_state.specs.Mark.{namedBook, nextChapter, nextVerse, allClosed}
 use Rattle.usx_state.specs.declared.Marks.{Marks}
 use Rattle.events.specs.Event.{Event, perhaps, rawly, escaped, chapter as chapterEvent, verse as verseEvent, book as bookEvent}
 use Rattle.events.specs.Pairing.{State, chapterId, verseId, after, endOf, chapterAttrs, verseAttrs, bookAttrs, bookItems, itemsOf, lastEnds}
+use Rattle.events.specs.Profile.{renderAs}
 use Rattle.events.specs.Emit.{Desk, emit}
-use Rattle.desk.specs.Desk.{chapterIn, verseIn, stateIn, marksOf, Kept, deskOf, putOn, ended}
+use Rattle.desk.specs.Desk.{chapterIn, verseIn, stateIn, marksOf, profileOf, Kept, deskOf, putOn, ended}
 use Rattle.desk.specs.Stroke.{Stroke, opens, key, piece, endValue, ends, shuts, closes, words as said, strokesOfAttr, strokesOfAttrs, strokesOf, strokesOfAll, ink, strokes, Drew}
 use Rattle.desk.proofs.Strokes.{drew-two, drew-one, attrs-append, ink-items}
 use Rattle.put_chapters.proofs.Idents.{drew-as, drew-three}
@@ -99,12 +99,6 @@ module _ (c : Sections) (file : Bytes) (code : Part) (n : ℕ) where
 
 -- ---- a book
 
--- a text of words
-pub words-drawn : (at : ℕ) {v : Window} (d : List ℕ) (out : Bytes) {last : Bytes} (t : Bytes) → pageOf v last ≡ paint (record { at = at; from = getD d 0 0; buf = out }) (escape false t)
-    → Drew at d out (said t ∷ []) (v .at) d last
-unfolding ink
-words-drawn at d out t ev = drew-one at d out (said t) ev
-
 pub book-held : {at a z r : ℕ} (d d₁ d₂ d₃ : List ℕ) {out o₁ o₂ last : Bytes} (t : Bytes) → Drew at d out (ends ∷ []) a d₁ o₁ → Drew a d₁ o₁ (said t ∷ []) z d₂ o₂ → Drew z d₂ o₂ (closes 2 ∷ []) r d₃ last
     → Drew at d out (ends ∷ said t ∷ closes 2 ∷ []) r d₃ last
 book-held d d₁ d₂ d₃ t e₁ e₂ e₃ = drew-three d d₁ d₂ d₃ e₁ e₂ e₃
@@ -150,13 +144,14 @@ ends-put d d₁ d₂ source m e₁ e₂ = drew-as d d₂ (sym (items-append (end
 -- strokes, and the record that the numbers hold behind them
 desk-kept : (source : Bytes) {at r : ℕ} (d mid-d last-d : List ℕ) {out last : Bytes} (is : List Item) {m : Marks} {s : State}
     → Drew at d out (strokesOfAll is) r mid-d last → Kept mid-d m last-d → stateIn source m ≡ s
-    → deskOf source r last-d last ≡ record { page = paint (record { at = at; from = getD d 0 0; buf = out }) (render is); state = s }
+    → deskOf source r last-d last ≡ record { page = paint (record { at = at; from = getD d 0 0; buf = out }) (renderAs (profileOf (getD d 14 0)) is); state = s; profile = profileOf (getD d 14 0) }
 unfolding strokes putOn
 desk-kept source {at} {r} d mid-d last-d {out} {last} is {s = s} e k es =
-    ap (λ (f : ℕ). record { page = record { at = r; from = f; buf = last }; state = stateIn source (marksOf last-d) }) (k .from)
-    ∙ ap (λ (z : State). record { page = record { at = r; from = getD mid-d 0 0; buf = last }; state = z }) (ap (stateIn source) (k .marks) ∙ es)
-    ∙ ap (λ (w : Desk). record { page = w .page; state = s }) (e .on source)
-    ∙ ap (λ (x : Bytes). record { page = paint (record { at = at; from = getD d 0 0; buf = out }) x; state = s }) (ink-items is)
+    ap (λ (f : ℕ). record { page = record { at = r; from = f; buf = last }; state = stateIn source (marksOf last-d); profile = profileOf (getD last-d 14 0) }) (k .from)
+    ∙ ap (λ (z : State). record { page = record { at = r; from = getD mid-d 0 0; buf = last }; state = z; profile = profileOf (getD last-d 14 0) }) (ap (stateIn source) (k .marks) ∙ es)
+    ∙ ap (λ (n : ℕ). record { page = record { at = r; from = getD mid-d 0 0; buf = last }; state = s; profile = profileOf n }) (k .profile)
+    ∙ ap (λ (w : Desk). record { page = w .page; state = s; profile = w .profile }) (e .on source)
+    ∙ ap (λ (x : Bytes). record { page = paint (record { at = at; from = getD d 0 0; buf = out }) x; state = s; profile = profileOf (getD d 14 0) }) (ink-items (profileOf (getD d 14 0)) is)
 
 -- an event: its items on the page, and the record behind it
 emitted-by : (source : Bytes) {at r : ℕ} (d mid-d last-d : List ℕ) {out last : Bytes} {m n : Marks} (e : Event) → m ≡ marksOf d
@@ -165,7 +160,7 @@ emitted-by : (source : Bytes) {at r : ℕ} (d mid-d last-d : List ℕ) {out last
 unfolding emit
 emitted-by source {at} d mid-d last-d {out} {m = m} e em ev k es =
     desk-kept source d mid-d last-d (itemsOf (stateIn source m) e) ev k es
-    ∙ ap (λ (z : Marks). emit (record { page = record { at = at; from = getD d 0 0; buf = out }; state = stateIn source z }) e) em
+    ∙ ap (λ (z : Marks). emit (record { page = record { at = at; from = getD d 0 0; buf = out }; state = stateIn source z; profile = profileOf (getD d 14 0) }) e) em
 
 module _ (source : Bytes) (m : Marks) where
   chapter-state : (n : ℕ) (alt published : Option Bytes) → stateIn source (nextChapter m n) ≡ after (stateIn source m) (chapterEvent n alt published)
@@ -248,4 +243,4 @@ module _ {at r : ℕ} (d d₁ last-d : List ℕ) {out last : Bytes} (c : Section
   ends-ended es e₁ en k =
       let source : Bytes = tapeIn c file .source in
       desk-kept source d d₁ last-d (lastEnds (stateIn source m)) (drew-as d d₁ (ap (λ (z : Bytes). strokesOfAll (lastEnds (stateIn z m))) es) e₁) k (ap (stateIn source) en ∙ closed-state source m)
-      ∙ ap (λ (z : Marks). ended (record { page = record { at = at; from = getD d 0 0; buf = out }; state = stateIn source z })) em
+      ∙ ap (λ (z : Marks). ended (record { page = record { at = at; from = getD d 0 0; buf = out }; state = stateIn source z; profile = profileOf (getD d 14 0) })) em

@@ -12,6 +12,7 @@ use desk::key;
 use desk::open_tag;
 use desk::open_verse_end;
 use desk::piece;
+use desk::plain_piece;
 use desk::shut_value;
 use usx_state::OpenChapter;
 use usx_state::OpenVerse;
@@ -28,7 +29,7 @@ pub fn chapter_id(
     ensures { λ r. ⌜ Drew at (now (desk .entry)) (now (out .entry)) (pieceStroke raw (chapterId (now (code .entry)) number) ∷ []) r (now (desk .exit)) (now (out .exit)) ⌝ }
 {
     let a = piece(at, desk, out, code, raw);
-    let z = piece(a, desk, out, b" ", raw);
+    let z = plain_piece(a, desk, out, b" ");
     digits(z, desk, out, number)
 }
 
@@ -45,7 +46,7 @@ pub fn verse_id(
     ensures { λ r. ⌜ Drew at (now (desk .entry)) (now (out .entry)) (pieceStroke raw (verseId (now (code .entry)) number (now (label .entry))) ∷ []) r (now (desk .exit)) (now (out .exit)) ⌝ }
 {
     let a = chapter_id(at, desk, out, code, number, raw);
-    let z = piece(a, desk, out, b":", raw);
+    let z = plain_piece(a, desk, out, b":");
     piece(z, desk, out, label, raw)
 }
 

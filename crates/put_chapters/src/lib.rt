@@ -27,10 +27,12 @@ use desk::digits;
 use desk::end_tag;
 use desk::end_value;
 use desk::key;
+use desk::open_sid;
 use desk::open_tag;
 use desk::open_verse;
 use desk::shut_tag;
 use desk::shut_value;
+use desk::text_joined;
 use ident::chapter_id;
 use ident::end_chapter;
 use ident::end_verse;
@@ -40,7 +42,6 @@ use tape::Cursor;
 use tape::Sections;
 use tape::Step;
 use usx_state::Marks;
-use window::Window;
 use words::Part;
 use words::Set;
 
@@ -66,7 +67,7 @@ fn put_chapter_head(at: usize, desk: &mut Numbers, out: &mut [u8], number: u32) 
 fn put_chapter_sid(at: usize, desk: &mut Numbers, out: &mut [u8], code: &[u8], number: u32) -> usize
     ensures { λ r. ⌜ Drew at (now (desk .entry)) (now (out .entry)) (keyStroke (b "sid") ∷ pieceStroke false (chapterId (now (code .entry)) number) ∷ endValue ∷ shuts ∷ []) r (now (desk .exit)) (now (out .exit)) ⌝ }
 {
-    let a = key(at, desk, out, b"sid");
+    let a = open_sid(at, desk, out);
     let c = chapter_id(a, desk, out, code, number, false);
     shut_value(c, desk, out)
 }
@@ -103,7 +104,7 @@ fn put_verse_sid(
 ) -> usize
     ensures { λ r. ⌜ Drew at (now (desk .entry)) (now (out .entry)) (keyStroke (b "sid") ∷ pieceStroke false (verseId (now (code .entry)) number (now (label .entry))) ∷ endValue ∷ []) r (now (desk .exit)) (now (out .exit)) ⌝ }
 {
-    let a = key(at, desk, out, b"sid");
+    let a = open_sid(at, desk, out);
     let c = verse_id(a, desk, out, code, number, label, false);
     end_value(c, desk, out)
 }
@@ -222,20 +223,12 @@ fn put_book_head(at: usize, desk: &mut Numbers, out: &mut [u8], code: &[u8]) -> 
     attr(z, desk, out, b"style", b"id", true)
 }
 
-// A text of words.
-fn put_text(at: usize, desk: &mut Numbers, out: &mut [u8], text: &[u8]) -> usize
-    ensures { λ r. ⌜ Drew at (now (desk .entry)) (now (out .entry)) (wordsStroke (joined (words Unicode (now (text .entry)))) ∷ []) r (now (desk .exit)) (now (out .exit)) ⌝ }
-{
-    let w = put_body::put_words(Window { at, from: desk[0] }, out, text, false);
-    w.at
-}
-
 // What a book holds and its end.
 fn put_book_rest(at: usize, desk: &mut Numbers, out: &mut [u8], rest: &[u8]) -> usize
     ensures { λ r. ⌜ Drew at (now (desk .entry)) (now (out .entry)) (ends ∷ wordsStroke (joined (words Unicode (now (rest .entry)))) ∷ closes 2 ∷ []) r (now (desk .exit)) (now (out .exit)) ⌝ }
 {
     let a = end_tag(at, desk, out);
-    let c = put_text(a, desk, out, rest);
+    let c = text_joined(a, desk, out, rest);
     close_tag(c, desk, out, Element::Book)
 }
 

@@ -1,9 +1,10 @@
 -- What closes a marker.
-use mathlib.Core.Path.{_≡_, _∙_}
+use mathlib.Core.Path.{_≡_, refl, _∙_}
+use mathlib.Core.Bool.{Bool, true, not}
 use mathlib.Core.List.{List, [], _∷_}
 use Prim.Native.Nat.{ℕ}
 use Rattle.parts.specs.Bytes.{Bytes}
-use Rattle.tape.specs.File.{Tape}
+use Rattle.tape.specs.File.{Tape, isNested}
 use Rattle.attrs.specs.Walk.{soughtOf}
 use Rattle.attrs.specs.declared.Value.{Value}
 use Rattle.attrs.specs.declared.Sought.{Sought}
@@ -19,6 +20,7 @@ use Rattle.desk.proofs.Strokes.{drew-two}
 use Rattle.roles.specs.declared.Role.{Role}
 use Rattle.roles.specs.declared.Role.the-variants.{UnknownBlock, UnknownInline, Unwritten, Figure, Ref, Id, Note, Ms, Char, Para}
 use Rattle.roles.specs.Roles.{roleIn}
+use Rattle.roles.proofs.Roles.{link-flat}
 use Rattle.put_markers.specs.Marker.{markerCloses, linkCloses}
 use Rattle.put_markers.proofs.Written.{drew-all}
 
@@ -39,6 +41,11 @@ module _ (t : Tape) (k : ℕ) {link : Sought} (el : soughtOf (t .source) link �
       → deskOf (t .source) r last-d last ≡ emitAll (deskOf (t .source) at d out) (markerCloses t k char)
   unfolding markerCloses linkCloses soughtOf strokesOfAll strokesOf
   link-closed h d₁ e₁ e₂ = rw (← el, h) (drew-all d last-d (close 16 ∷ close 6 ∷ []) (drew-two d d₁ last-d e₁ e₂) (t .source))
+
+-- one that is not nested links nothing
+pub flat-closed : (t : Tape) (k : ℕ) {x : Bool} → x ≡ isNested t k → not x ≡ true → {at r : ℕ} (d last-d : List ℕ) {out last : Bytes} → Drew at d out (closes 6 ∷ []) r last-d last
+    → deskOf (t .source) r last-d last ≡ emitAll (deskOf (t .source) at d out) (markerCloses t k char)
+flat-closed t k ex hx d last-d e = char-closed t k (link-flat t k ex hx) d last-d refl e
 
 -- ---- by role
 

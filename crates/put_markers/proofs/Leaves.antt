@@ -6,8 +6,6 @@ use Prim.Native.Nat.{ℕ}
 use lib.ListN.{getD}
 use Rattle.parts.specs.Bytes.{Bytes, b}
 use Rattle.chars.specs.Escape.{escape}
-use Rattle.window.specs.Page.{pageOf, paint}
-use Rattle.window.specs.declared.Window.{Window}
 use Rattle.tape.specs.File.{Tape}
 use Rattle.tape.specs.Name.{markerName}
 use Rattle.tape.specs.declared.Cursor.{Cursor}
@@ -44,11 +42,11 @@ module _ (t : Tape) (k : ℕ) {at a z r : ℕ} (d d₁ d₂ d₃ : List ℕ) {ou
   unfolding strokesOfAttrs strokesOfAttr styled rawly
   fields-drawn f e₁ e₂ e₃ = drew-start d d₂ d₃ (styled (b "fig") ++ collected (legacyPairs t k f)) (drew-two d d₁ d₂ e₁ e₂) e₃
 
-pub caption-drawn : (t : Tape) (k at : ℕ) {v : Window} {r : ℕ} (d last-d : List ℕ) (out : Bytes) {mid last s : Bytes} → s ≡ fieldAt t k 4
-    → pageOf v mid ≡ paint (record { at = at; from = getD d 0 0; buf = out }) (escape false s) → Drew (v .at) d mid (closes 9 ∷ []) r last-d last
+pub caption-drawn : (t : Tape) (k : ℕ) {at a r : ℕ} (d d₁ last-d : List ℕ) {out mid last s : Bytes} → s ≡ fieldAt t k 4
+    → Drew at d out (words s ∷ []) a d₁ mid → Drew a d₁ mid (closes 9 ∷ []) r last-d last
     → Drew at d out (strokesOfAll (text (captionOf t k) ∷ close 9 ∷ [])) r last-d last
-unfolding captionOf strokesOfAll strokesOf ink
-caption-drawn t k at d last-d out es ev e = drew-two d d last-d (drew-one at d out (words (fieldAt t k 4)) (rw es at ev)) e
+unfolding captionOf strokesOfAll strokesOf
+caption-drawn t k d d₁ last-d es e f = drew-two d d₁ last-d (rw es at e) f
 
 -- an item and those behind it
 pub items-drawn : {at a r : ℕ} (d d₁ d₂ : List ℕ) {out mid last : Bytes} (i : Item) (is : List Item) → Drew at d out (strokesOf i) a d₁ mid → Drew a d₁ mid (strokesOfAll is) r d₂ last

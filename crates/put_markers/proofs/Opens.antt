@@ -1,12 +1,12 @@
 -- What opens a marker.
 use mathlib.Core.Path.{_≡_, refl, ap, _∙_}
-use mathlib.Core.Bool.{Bool, true, false}
+use mathlib.Core.Bool.{Bool, true, false, cond}
 use mathlib.Core.List.{List, [], _∷_, _++_}
 use mathlib.Core.Option.{Option}
 use Prim.Native.Nat.{ℕ}
 use Rattle.parts.specs.Bytes.{Bytes, b}
 use Rattle.window.specs.Page.{paint}
-use Rattle.tape.specs.File.{Tape, nodeAt, isSynthetic}
+use Rattle.tape.specs.File.{Tape, nodeAt, isSynthetic, isNested}
 use Rattle.tape.specs.Name.{markerName}
 use Rattle.tape.specs.declared.Cursor.{Cursor}
 use Rattle.render.specs.Note.{callerOr, noteCaller, writtenCategory}
@@ -26,6 +26,7 @@ use Rattle.desk.proofs.Strokes.{drew-two, drew-item}
 use Rattle.roles.specs.declared.Role.{Role}
 use Rattle.roles.specs.declared.Role.the-variants.{UnknownBlock, UnknownInline, Unwritten, Figure, Ref, Id, Note, Ms, Char, Para}
 use Rattle.roles.specs.Roles.{roleIn}
+use Rattle.roles.proofs.Roles.{link-flat}
 use Rattle.put_markers.specs.Marker.{markerOpens, linkOpens}
 use Rattle.put_markers.proofs.Written.{drew-event, drew-more, drew-start}
 
@@ -43,6 +44,10 @@ module _ (t : Tape) (k : ℕ) {x : Bool} (ex : x ≡ isSynthetic t (nodeAt t k .
   pub unclosed-none : x ≡ false → Drew at d out (strokesOfAttrs (unclosed t k)) at d out
   unfolding unclosed strokesOfAttrs strokes putOn inkAll paint
   unclosed-none hx = rw (← ex, hx) (record { on = λ source. refl })
+
+-- what is not told to be bare says nothing
+pub bare-not : (t : Tape) (k : ℕ) → false ≡ true → (m : Bytes) → attributesOf t k m ≡ []
+bare-not t k e m = ap (λ (x : Bool). cond x [] (attributesOf t k m)) e
 
 -- ---- tags
 
@@ -109,6 +114,12 @@ pub char-linked : (t : Tape) (k : ℕ) {at a : ℕ} (d d₁ : List ℕ) {out mid
     → f ≡ emitAll (deskOf (t .source) a d₁ mid) (linkOpens o) → f ≡ emitAll (deskOf (t .source) at d out) (markerOpens t k char)
 unfolding markerOpens emitAll
 char-linked t k d d₁ e eo ef = ef ∙ rw (drew-item d d₁ _ e (t .source), eo)
+
+-- a char that is not nested links nothing
+pub char-flat : (t : Tape) (k : ℕ) {at a : ℕ} (d d₁ : List ℕ) {out mid : Bytes} {x : Bool}
+    → Drew at d out (strokesOf (start 6 (style t k ∷ (unclosed t k ++ collected (attributesOf t k (markerName t k)))))) a d₁ mid → x ≡ isNested t k → x ≡ false
+    → deskOf (t .source) a d₁ mid ≡ emitAll (deskOf (t .source) at d out) (markerOpens t k char)
+char-flat t k d d₁ e ex hx = char-linked t k d d₁ e (link-flat t k ex (rw hx)) (link-shut (t .source) _ refl)
 
 -- ---- by role
 

@@ -8,7 +8,7 @@ use Rattle.tags.specs.Items.{Attr, Item, start, empty}
 use Rattle.events.specs.Event.{item}
 use Rattle.events.specs.Emit.{Desk, emit, emitAll}
 use Rattle.desk.specs.Desk.{deskOf, putOn}
-use Rattle.desk.specs.Stroke.{opens, ends, shuts, strokesOfAttrs, strokesOf, strokesOfAll, inkAll, strokes, Drew}
+use Rattle.desk.specs.Stroke.{Stroke, opens, ends, shuts, strokesOfAttrs, strokesOf, strokesOfAll, inkAll, strokes, Drew}
 use Rattle.desk.proofs.Strokes.{strokes-append, strokes-item, drew-two, drew-item, attrs-append}
 
 -- ---- events
@@ -27,6 +27,12 @@ module _ {at r : ℕ} (d last-d : List ℕ) {out last : Bytes} where
   pub drew-event : (i : Item) → Drew at d out (strokesOf i) r last-d last → (source : Bytes) → deskOf source r last-d last ≡ emitAll (deskOf source at d out) (item i ∷ [])
   unfolding emitAll
   drew-event i e source = drew-item d last-d i e source
+
+-- ---- ways that meet
+
+-- what one of them drew, by the names that both go on under
+pub drew-met : {at r z : ℕ} (d x y : List ℕ) {out mid last : Bytes} {ss : List Stroke} → Drew at d out ss r x mid → y ≡ x → last ≡ mid → z ≡ r → Drew at d out ss z y last
+drew-met d x y e ey el ez = rw (ey, el, ez) e
 
 -- ---- tags
 

@@ -29,6 +29,9 @@ fn close_char(
     requires { ⌜ Solids (tapeIn tape (now file)) (now solids) ⌝ }
     ensures { λ r. ⌜ deskOf (tapeIn tape (now (file .entry)) .source) r (now (desk .exit)) (now (out .exit)) ≡ emitAll (deskOf (tapeIn tape (now (file .entry)) .source) at (now (desk .entry)) (now (out .entry))) (markerCloses (tapeIn tape (now (file .entry))) (c .at) char) ⌝ }
 {
+    if !c.is_nested(file, tape) {
+        return desk::close_char(at, desk, out);
+    }
     match link_of(file, tape, solids, c) {
         Sought::Nowhere => desk::close_char(at, desk, out),
         Sought::At(_) => {

@@ -21,14 +21,13 @@ use desk::close_tag;
 use desk::end_tag;
 use desk::open_styled;
 use desk::shut_tag;
+use desk::text_escaped;
 use put_attrs::put_collected;
 use put_attrs::put_legacy;
 use roles::Role;
 use tape::Cursor;
 use tape::Sections;
 use tape::Step;
-use window::Window;
-use window::escape_xml;
 
 // A milestone with its attributes.
 fn put_ms(
@@ -89,12 +88,8 @@ fn put_caption(
 ) -> usize
     ensures { λ r. ⌜ Drew at (now (desk .entry)) (now (out .entry)) (strokesOfAll (text (captionOf (tapeIn tape (now (file .entry))) (a .at)) ∷ close 9 ∷ [])) r (now (desk .exit)) (now (out .exit)) ⌝ }
 {
-    let w = escape_xml(
-        Window { at, from: desk[0] },
-        out,
-        figure::field(file, tape, a, 4),
-    );
-    close_tag(w.at, desk, out, Element::Figure)
+    let d = text_escaped(at, desk, out, figure::field(file, tape, a, 4));
+    close_tag(d, desk, out, Element::Figure)
 }
 
 // A figure of old, whole.

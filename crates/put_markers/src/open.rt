@@ -1,7 +1,8 @@
 // The tags that open a marker.
 ghost use mathlib.Core.Path.{_≡_};
+ghost use mathlib.Core.Bool.{true};
 ghost use mathlib.Core.List.{[], _∷_, _++_};
-ghost use Rattle.parts.specs.Bytes.{b};
+ghost use Rattle.parts.specs.Bytes.{Bytes, b};
 ghost use Rattle.tape.specs.File.{tapeIn, nodeAt, isSynthetic};
 ghost use Rattle.tape.specs.Name.{markerName};
 ghost use Rattle.leading_white.specs.Lean.{Solids};
@@ -30,7 +31,10 @@ use put_attrs::put_sought;
 use roles::Role;
 use roles::link_of;
 use tape::Cursor;
+use tape::Kind;
 use tape::Sections;
+use tape::Step;
+use tape::is_at;
 
 // The front of a tag whose style is the marker's name.
 pub fn open_named(
@@ -104,6 +108,21 @@ pub fn put_unclosed(
     }
 }
 
+// Whether a marker holds nothing, or one text alone: it has no attribute.
+fn is_bare(file: &[u8], tape: Sections, c: Cursor) -> bool
+    ensures { λ r. ⌜ (r ≡ true → (marker : Bytes) → attributesOf (tapeIn tape (now (file .entry))) (c .at) marker ≡ []) ⌝ }
+{
+    match c.first_child(file, tape) {
+        Step::At(k) => {
+            if k.kind(file, tape).code == Kind::TEXT {
+                return !is_at(k.next_sibling(file, tape));
+            }
+            false
+        }
+        Step::Done => true,
+    }
+}
+
 // A char's tag: style, closed, its attributes.
 fn put_char(
     at: usize,
@@ -117,8 +136,16 @@ fn put_char(
 {
     let name = c.marker_name(file, tape);
     let a = desk::open_char(at, desk, out, name);
-    let d = put_unclosed(a, desk, out, file, tape, c);
-    let e = put_collected(d, desk, out, file, tape, c, name);
+    let d = if ends_synthetic(file, tape, c) {
+        put_unclosed(a, desk, out, file, tape, c)
+    } else {
+        a
+    };
+    let e = if is_bare(file, tape, c) {
+        d
+    } else {
+        put_collected(d, desk, out, file, tape, c, name)
+    };
     end_tag(e, desk, out)
 }
 
@@ -169,7 +196,10 @@ fn open_char(
     ensures { λ r. ⌜ deskOf (tapeIn tape (now (file .entry)) .source) r (now (desk .exit)) (now (out .exit)) ≡ emitAll (deskOf (tapeIn tape (now (file .entry)) .source) at (now (desk .entry)) (now (out .entry))) (markerOpens (tapeIn tape (now (file .entry))) (c .at) char) ⌝ }
 {
     let s = put_char(at, desk, out, file, tape, c);
-    open_link(file, tape, link_of(file, tape, solids, c), s, desk, out)
+    if c.is_nested(file, tape) {
+        return open_link(file, tape, link_of(file, tape, solids, c), s, desk, out);
+    }
+    s
 }
 
 // A figure's tag with its attributes.

@@ -4,8 +4,8 @@ use mathlib.Core.Bool.{Bool, true, false, cond}
 use mathlib.Core.List.{List, [], _∷_, map}
 use Prim.Native.Nat.{ℕ, _+_, _≤_, _<_}
 use native.Mathlib.Omega.{arith}
-use lib.ListN.{length, take, drop, getD, length-drop}
-use lib.Seq.{drop-drop, take-all}
+use lib.ListN.{length, take, drop, length-drop}
+use lib.Seq.{drop-drop, take-all, take-length}
 use lib.Dec.{ltb}
 use borrow.Author.Tests.{lt-ltb, le-ltb, ltb-true, ltb-false}
 use Rattle.parts.specs.Bytes.{Bytes, begins, find}
@@ -17,26 +17,24 @@ use Rattle.texts.specs.Text.{bodyOf, written, hasBreak, splitBreaks, segments}
 use Rattle.texts.specs.declared.Normalized.{Normalized}
 use Rattle.texts.proofs.Segments.{split-last, split-next, segments-bodies}
 use Rattle.put_body.specs.Easy.{easy, innerOf, edged}
+use Rattle.put_body.specs.Frame.{Framed}
 use Rattle.put_body.proofs.Easy.{easy-whole, easy-written}
-use Rattle.window.specs.Page.{pageOf, paint}
-use Rattle.window.specs.declared.Window.{Window}
-use Rattle.tags.specs.Items.{text, empty, bytesOf}
+use Rattle.tags.specs.Items.{text, empty}
 use Rattle.events.specs.Event.{Event, item}
 use Rattle.events.specs.Walk.{unbroken, breaks, segmented, broken}
 use Rattle.events.specs.Emit.{Desk, emit, emitAll}
 use Rattle.desk.specs.Desk.{deskOf}
-use Rattle.desk.specs.Stroke.{opens, shuts, strokesOfAttrs, strokesOf, Drew}
-use Rattle.desk.proofs.Chains.{desk-item}
+use Rattle.desk.specs.Stroke.{opens, shuts, words, strokesOfAttrs, strokesOf, Drew}
 use Rattle.desk.proofs.Strokes.{drew-two, drew-item}
 use Rattle.put_texts.specs.Broken.{segment, breaksFrom}
 
 -- ---- whole
 
 module _ (s : Bytes) (n : Normalized) (at : ℕ) (d : List ℕ) (out : Bytes) where
-  pub unbroken-shows : n .shows ≡ true → {v : Window} {last : Bytes} → pageOf v last ≡ paint (record { at = at; from = getD d 0 0; buf = out }) (escape false (written s n))
-      → (source : Bytes) → deskOf source (v .at) d last ≡ emitAll (deskOf source at d out) (unbroken s n)
-  unfolding unbroken emitAll bytesOf written
-  unbroken-shows h ev source = rw h (desk-item at d out (text (written s n)) ev source)
+  pub unbroken-shows : n .shows ≡ true → {r : ℕ} (last-d : List ℕ) {last : Bytes} → Drew at d out (words (written s n) ∷ []) r last-d last
+      → (source : Bytes) → deskOf source r last-d last ≡ emitAll (deskOf source at d out) (unbroken s n)
+  unfolding unbroken emitAll strokesOf written
+  unbroken-shows h last-d e source = rw h (drew-item d last-d (text (written s n)) e source)
 
   pub unbroken-hidden : n .shows ≡ false → (source : Bytes) → deskOf source at d out ≡ emitAll (deskOf source at d out) (unbroken s n)
   unfolding unbroken emitAll
@@ -44,9 +42,10 @@ module _ (s : Bytes) (n : Normalized) (at : ℕ) (d : List ℕ) (out : Bytes) wh
 
   -- a body that is written as it stands
   module _ {body : Bytes} (eb : body ≡ innerOf s) where
-    pub easy-shows : n .shows ≡ true → easy body ≡ true → {v : Window} {last : Bytes} → pageOf v last ≡ paint (record { at = at; from = getD d 0 0; buf = out }) (edged body n)
-        → (source : Bytes) → deskOf source (v .at) d last ≡ emitAll (deskOf source at d out) (unbroken s n)
-    easy-shows h e ev source = unbroken-shows h (ev ∙ rw (eb, easy-written s (rw eb at e) n)) source
+    pub easy-shows : n .shows ≡ true → easy body ≡ true → {r : ℕ} (last-d : List ℕ) {last : Bytes}
+        → ((t : Bytes) → escape false t ≡ edged (take (length body) body) n → Drew at d out (words t ∷ []) r last-d last)
+        → (source : Bytes) → deskOf source r last-d last ≡ emitAll (deskOf source at d out) (unbroken s n)
+    easy-shows h e last-d f source = unbroken-shows h last-d (f (written s n) (easy-written s (rw eb at e) n ∙ rw (← eb, take-length body))) source
 
     module _ {t : Bool} (et : t ≡ easy body) (h : t ≡ true) (r : ℕ) (last-d : List ℕ) (last : Bytes)
         (f : (s : Bytes) → body ≡ innerOf s → easy body ≡ true → (source : Bytes) → deskOf source r last-d last ≡ emitAll (deskOf source at d out) (unbroken s n)) where
@@ -68,12 +67,27 @@ module _ (s : Bytes) (n : Normalized) (at : ℕ) (d : List ℕ) (out : Bytes) wh
     unfolding broken
     broken-whole h e source = rw (sym ex ∙ h) (e source)
 
+-- by its frame
+module _ (tail : Bytes) (front len : ℕ) (n : Normalized) (at : ℕ) (d : List ℕ) (out : Bytes) where
+  framed-whole : (size : ℕ) (ends : Bool) → Framed tail size (record { front = front; len = len; ends = ends }) → broken (take size tail) n ≡ unbroken (take size tail) n
+  unfolding broken
+  framed-whole size ends fr = rw (fr .whole)
+
+  pub framed-shows : n .shows ≡ true → {r : ℕ} (last-d : List ℕ) {last body : Bytes} → body ≡ drop front tail
+      → ((t : Bytes) → escape false t ≡ edged (take len body) n → Drew at d out (words t ∷ []) r last-d last)
+      → (size : ℕ) (ends : Bool) → Framed tail size (record { front = front; len = len; ends = ends }) → (source : Bytes) → deskOf source r last-d last ≡ emitAll (deskOf source at d out) (broken (take size tail) n)
+  framed-shows h last-d eb e size ends fr source =
+      unbroken-shows (take size tail) n at d out h last-d (e (written (take size tail) n) (fr .stands n ∙ rw eb)) source ∙ ap (emitAll (deskOf source at d out)) (sym (framed-whole size ends fr))
+
+  pub framed-hidden : n .shows ≡ false → (size : ℕ) (ends : Bool) → Framed tail size (record { front = front; len = len; ends = ends }) → (source : Bytes) → deskOf source at d out ≡ emitAll (deskOf source at d out) (broken (take size tail) n)
+  framed-hidden h size ends fr source = unbroken-hidden (take size tail) n at d out h source ∙ ap (emitAll (deskOf source at d out)) (sym (framed-whole size ends fr))
+
 -- ---- segment by segment
 
-pub segment-put : (s : Bytes) (at : ℕ) (d : List ℕ) (out : Bytes) {v : Window} {last : Bytes} → pageOf v last ≡ paint (record { at = at; from = getD d 0 0; buf = out }) (escape false (trim Unicode (bodyOf s)))
-    → (source : Bytes) → deskOf source (v .at) d last ≡ emit (deskOf source at d out) (item (text (segment s)))
-unfolding segment bytesOf
-segment-put s at d out ev source = desk-item at d out (text (trim Unicode (bodyOf s))) ev source
+pub segment-put : (s : Bytes) {at r : ℕ} (d last-d : List ℕ) {out last : Bytes} → Drew at d out (words (trim Unicode (bodyOf s)) ∷ []) r last-d last
+    → (source : Bytes) → deskOf source r last-d last ≡ emit (deskOf source at d out) (item (text (segment s)))
+unfolding segment strokesOf
+segment-put s d last-d e = drew-item d last-d (text (trim Unicode (bodyOf s))) e
 
 bodies : (s : Bytes) → segments s ≡ map segment (splitBreaks s)
 unfolding segment

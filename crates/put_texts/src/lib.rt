@@ -1,12 +1,13 @@
 // Normalized text, whole or broken at `//`.
 ghost use mathlib.Core.Path.{_≡_};
-ghost use mathlib.Core.Bool.{true};
+ghost use mathlib.Core.Bool.{Bool, true};
 ghost use mathlib.Core.List.{[]};
-ghost use Prim.Native.Nat.{_<_};
-ghost use lib.ListN.{length};
+ghost use Prim.Native.Nat.{ℕ, _<_};
+ghost use lib.ListN.{length, take};
 ghost use Rattle.parts.specs.Bytes.{Bytes};
 ghost use Rattle.texts.specs.Text.{segments};
 ghost use Rattle.put_body.specs.Easy.{easy, innerOf};
+ghost use Rattle.put_body.specs.Frame.{Framed};
 ghost use Rattle.tags.specs.Items.{text, empty};
 ghost use Rattle.events.specs.Event.{item};
 ghost use Rattle.events.specs.Walk.{unbroken, segmented, broken};
@@ -17,16 +18,17 @@ use desk::Element;
 use desk::Numbers;
 use desk::open_tag;
 use desk::shut_tag;
+use desk::text_body;
+use desk::text_segment;
+use desk::text_words;
 use texts::Normalized;
-use window::Window;
 
 // A text where it shows, whose body is written as it stands.
 fn put_easy(body: &[u8], n: Normalized, at: usize, desk: &mut Numbers, out: &mut [u8]) -> usize
     ensures { λ r. ⌜ ((s : Bytes) → now (body .entry) ≡ innerOf s → easy (now (body .entry)) ≡ true → (source : Bytes) → deskOf source r (now (desk .exit)) (now (out .exit)) ≡ emitAll (deskOf source at (now (desk .entry)) (now (out .entry))) (unbroken s n)) ⌝ }
 {
     if n.shows {
-        let w = put_body::put_easy(Window { at, from: desk[0] }, out, body, n);
-        w.at
+        text_body(at, desk, out, body, body.len(), n)
     } else {
         at
     }
@@ -37,8 +39,26 @@ fn put_worded(s: &[u8], n: Normalized, at: usize, desk: &mut Numbers, out: &mut 
     ensures { λ r. ⌜ ((source : Bytes) → deskOf source r (now (desk .exit)) (now (out .exit)) ≡ emitAll (deskOf source at (now (desk .entry)) (now (out .entry))) (unbroken (now (s .entry)) n)) ⌝ }
 {
     if n.shows {
-        let w = put_body::put_written(Window { at, from: desk[0] }, out, s, n);
-        w.at
+        text_words(at, desk, out, s, n)
+    } else {
+        at
+    }
+}
+
+// A text where it shows, whose body starts here and is so long.
+pub fn put_framed(
+    tail: &[u8],
+    front: usize,
+    len: usize,
+    n: Normalized,
+    at: usize,
+    desk: &mut Numbers,
+    out: &mut [u8],
+) -> usize
+    ensures { λ r. ⌜ ((size : ℕ) (ends : Bool) → Framed (now (tail .entry)) size (record { front = front; len = len; ends = ends }) → (source : Bytes) → deskOf source r (now (desk .exit)) (now (out .exit)) ≡ emitAll (deskOf source at (now (desk .entry)) (now (out .entry))) (broken (take size (now (tail .entry))) n)) ⌝ }
+{
+    if n.shows {
+        text_body(at, desk, out, parts::from(tail, front), len, n)
     } else {
         at
     }
@@ -60,8 +80,7 @@ pub fn put_unbroken(s: &[u8], n: Normalized, at: usize, desk: &mut Numbers, out:
 fn put_segment(s: &[u8], at: usize, desk: &mut Numbers, out: &mut [u8]) -> usize
     ensures { λ r. ⌜ ((source : Bytes) → deskOf source r (now (desk .exit)) (now (out .exit)) ≡ emit (deskOf source at (now (desk .entry)) (now (out .entry))) (item (text (segment (now (s .entry)))))) ⌝ }
 {
-    let w = put_body::put_segment(Window { at, from: desk[0] }, out, s);
-    w.at
+    text_segment(at, desk, out, s)
 }
 
 // A break between two segments.

@@ -1,8 +1,8 @@
 -- Laws of the tape's records: each field of a node or an entry is what stands in the file.
 use mathlib.Core.Path.{_≡_, refl, sym, ap, _∙_}
 use mathlib.Core.Bool.{Bool, true, false, cond, _&&_, _||_}
-use mathlib.Core.List.{[], _++_}
-use Prim.Native.Nat.{ℕ, zero, suc, _+_, _-_, _*_, _≤_, _<_}
+use mathlib.Core.List.{[], _∷_, _++_}
+use Prim.Native.Nat.{ℕ, zero, suc, _+_, _-_, _*_, _≤_, _<_, min}
 use native.Mathlib.Nat.{mul-zero, mul-suc, add-comm}
 use native.Mathlib.Omega.{arith}
 use lib.ListN.{length, getD, take, drop, take-append-drop, length-append, length-drop, length-take, List·getD-eq-default, List·getD-append}
@@ -331,6 +331,30 @@ module _ (t : Tape) (k : ℕ) {z : Flags} (e : z .bits ≡ nodeAt t k .flags .bi
 pub text-of : (t : Tape) (k : ℕ) {m l a n : ℕ} {src r : Bytes} → m ≡ nodeAt t k .start → a ≡ m → src ≡ t .source → l ≡ nodeAt t k .len → n ≡ l → r ≡ part src a n → r ≡ textAt t k
 unfolding textAt
 text-of t k em ea es el en er = er ∙ rw (es, ea, em, en, el)
+
+pub tail-of : (t : Tape) (k : ℕ) {m a : ℕ} {src r : Bytes} → m ≡ nodeAt t k .start → a ≡ m → src ≡ t .source → r ≡ drop a src → r ≡ drop (nodeAt t k .start) (t .source)
+tail-of t k em ea es er = er ∙ rw (es, ea, em)
+
+-- the text of a node is so many of the first bytes of what stands from its span on
+pub text-front : (t : Tape) (n : ℕ) → take (length (textAt t n)) (drop (nodeAt t n .start) (t .source)) ≡ textAt t n
+unfolding textAt
+text-front t n = take-short (nodeAt t n .len) (drop (nodeAt t n .start) (t .source))
+  where
+    take-short : (m : ℕ) (s : Bytes) → take (length (take m s)) s ≡ take m s
+    take-short zero s = refl
+    take-short (suc m) [] = refl
+    take-short (suc m) (x ∷ s) = ap (λ (z : Bytes). x ∷ z) (take-short m s)
+
+module _ (t : Tape) (k : ℕ) {l n : ℕ} {r : Bytes} (er : r ≡ drop (nodeAt t k .start) (t .source)) (el : l ≡ nodeAt t k .len) (en : n ≡ l) where
+  size-is : min n (length r) ≡ length (textAt t k)
+  unfolding textAt
+  size-is = rw (en, el, er) (sym (length-take (nodeAt t k .len) (drop (nodeAt t k .start) (t .source))))
+
+  pub size-whole : n < length r → n ≡ length (textAt t k)
+  size-whole h = omega (arith, size-is)
+
+  pub size-cut : length r ≤ n → length r ≡ length (textAt t k)
+  size-cut h = omega (arith, size-is)
 
 module _ (t : Tape) (k : ℕ) {z : Kind} (ez : z .code ≡ kindAt t k) where
   pub close-of : z .code ≡ 3 → {l : ℕ} {s : Cursor} → l ≡ nodeAt t k .link → s .at ≡ l → At s ≡ matchingClose t k

@@ -422,6 +422,22 @@ impl Cursor {
         parts::part(source(file, tape), start, long(self.len(file, tape)))
     }
 
+    // The source from the node's span on.
+    pub fn tail(self, file: &[u8], tape: Sections) -> &[u8]
+        ensures { λ r. ⌜ now r ≡ drop (nodeAt (tapeIn tape (now (file .entry))) (self .at) .start) (tapeIn tape (now (file .entry)) .source) ⌝ }
+    {
+        parts::from(source(file, tape), long(self.start(file, tape)))
+    }
+
+    // How long the node's text is.
+    pub fn size(self, file: &[u8], tape: Sections) -> usize
+        ensures { λ r. ⌜ r ≡ length (textAt (tapeIn tape (now (file .entry))) (self .at)) ⌝ }
+    {
+        let left = self.tail(file, tape).len();
+        let n = long(self.len(file, tape));
+        if n < left { n } else { left }
+    }
+
     // The node that a MarkerOpen links to.
     pub fn matching_close(self, file: &[u8], tape: Sections) -> Step
         ensures { λ r. ⌜ r ≡ matchingClose (tapeIn tape (now (file .entry))) (self .at) ⌝ }

@@ -31,13 +31,14 @@ use Rattle.events.specs.Event.{Event, item, escaped}
 use Rattle.events.specs.Pairing.{State, lastEnds, paired, itemsOf, after}
 use Rattle.events.specs.Walk.{blocksE, eventsWithin, eventsOf}
 use Rattle.events.specs.Text.{anyChapter, firstState, itemsOfTape, textOf, fitting}
+use Rattle.events.specs.Profile.{Profile, rust, renderAs}
 use Rattle.events.specs.Emit.{Desk, lay, emit, emitAll, emitted, afterAll}
-use Rattle.events.proofs.Emits.{paired-emitted, emit-page, emit-state}
+use Rattle.events.proofs.Emits.{one-profile, as-append, paired-emitted, emit-page, emit-state, emit-profile}
 use Rattle.usx_state.specs.Mark.{newMarks}
 use Rattle.usx_state.specs.declared.Marks.{Marks}
-use Rattle.desk.specs.Desk.{chapterIn, verseIn, stateIn, marksOf, deskOf, putOn, ended}
+use Rattle.desk.specs.Desk.{chapterIn, verseIn, stateIn, marksOf, profileOf, deskOf, putOn, ended}
 use Rattle.desk.specs.Stroke.{opens as openStroke, key, piece, endValue, ends as endStroke, closes as closeStroke, strokesOf, strokesOfAttrs, strokesOfAttr, ink, inkAll, strokes, Drew}
-use Rattle.desk.proofs.Strokes.{drew-two}
+use Rattle.desk.proofs.Strokes.{drew-two, strokes-item}
 use Rattle.walk.specs.Asked.{wholeIn, left, Walked}
 use Rattle.walk.specs.Shows.{windowOf, showing}
 use Rattle.walk.specs.declared.Asked.{Asked}
@@ -85,9 +86,6 @@ module _ (c : Sections) (file : Bytes) (i : ℕ) where
 abbrev opens : Bytes
 opens = b "<usx version=\"3.0\">"
 
-abbrev ends′ : Bytes
-ends′ = b "</usx>"
-
 abbrev ends : Bytes
 ends = b "\n</usx>"
 
@@ -111,7 +109,7 @@ text-some t = rw (text-parts t) (omega arith)
 
 -- the desk that a walk starts with
 abbrev atFirst : Tape → ℕ → Bytes → Desk
-atFirst t from out = record { page = record { at = 0; from = from; buf = out }; state = firstState t }
+atFirst t from out = record { page = record { at = 0; from = from; buf = out }; state = firstState t; profile = rust }
 
 -- the tag around the whole text
 pub usx-opened : {at a d r : ℕ} (n n₁ n₂ n₃ : List ℕ) {out o₁ o₂ last : Bytes} → Drew at n out (openStroke 1 ∷ []) a n₁ o₁ → Drew a n₁ o₁ (key (b "version") ∷ piece false (b "3.0") ∷ endValue ∷ []) d n₂ o₂
@@ -121,31 +119,37 @@ usx-opened n n₁ n₂ n₃ e₁ e₂ e₃ = drew-two n n₁ n₃ e₁ (drew-two
 
 -- the last new line, and its end
 pub usx-closed : (w : Desk) {a r : Desk} → a ≡ emit w (item (line 0)) → r ≡ strokes a (closeStroke 1 ∷ []) → r ≡ lay w (line 0 ∷ close 1 ∷ [])
-unfolding strokes putOn emit lay itemsOf after render inkAll ink bytesOf newLine nameOf
-usx-closed w ea er = er ∙ ap (λ (z : Desk). record { page = paint (z .page) ends′; state = z .state }) ea ∙ ap (λ (p : Page). record { page = p; state = w .state }) (paint-append (w .page) (b "\n") ends′)
+unfolding strokesOf emit lay itemsOf after
+usx-closed w {a} ea er =
+    let x : Bytes = renderAs (w .profile) (line 0 ∷ []) in
+    let y : Bytes = renderAs (w .profile) (close 1 ∷ []) in
+    er ∙ strokes-item a (close 1) ∙ ap (λ (z : Desk). emit z (item (close 1))) ea
+    ∙ ap (λ (p : Page). record { page = p; state = w .state; profile = w .profile }) (paint-append (w .page) x y ∙ ap (paint (w .page)) (sym (as-append (w .profile) (line 0 ∷ []) (close 1 ∷ []))))
 
 opened-bytes : (w : Desk) → strokes w (strokesOf (start 1 (escaped (b "version") (b "3.0") ∷ []))) ≡ putOn w opens
 unfolding strokes inkAll ink strokesOf strokesOfAttrs strokesOfAttr escaped nameOf escape escapedByte
-opened-bytes w = refl
+opened-bytes w = ap (λ (p : Profile). putOn w (inkAll p (strokesOf (start 1 (escaped (b "version") (b "3.0") ∷ []))))) (one-profile (w .profile))
 
 closed-bytes : (w : Desk) → lay w (line 0 ∷ close 1 ∷ []) ≡ putOn w ends
-unfolding lay putOn render bytesOf newLine nameOf
-closed-bytes w = refl
+unfolding lay putOn renderAs render bytesOf newLine nameOf
+closed-bytes w = ap (λ (p : Profile). putOn w (renderAs p (line 0 ∷ close 1 ∷ []))) (one-profile (w .profile))
 
 -- what the parts leave, one behind the other
 parts-page : (t : Tape) (from : ℕ) (out : Bytes) (a d e z : Desk) → a ≡ putOn (atFirst t from out) opens → d ≡ emitAll a (eventsOf t) → e ≡ ended d → z ≡ putOn e ends → z .page ≡ wholeIn t from out
-unfolding wholeIn putOn ended
+unfolding wholeIn putOn ended renderAs
 parts-page t from out a d e z ea ed ee ez =
     let p : Page = record { at = 0; from = from; buf = out } in
     let s : State = firstState t in
     let es : List Event = eventsOf t in
     let page-a : a .page ≡ paint p opens = ap (λ (x : Desk). x .page) ea in
     let state-a : a .state ≡ s = ap (λ (x : Desk). x .state) ea in
+    let profile-a : a .profile ≡ rust = ap (λ (x : Desk). x .profile) ea in
     let page-d : d .page ≡ paint (paint p opens) (render (emitted s es)) =
-    ap (λ (x : Desk). x .page) ed ∙ emit-page a es ∙ ap (λ (q : Page). paint q (render (emitted (a .state) es))) page-a ∙ ap (λ (u : State). paint (paint p opens) (render (emitted u es))) state-a in
+    ap (λ (x : Desk). x .page) ed ∙ emit-page a es ∙ ap (λ (q : Profile). paint (a .page) (renderAs q (emitted (a .state) es))) profile-a ∙ ap (λ (q : Page). paint q (render (emitted (a .state) es))) page-a ∙ ap (λ (u : State). paint (paint p opens) (render (emitted u es))) state-a in
     let state-d : d .state ≡ afterAll s es = ap (λ (x : Desk). x .state) ed ∙ emit-state a es ∙ ap (λ (u : State). afterAll u es) state-a in
+    let profile-d : d .profile ≡ rust = ap (λ (x : Desk). x .profile) ed ∙ emit-profile a es ∙ profile-a in
     let page-e : e .page ≡ paint (paint (paint p opens) (render (emitted s es))) (render (lastEnds (afterAll s es))) =
-    ap (λ (x : Desk). x .page) ee ∙ ap (λ (q : Page). paint q (render (lastEnds (d .state)))) page-d ∙ ap (λ (u : State). paint (paint (paint p opens) (render (emitted s es))) (render (lastEnds u))) state-d in
+    ap (λ (x : Desk). x .page) ee ∙ ap (λ (q : Profile). paint (d .page) (renderAs q (lastEnds (d .state)))) profile-d ∙ ap (λ (q : Page). paint q (render (lastEnds (d .state)))) page-d ∙ ap (λ (u : State). paint (paint (paint p opens) (render (emitted s es))) (render (lastEnds u))) state-d in
     ap (λ (x : Desk). x .page) ez
     ∙ ap (λ (q : Page). paint q ends) page-e
     ∙ paint-append (paint (paint p opens) (render (emitted s es))) (render (lastEnds (afterAll s es))) ends
@@ -175,7 +179,9 @@ module _ (t : Tape) (n : List ℕ) (out : Bytes) {k : Cursor} (ek : k .at ≡ 0)
   whole-page : marksOf n ≡ newMarks (firstState t .number) → deskOf (t .source) z dz o₄ .page ≡ wholeIn t (getD n 0 0) out
   whole-page en =
       parts-page t (getD n 0 0) out (deskOf (t .source) a da o₁) (deskOf (t .source) d dd o₂) (deskOf (t .source) e de o₃) (deskOf (t .source) z dz o₄)
-      (ea .on (t .source) ∙ opened-bytes (deskOf (t .source) 0 n out) ∙ ap (λ (u : State). putOn (record { page = record { at = 0; from = getD n 0 0; buf = out }; state = u }) opens) (first-state t en))
+      (ea .on (t .source) ∙ opened-bytes (deskOf (t .source) 0 n out)
+      ∙ ap (λ (u : State). putOn (record { page = record { at = 0; from = getD n 0 0; buf = out }; state = u; profile = profileOf (getD n 14 0) }) opens) (first-state t en)
+      ∙ ap (λ (p : Profile). putOn (record { page = record { at = 0; from = getD n 0 0; buf = out }; state = firstState t; profile = p }) opens) (one-profile (profileOf (getD n 14 0))))
       (ed ∙ ap (emitAll (deskOf (t .source) a da o₁)) (events-all t (es ∙ ap (firstChild t) ek)))
       ee
       (ez (t .source) ∙ closed-bytes (deskOf (t .source) e de o₃))

@@ -6,7 +6,7 @@ use Prim.Native.Nat.{ℕ, zero, suc, _+_, _-_, _≤_, _<_, max}
 use native.Mathlib.Nat.{add-zero, zero-add}
 use native.Mathlib.Omega.{arith}
 use lib.ListN.{length, getD, take, drop, length-drop, drop-of-length-le}
-use lib.Seq.{getD-drop, drop-drop}
+use lib.Seq.{take-length, drop-length, getD-drop, drop-drop}
 use lib.Dec.{eqb}
 use borrow.Author.Tests.{ne-eqb}
 use Rattle.parts.specs.Bytes.{Bytes, b, firstAt}
@@ -132,6 +132,14 @@ plain-on {attr} {s} {i} z e = omega (arith, e, ap (plainLen attr) (drop-part s i
 
 pub plain-fits : {attr : Bool} {s : Bytes} {i n : ℕ} → PlainTo attr s i → n ≡ plainLen attr (take (length s - i) (drop i s)) → i + n ≤ length s
 plain-fits {attr} {s} z e = omega (arith, plain-on z e, plain-le attr s)
+
+-- a text that is plain to its end is written as it is
+pub plain-whole : (attr : Bool) (s : Bytes) (p : Page) {q : Page} {i : ℕ} → PlainTo attr s i → i ≡ length s → q ≡ paint p s → q ≡ paint p (escape attr s)
+unfolding escape
+plain-whole attr s p {i = i} z e eq =
+    let n : plainLen attr s ≡ length s = sym (plain-end attr s i (omega arith) z) ∙ e in
+    let same : escape attr s ≡ s = escape-plain attr s ∙ rw (n, take-length, drop-length) (append-nil s) in
+    eq ∙ ap (paint p) (sym same)
 
 -- ---- a block
 

@@ -6,7 +6,7 @@ use Prim.Native.Nat.{ℕ, zero, suc, _+_, _-_, _≤_, _<_, _^_, min}
 use native.Mathlib.Nat.{zero-add, add-zero, sub-zero}
 use native.Mathlib.Omega.{arith}
 use lib.ListN.{length, take, drop, set, length-set, drop-of-length-le, length-take}
-use lib.Seq.{set-out, sets, sets-eq, take-all, take-nil}
+use lib.Seq.{set-out, sets, sets-eq, length-sets, take-all, take-nil}
 use lib.Dec.{leb}
 use borrow.Author.Tests.{leb-true, leb-false}
 use Rattle.parts.specs.Bytes.{Bytes}
@@ -122,6 +122,14 @@ over-sets buf d s = go (leb d (length buf)) refl
         let h : length buf < d = leb-false d (length buf) e in
         sets-out buf s d (omega arith) ∙ sym (over-past buf d s (omega arith))
 
+-- no run
+pub over-none : (buf : Bytes) (d : ℕ) → over buf d [] ≡ buf
+over-none buf d = sym (over-sets buf d [])
+
+-- the buffer keeps its length
+pub over-length : (buf : Bytes) (d : ℕ) (s : Bytes) → length (over buf d s) ≡ length buf
+over-length buf d s = sym (ap length (over-sets buf d s)) ∙ length-sets buf d s
+
 -- ---- the closed form
 
 -- a run from within the window on, from before it on, and one that ends before it
@@ -169,7 +177,7 @@ laid-all at from buf [] h = rw (add-zero, lay-none)
     lay-none = go (leb from at) refl
       where
         go : (t : Bool) → leb from at ≡ t → lay buf from at [] ≡ buf
-        go true e = lay-within buf from at [] (leb-true from at e) ∙ sym (over-sets buf (at - from) [])
+        go true e = lay-within buf from at [] (leb-true from at e) ∙ over-none buf (at - from)
         go false e = lay-before buf from at [] (omega (arith, leb-false from at e))
 laid-all at from buf (x ∷ s) h =
     let next : min (at + 1) (2 ^ 64 - 1) ≡ suc at = omega arith in

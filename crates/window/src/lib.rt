@@ -3,7 +3,7 @@ ghost use mathlib.Core.Path.{_≡_};
 ghost use mathlib.Core.Bool.{true, false, cond};
 ghost use mathlib.Core.List.{[], _∷_};
 ghost use Prim.Native.Nat.{_+_, _-_, _^_, _<_, min};
-ghost use lib.ListN.{drop};
+ghost use lib.ListN.{take, drop};
 ghost use Rattle.chars.specs.Escape.{special as isSpecial, escape};
 ghost use Rattle.chars.specs.Decimal.{decimal};
 ghost use Rattle.window.specs.Page.{pageOf, paint, stamp as stampOf};
@@ -103,6 +103,94 @@ pub fn put_run(w: Window, out: &mut [u8], run: &[u8]) -> Window
         return put_each(w, out, run);
     }
     lay_run(out, w.from, at, run);
+    Window {
+        at: at + n,
+        from: w.from,
+    }
+}
+
+// At most 16 bytes from a text's front over the buffer: a whole block, and what stood behind the bytes again.
+fn lay_block(out: &mut [u8], start: usize, s: &[u8], n: usize)
+    ensures { λ _. ⌜ now (out .exit) ≡ over (now (out .entry)) start (take n (now (s .entry))) ⌝ }
+{
+    if n <= 16 {
+        if 16 <= s.len() {
+            if start < out.len() {
+                if 32 <= out.len() - start {
+                    let mut fresh = [0u8; 16];
+                    let mut saved = [0u8; 16];
+                    let b = start + n;
+                    let e = b + 16;
+                    let m = start + 16;
+                    bytes::copy(&s[..16], &mut fresh);
+                    bytes::copy(&out[b..e], &mut saved);
+                    bytes::copy(&fresh, &mut out[start..m]);
+                    bytes::copy(&saved, &mut out[b..e]);
+                    return;
+                }
+            }
+        }
+    }
+    lay_over(out, start, parts::part(s, 0, n));
+}
+
+// A run over the buffer by blocks of 16, the last of which may reach back.
+fn lay_long(out: &mut [u8], start: usize, run: &[u8])
+    ensures { λ _. ⌜ now (out .exit) ≡ over (now (out .entry)) start (now (run .entry)) ⌝ }
+{
+    let n = run.len();
+    if n < 16 {
+        lay_over(out, start, run);
+        return;
+    }
+    if out.len() <= start {
+        return;
+    }
+    if out.len() - start < n {
+        lay_over(out, start, run);
+        return;
+    }
+    let mut i = 0;
+    while 16 <= n - i {
+        let e = i + 16;
+        let b = start + i;
+        let m = b + 16;
+        let mut fresh = [0u8; 16];
+        bytes::copy(&run[i..e], &mut fresh);
+        bytes::copy(&fresh, &mut out[b..m]);
+        i = e;
+    }
+    let q = n - 16;
+    let b = start + q;
+    let m = b + 16;
+    let mut last = [0u8; 16];
+    bytes::copy(&run[q..n], &mut last);
+    bytes::copy(&last, &mut out[b..m]);
+}
+
+// A text's first bytes over the buffer, by blocks of 16.
+fn lay_front(out: &mut [u8], start: usize, s: &[u8], n: usize)
+    ensures { λ _. ⌜ now (out .exit) ≡ over (now (out .entry)) start (take n (now (s .entry))) ⌝ }
+{
+    if out.len() <= start {
+        return;
+    }
+    if n <= 16 {
+        lay_block(out, start, s, n);
+    } else {
+        lay_long(out, start, parts::part(s, 0, n));
+    }
+}
+
+// The first bytes of a text, by blocks of 16.
+pub fn put_front(w: Window, out: &mut [u8], s: &[u8], n: usize) -> Window
+    ensures { λ r. ⌜ pageOf r (now (out .exit)) ≡ paint (pageOf w (now (out .entry))) (take n (now (s .entry))) ⌝ }
+{
+    let at = w.at;
+    if (usize::MAX - at < n) | ((s.len() < n) | (at < w.from)) {
+        return put_run(w, out, parts::part(s, 0, n));
+    }
+    lay_front(out, at - w.from, s, n);
     Window {
         at: at + n,
         from: w.from,
@@ -245,8 +333,8 @@ fn put_escape(w: Window, out: &mut [u8], x: u8) -> Window
     put_run(w, out, &names[a..e])
 }
 
-// A text with its escapes; in an attribute's value the double quote too.
-pub fn escape_xml_with(w: Window, out: &mut [u8], s: &[u8], attr: bool) -> Window
+// A text with its escapes, run by run.
+fn escape_runs(w: Window, out: &mut [u8], s: &[u8], attr: bool) -> Window
     ensures { λ r. ⌜ pageOf r (now (out .exit)) ≡ paint (pageOf w (now (out .entry))) (escape attr (now (s .entry))) ⌝ }
 {
     let mut v = w;
@@ -261,6 +349,18 @@ pub fn escape_xml_with(w: Window, out: &mut [u8], s: &[u8], attr: bool) -> Windo
         start = i + 1;
     }
     v
+}
+
+// A text with its escapes; in an attribute's value the double quote too. Most short texts have none and are one run.
+pub fn escape_xml_with(w: Window, out: &mut [u8], s: &[u8], attr: bool) -> Window
+    ensures { λ r. ⌜ pageOf r (now (out .exit)) ≡ paint (pageOf w (now (out .entry))) (escape attr (now (s .entry))) ⌝ }
+{
+    if s.len() < 8 {
+        if plain_few(s, attr) == s.len() {
+            return put_run(w, out, s);
+        }
+    }
+    escape_runs(w, out, s, attr)
 }
 
 pub fn escape_xml(w: Window, out: &mut [u8], s: &[u8]) -> Window

@@ -12,7 +12,7 @@ use Rattle.parts.specs.Bytes.{Bytes}
 use Rattle.parts.proofs.Laws.{and-true as both-true}
 use Rattle.chars.specs.Range.{within, inAny}
 use Rattle.chars.specs.Utf8.{cutAt, seqLen, firstChar}
-use Rattle.chars.specs.Space.{isWhite, isAsciiWhite}
+use Rattle.chars.specs.Space.{isWhite, isAsciiWhite, whiteSpace}
 use Rattle.chars.specs.declared.Char.{Char}
 use Rattle.chars.proofs.Characters.{cut-at}
 use Rattle.chars.proofs.Laws.{beyond, lies-low, lies-high, len-one, first-one}
@@ -47,11 +47,15 @@ pub front-wide : (s : Bytes) {c : Char} {t : Bool} → c ≡ firstChar s → t �
 unfolding frontOf stepOf white firstChar
 front-wide s ec et = rw (et, ec)
 
-pub front-visible : (s : Bytes) → 0 < length s → 32 < getD s 0 0 → getD s 0 0 < 128 → _≡_ {A = FirstChar} (record { width = 1; white = false }) (frontOf Unicode s)
-front-visible s some l h =
+-- a byte of ASCII is a character
+front-ascii : (s : Bytes) {t : Bool} → 0 < length s → getD s 0 0 < 128 → t ≡ isWhite (getD s 0 0) → _≡_ {A = FirstChar} (record { width = 1; white = t }) (frontOf Unicode s)
+front-ascii s some h e =
     let one : _≡_ {A = Char} (record { code = getD s 0 0; width = 1 }) (firstChar s) =
     first-one s (seqLen s) refl refl (sym (len-one s (λ e. omega arith) h)) refl in
-    front-wide s one (between-white (getD s 0 0) l (omega arith))
+    front-wide s one e
+
+pub front-visible : (s : Bytes) → 0 < length s → 32 < getD s 0 0 → getD s 0 0 < 128 → _≡_ {A = FirstChar} (record { width = 1; white = false }) (frontOf Unicode s)
+front-visible s some l h = front-ascii s some h (between-white (getD s 0 0) l (omega arith))
 
 -- ---- a visible byte
 
@@ -86,6 +90,18 @@ front-seen set s at h et e = go set
     go : (set : Set) → _≡_ {A = FirstChar} (record { width = 1; white = false }) (frontOf set (drop at s))
     go Ascii = front-one (drop at s) (λ e. omega (arith, length-drop at s)) (rw here (beyond-white (getD s at 0) l))
     go Unicode = front-visible (drop at s) (omega (arith, length-drop at s)) (rw here l) (omega (arith, here, k))
+
+-- a space is white space in each set
+pub front-space : (set : Set) (s : Bytes) (at : ℕ) → at < length s → getD s at 0 ≡ 32 → _≡_ {A = FirstChar} (record { width = 1; white = true }) (frontOf set (drop at s))
+unfolding isWhite isAsciiWhite whiteSpace inAny within
+front-space set s at h e = go set
+  where
+    here : getD (drop at s) 0 0 ≡ 32
+    here = getD-drop at s 0 0 ∙ ap (λ (i : ℕ). getD s i 0) (omega arith) ∙ e
+
+    go : (set : Set) → _≡_ {A = FirstChar} (record { width = 1; white = true }) (frontOf set (drop at s))
+    go Ascii = front-one (drop at s) (λ e. omega (arith, length-drop at s)) (ap isAsciiWhite (sym here))
+    go Unicode = front-ascii (drop at s) (omega (arith, length-drop at s)) (omega (arith, here)) (ap isWhite (sym here))
 
 pub front-far : (set : Set) (s : Bytes) (at : ℕ) {r : Bytes} {f : FirstChar} → r ≡ drop at s → f ≡ frontOf set r → f ≡ frontOf set (drop at s)
 front-far set s at er ef = ef ∙ ap (frontOf set) er
@@ -188,6 +204,14 @@ module _ (set : Set) (s : Bytes) (at : ℕ) {r : Bytes} (er : r ≡ drop at s) {
 
   pub white-turn : (end : ℕ) {n : ℕ} → not (f .white) ≡ false → solidEnd set s at end ≡ n → solidEnd set s (at + f .width) end ≡ n
   white-turn end e inv = sym (solid-step end true (not-false (f .white) e)) ∙ inv
+
+-- a visible byte goes on a word and ends white space
+module _ (set : Set) (s : Bytes) (at : ℕ) (h : at < length s) {t : Bool} (et : t ≡ visible (getD s at 0)) (e : t ≡ true) where
+  pub seen-turn : (k : Bool) {n : ℕ} → k ≡ false → at + runOf set k (drop at s) ≡ n → at + 1 + runOf set k (drop (at + 1) s) ≡ n
+  seen-turn k ek inv = run-turn set s at refl (front-seen set s at h et e) h k (rw ek) inv
+
+  pub seen-stop : (k : Bool) {n : ℕ} → k ≡ true → at + runOf set k (drop at s) ≡ n → at ≡ n
+  seen-stop k ek inv = run-stop set s at refl (front-seen set s at h et e) h k (rw ek) inv
 
 module _ (set : Set) (s : Bytes) where
   chars-past : (at : ℕ) → length s ≤ at → charsOf set (drop at s) ≡ []

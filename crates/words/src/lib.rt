@@ -69,7 +69,7 @@ fn is_visible(x: u8) -> bool
     x <= 0x7E
 }
 
-// The character at a place: most are visible ASCII, which no set has as white space.
+// The character at a place: most are visible ASCII, which no set has as white space, or a space, which each has.
 fn front_at(s: &[u8], at: usize, set: Set) -> FirstChar
     ensures { λ r. ⌜ r ≡ frontOf set (drop at (now (s .entry))) ⌝ }
 {
@@ -80,21 +80,34 @@ fn front_at(s: &[u8], at: usize, set: Set) -> FirstChar
                 white: false,
             };
         }
+        if s[at] == b' ' {
+            return FirstChar {
+                width: 1,
+                white: true,
+            };
+        }
     }
     front(parts::from(s, at), set)
 }
 
-// The bytes of the characters at the front that are white space, or that are not.
+// The bytes of the characters at the front that are white space, or that are not; visible ASCII by its byte alone.
 fn run_len(s: &[u8], set: Set, white: bool) -> usize
     ensures { λ r. ⌜ r ≡ runOf set white (now (s .entry)) ⌝ }
 {
     let mut at = 0;
     while at < s.len() {
-        let c = front_at(s, at, set);
-        if c.white != white {
-            return at;
+        if is_visible(s[at]) {
+            if white {
+                return at;
+            }
+            at += 1;
+        } else {
+            let c = front_at(s, at, set);
+            if c.white != white {
+                return at;
+            }
+            at += c.width;
         }
-        at += c.width;
     }
     at
 }

@@ -69,9 +69,6 @@ same-length-3 c = search needs
 returns-3 : tie.Need-returns-3 Inv-loop μ-loop
 returns-3 c = search along-hard
 
-element-copy-out-t30 : tie.Need-element-copy-out-t30 Inv-loop μ-loop
-element-copy-out-t30 c = search needs
-
 put-barred-requires : tie.Need-put-barred-requires Inv-loop μ-loop
 put-barred-requires c κs = search needs
 
@@ -110,7 +107,6 @@ put-from-spec =
     put-pairs-requires-2
     same-length-3
     returns-3
-    element-copy-out-t30
     put-barred-requires
     loop-less
     loop-again

@@ -2,19 +2,21 @@ use Rattle.put_texts.proofs.Written.{segment-put}
 use borrow.Author.Needs.{needs}
 use Rattle.put_texts.proofs.put_segment.Statement.{statement}
 use Rattle.put_texts.proofs.put_segment.Tie as tie
+use Rattle.put_texts.proofs.put_segment.Reads as reads
+use Rattle.put_texts.proofs.put_segment.Lts as lts
+use Rattle.desk.proofs.text_segment.Reads as text-segment-reads
 
-element-copy-out-t8 : tie.Need-element-copy-out-t8
-element-copy-out-t8 c = search needs
+-- src/lib.rt:76:5
+text-segment-requires : tie.Need-text-segment-requires
+text-segment-requires c κs = search needs
 
-put-segment-requires : tie.Need-put-segment-requires
-put-segment-requires c κs = search needs
-
+-- src/lib.rt:73:1
 same-length : tie.Need-same-length
 same-length c = search needs
 
+-- src/lib.rt:73:1
 returns : tie.Need-returns
 returns c = search segment-put
 
 pub put-segment-spec : {M : Type 1} → statement M
-put-segment-spec =
-    tie.close (tie.spec element-copy-out-t8 put-segment-requires same-length returns)
+put-segment-spec = tie.close (tie.spec text-segment-requires same-length returns)

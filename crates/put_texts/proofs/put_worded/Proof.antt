@@ -2,22 +2,25 @@ use Rattle.put_texts.proofs.Written.{unbroken-shows, unbroken-hidden}
 use borrow.Author.Needs.{needs}
 use Rattle.put_texts.proofs.put_worded.Statement.{statement}
 use Rattle.put_texts.proofs.put_worded.Tie as tie
+use Rattle.put_texts.proofs.put_worded.Reads as reads
+use Rattle.put_texts.proofs.put_worded.Lts as lts
+use Rattle.desk.proofs.text_words.Reads as text-words-reads
 
-element-copy-out-t11 : tie.Need-element-copy-out-t11
-element-copy-out-t11 c = search needs
+-- src/lib.rt:43:9
+text-words-requires : tie.Need-text-words-requires
+text-words-requires c κs = search needs
 
-put-written-requires : tie.Need-put-written-requires
-put-written-requires c κs = search needs
-
+-- src/lib.rt:39:1
 same-length : tie.Need-same-length
 same-length c = search needs
 
+-- src/lib.rt:39:1
 returns : tie.Need-returns
 returns c = search unbroken-shows
 
+-- src/lib.rt:39:1
 returns-2 : tie.Need-returns-2
 returns-2 c = search unbroken-hidden
 
 pub put-worded-spec : {M : Type 1} → statement M
-put-worded-spec =
-    tie.close (tie.spec element-copy-out-t11 put-written-requires same-length returns returns-2)
+put-worded-spec = tie.close (tie.spec text-words-requires same-length returns returns-2)

@@ -13,7 +13,7 @@ same-length : tie.Need-same-length
 same-length c = search needs
 
 returns : tie.Need-returns
-returns c = (new-length _ _ _ _ _ (c .before .before .before .before .before .new-desk .ensures .0) (c .before .before .before .before .before .new-desk .ensures .1) (c .before .before .write-on .ensures .0), new-buffer _ _ _ _ _ (c .before .before .before .before .before .new-desk .ensures .0) (c .before .before .before .before .before .new-desk .ensures .1) (c .before .before .write-on .ensures .1))
+returns c = (new-length _ _ _ _ _ (c .before .before .before .before .before .new-desk .ensures .0) (c .before .before .before .before .before .new-desk .ensures .1 .0) (c .before .before .write-on .ensures .0), new-buffer _ _ _ _ _ (c .before .before .before .before .before .new-desk .ensures .0) (c .before .before .before .before .before .new-desk .ensures .1 .0) (c .before .before .write-on .ensures .1))
 
 pub write-text-spec : {M : Type 1} → statement M
 write-text-spec = tie.close (tie.spec new-desk-requires write-on-requires same-length returns)

@@ -6,11 +6,11 @@ use Rattle.put_chapters.proofs.ident.chapter_id.Tie as tie
 piece-requires : tie.Need-piece-requires
 piece-requires c κs = search needs
 
-slice-aggregate-piece : tie.Need-slice-aggregate-piece
-slice-aggregate-piece c = search needs
+slice-aggregate-plain-piece : tie.Need-slice-aggregate-plain-piece
+slice-aggregate-plain-piece c = search needs
 
-piece-requires-2 : tie.Need-piece-requires-2
-piece-requires-2 c κs = search needs
+plain-piece-requires : tie.Need-plain-piece-requires
+plain-piece-requires c κs = search needs
 
 digits-requires : tie.Need-digits-requires
 digits-requires c κs = search needs
@@ -26,8 +26,8 @@ chapter-id-spec =
     tie.close
     (tie.spec
     piece-requires
-    slice-aggregate-piece
-    piece-requires-2
+    slice-aggregate-plain-piece
+    plain-piece-requires
     digits-requires
     same-length
     returns)

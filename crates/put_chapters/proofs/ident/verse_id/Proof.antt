@@ -6,14 +6,14 @@ use Rattle.put_chapters.proofs.ident.verse_id.Tie as tie
 chapter-id-requires : tie.Need-chapter-id-requires
 chapter-id-requires c κs = search needs
 
-slice-aggregate-piece : tie.Need-slice-aggregate-piece
-slice-aggregate-piece c = search needs
+slice-aggregate-plain-piece : tie.Need-slice-aggregate-plain-piece
+slice-aggregate-plain-piece c = search needs
+
+plain-piece-requires : tie.Need-plain-piece-requires
+plain-piece-requires c κs = search needs
 
 piece-requires : tie.Need-piece-requires
 piece-requires c κs = search needs
-
-piece-requires-2 : tie.Need-piece-requires-2
-piece-requires-2 c κs = search needs
 
 same-length : tie.Need-same-length
 same-length c = search needs
@@ -26,8 +26,8 @@ verse-id-spec =
     tie.close
     (tie.spec
     chapter-id-requires
-    slice-aggregate-piece
+    slice-aggregate-plain-piece
+    plain-piece-requires
     piece-requires
-    piece-requires-2
     same-length
     returns)

@@ -2,32 +2,33 @@ use Rattle.put_markers.proofs.Leaves.{caption-drawn}
 use borrow.Author.Needs.{needs}
 use Rattle.put_markers.proofs.leaf.put_caption.Statement.{statement}
 use Rattle.put_markers.proofs.leaf.put_caption.Tie as tie
+use Rattle.put_markers.proofs.leaf.put_caption.Reads as reads
+use Rattle.put_markers.proofs.leaf.put_caption.Lts as lts
+use Rattle.desk.proofs.close_tag.Reads as close-tag-reads
+use Rattle.desk.proofs.text_escaped.Reads as text-escaped-reads
+use Rattle.figure.proofs.field.Reads as field-reads
 
-element-copy-out-t10 : tie.Need-element-copy-out-t10
-element-copy-out-t10 c = search needs
-
+-- src/leaf.rt:91:41
 field-requires : tie.Need-field-requires
 field-requires c κs = search needs
 
-escape-xml-requires : tie.Need-escape-xml-requires
-escape-xml-requires c κs = search needs
+-- src/leaf.rt:91:9
+text-escaped-requires : tie.Need-text-escaped-requires
+text-escaped-requires c κs = search needs
 
+-- src/leaf.rt:92:5
 close-tag-requires : tie.Need-close-tag-requires
 close-tag-requires c κs = search needs
 
+-- src/leaf.rt:81:1
 same-length : tie.Need-same-length
 same-length c = search needs
 
+-- src/leaf.rt:81:1
 returns : tie.Need-returns
 returns c = search caption-drawn
 
 pub put-caption-spec : {M : Type 1} → statement M
 put-caption-spec =
     tie.close
-    (tie.spec
-    element-copy-out-t10
-    field-requires
-    escape-xml-requires
-    close-tag-requires
-    same-length
-    returns)
+    (tie.spec field-requires text-escaped-requires close-tag-requires same-length returns)
