@@ -1,4 +1,4 @@
--- Markers that hold one text alone.
+-- Chars that hold one text alone.
 use mathlib.Core.Path.{_≡_, refl, sym, ap, _∙_, subst}
 use mathlib.Core.Bool.{Bool, true, false, cond, not, _&&_, _||_, and-false}
 use mathlib.Core.List.{List, [], _∷_, _++_, append-nil}
@@ -6,7 +6,7 @@ use Prim.Native.Nat.{ℕ, zero, suc, _+_, _-_, _≤_, _<_}
 use native.Mathlib.Omega.{arith}
 use lib.ListN.{length, take, drop, length-take}
 use lib.Dec.{eqb, ltb}
-use borrow.Author.Tests.{not-true}
+use borrow.Author.Tests.{not-true, not-false}
 use Rattle.parts.specs.Bytes.{Bytes}
 use Rattle.texts.specs.Text.{normalizeText}
 use Rattle.texts.specs.declared.Normalized.{Normalized}
@@ -21,14 +21,19 @@ use Rattle.tape.proofs.Laws.{text-front}
 use Rattle.tape.proofs.Walk.{walk-at, walk-end, children-walk}
 use Rattle.render.specs.Follow.{inlineFollows, followed}
 use Rattle.events.specs.Event.{Event}
-use Rattle.events.specs.Walk.{words, passed, childOf, inlineTurn, inlineOn, inlineAll, normalized, broken, Role, roleOf, nodeIn, markerAs, inside}
+use Rattle.events.specs.Walk.{words, passed, childOf, inlineTurn, inlineOn, inlineAll, normalized, broken, Manner, asInline, char, roleOf, nodeIn, markerAs, inside}
 use Rattle.events.specs.Emit.{Desk, emitAll}
+use Rattle.events.proofs.Emits.{emit-append}
 use Rattle.events.proofs.Turns.{inline-none, inline-turn}
 use Rattle.desk.specs.Desk.{deskOf}
-use Rattle.roles.specs.Roles.{isWhole, mannerOf, mannerBy}
+use Rattle.roles.specs.Roles.{roleIn, isWhole, mannerOf}
+use Rattle.roles.specs.declared.Role.{Role as Code}
+use Rattle.roles.specs.declared.Role.the-variants.{Char}
 use Rattle.put_markers.specs.Marker.{markerOpens, markerCloses}
-use Rattle.inline.specs.Lone.{WritesNothing, OnlyText, OnlyAt, soleFrame, tailAt, LoneText, LoneAt}
-use Rattle.inline.proofs.Steps.{marker-whole}
+use Rattle.put_markers.proofs.Splits.{marker-split}
+use Rattle.inline.specs.Lone.{WritesNothing, OnlyText, OnlyAt, soleFrame, tailAt, PutAs}
+use Rattle.inline.specs.declared.lone.Put.{Put}
+use Rattle.inline.specs.declared.lone.Put.the-variants.{Nothing, Written}
 
 -- ---- a text alone
 
@@ -107,21 +112,35 @@ sole-frame : (s : Bytes) (size : ℕ) → whiteBack s (whiteFront s size) size �
 unfolding frameOf
 sole-frame s size e = let m : size - whiteFront s size - 0 ≡ size - whiteFront s size = omega arith in rw (e, m)
 
+-- what stands inside a node that is walked and holds such a text
+inside-alone : (t : Tape) (n d : ℕ) (outer : Bool) (k : Cursor) → (d ≡ 0 → ⊥) → OnlyText t n k
+    → Framed (tailAt t (k .at)) (length (textAt t (k .at))) (soleFrame (tailAt t (k .at)) (length (textAt t (k .at))))
+    → inside t d asInline n outer ≡ broken (textAt t (k .at)) (framedText (soleFrame (tailAt t (k .at)) (length (textAt t (k .at)))) false false)
+unfolding inside
+inside-alone t n zero outer k h o f = absurd (h refl)
+inside-alone t n (suc d) outer k h o f = text-alone t n k o (nodeIn (inside t d) t) (followed t n outer) ∙ ap (broken (textAt t (k .at))) (sole-text t (k .at) (followed t n outer) f)
+
+char-whole : (node : Manner → ℕ → Bool → List Event) (t : Tape) (n : ℕ) (outer : Bool) → markerAs node t n outer char ≡ markerOpens t n char ++ (node asInline n outer ++ markerCloses t n char)
+unfolding isWhole mannerOf
+char-whole node t n outer = marker-split node t n outer char
+
 module _ (t : Tape) (n : ℕ) {s : Step} (os : OnlyAt t n s) {k : Cursor} (ek : s ≡ At k) where
   only : OnlyText t n k
   only = subst (OnlyAt t n) ek os
 
-  pub lone-found : (depth : ℕ) {note : Bool} → (depth ≡ 0 → ⊥) → note ≡ false → {tail : Bytes} {size front back : ℕ} {r : Bool} → tail ≡ tailAt t (k .at) → size ≡ length (textAt t (k .at)) → front ≡ whiteFront tail size
+  pub lone-written : (depth : ℕ) → (depth ≡ 0 → ⊥) → {tail : Bytes} {size front back : ℕ} {r : Bool} → tail ≡ tailAt t (k .at) → size ≡ length (textAt t (k .at)) → front ≡ whiteFront tail size
       → back ≡ whiteBack tail front size → back ≤ 0
-      → (front ≡ frameOf tail size .front → size - front ≡ frameOf tail size .len → r ≡ true → size ≤ length tail → Framed tail size (frameOf tail size)) → r ≡ true
-      → LoneText t n depth note k
-  lone-found depth hd hn {tail} {size} {front} {back} et es ef eb hb e h =
-      record {
-        deep = hd;
-        list = hn;
-        framed = framed;
-        alone = λ node behind. text-alone t n k only node behind ∙ ap (broken (textAt t (k .at))) (sole-text t (k .at) behind framed);
-      }
+      → (front ≡ frameOf tail size .front → size - front ≡ frameOf tail size .len → r ≡ true → size ≤ length tail → Framed tail size (frameOf tail size)) → not r ≡ false
+      → {x : Normalized} → x ≡ framedText (record { front = front; len = size - front; ends = false }) false false
+      → (w : Desk) {z : Desk}
+      → ((size′ : ℕ) (ends : Bool) → Framed tail size′ (record { front = front; len = size - front; ends = ends }) → z ≡ emitAll w (markerOpens t n char ++ (broken (take size′ tail) x ++ markerCloses t n char)))
+      → (outer : Bool) → char ≡ roleOf t n → z ≡ emitAll w (markerAs (inside t depth) t n outer (roleOf t n))
+  lone-written depth hd {tail} {size} {front} {back} {r} et es ef eb hb e h {x} ex w ez outer er =
+      ez size false told
+      ∙ ap (emitAll w)
+      (ap (λ (mid : List Event). markerOpens t n char ++ (mid ++ markerCloses t n char)) (written ∙ sym (inside-alone t n depth outer k hd only framed))
+      ∙ sym (char-whole (inside t depth) t n outer)
+      ∙ ap (markerAs (inside t depth) t n outer) er)
     where
       none : whiteBack tail (whiteFront tail size) size ≡ 0
       none = let b : back ≡ 0 = omega arith in sym (eb ∙ ap (λ (i : ℕ). whiteBack tail i size) ef) ∙ b
@@ -132,43 +151,53 @@ module _ (t : Tape) (n : ℕ) {s : Step} (os : OnlyAt t n s) {k : Cursor} (ek : 
       sole : frameOf tail size ≡ soleFrame tail size
       sole = sole-frame tail size none
 
-      told : Framed tail size (soleFrame tail size)
-      told =
+      here : Framed tail size (soleFrame tail size)
+      here =
           subst (Framed tail size) sole
-          (e (ef ∙ sym (ap (λ (f : Frame). f .front) sole)) (ap (λ (i : ℕ). size - i) ef ∙ sym (ap (λ (f : Frame). f .len) sole)) h (omega (arith, length-take size tail, ap length same, es)))
+          (e (ef ∙ sym (ap (λ (f : Frame). f .front) sole)) (ap (λ (i : ℕ). size - i) ef ∙ sym (ap (λ (f : Frame). f .len) sole)) (not-false r h) (omega (arith, length-take size tail, ap length same, es)))
 
       framed : Framed (tailAt t (k .at)) (length (textAt t (k .at))) (soleFrame (tailAt t (k .at)) (length (textAt t (k .at))))
-      framed = subst (λ (m : ℕ). Framed (tailAt t (k .at)) m (soleFrame (tailAt t (k .at)) m)) es (subst (λ (z : Bytes). Framed z size (soleFrame z size)) et told)
+      framed = subst (λ (m : ℕ). Framed (tailAt t (k .at)) m (soleFrame (tailAt t (k .at)) m)) es (subst (λ (z : Bytes). Framed z size (soleFrame z size)) et here)
 
-inside-lone : (t : Tape) (n d : ℕ) (outer note : Bool) (k : Cursor) → LoneText t n d note k
-    → inside t d (mannerBy note) n outer ≡ broken (textAt t (k .at)) (framedText (soleFrame (tailAt t (k .at)) (length (textAt t (k .at)))) false false)
-unfolding inside mannerBy
-inside-lone t n zero outer note k l = absurd (l .deep refl)
-inside-lone t n (suc d) outer true k l = absurd (let e : _≡_ {A = Bool} true false = l .list in let no-way : _≡_ {A = ℕ} 0 1 = cc in omega arith)
-inside-lone t n (suc d) outer false k l = l .alone (nodeIn (inside t d) t) (followed t n outer)
-
-module _ (t : Tape) (n : ℕ) (k : Cursor) (s : Desk) {role′ : Role} {tail : Bytes} {size front : ℕ} (et : tail ≡ tailAt t (k .at)) (es : size ≡ length (textAt t (k .at))) (ef : front ≡ whiteFront tail size)
-    {x : Normalized} (ex : x ≡ framedText (record { front = front; len = size - front; ends = false }) false false) where
-  pub lone-marked : (ca : ℕ) (da : List ℕ) (oa : Bytes) → deskOf (t .source) ca da oa ≡ emitAll s (markerOpens t n role′)
-      → (cz : ℕ) (dz : List ℕ) (oz : Bytes)
-      → ((size′ : ℕ) (ends : Bool) → Framed tail size′ (record { front = front; len = size - front; ends = ends }) → (source : Bytes) → deskOf source cz dz oz ≡ emitAll (deskOf source ca da oa) (broken (take size′ tail) x))
-      → {r : Desk} → r ≡ emitAll (deskOf (t .source) cz dz oz) (markerCloses t n role′)
-      → (d : ℕ) (outer note : Bool) → LoneText t n d note k → role′ ≡ roleOf t n → isWhole t n role′ ≡ true → mannerOf role′ ≡ mannerBy note
-      → r ≡ emitAll s (markerAs (inside t d) t n outer (roleOf t n))
-  lone-marked ca da oa ea cz dz oz ez er d outer note l eo ew em =
-      marker-whole t d n outer s eo refl ew note ea em (ez size false told (t .source) ∙ ap (emitAll (deskOf (t .source) ca da oa)) (written ∙ sym (inside-lone t n d outer note k l))) er
-    where
       told : Framed tail size (record { front = front; len = size - front; ends = false })
-      told =
-          subst (λ (i : ℕ). Framed tail size (record { front = i; len = size - i; ends = false })) (sym ef)
-          (subst (λ (z : Bytes). Framed z size (soleFrame z size)) (sym et) (subst (λ (m : ℕ). Framed (tailAt t (k .at)) m (soleFrame (tailAt t (k .at)) m)) (sym es) (l .framed)))
+      told = subst (λ (i : ℕ). Framed tail size (record { front = i; len = size - i; ends = false })) (sym ef) here
 
       written : broken (take size tail) x ≡ broken (textAt t (k .at)) (framedText (soleFrame (tailAt t (k .at)) (length (textAt t (k .at)))) false false)
       written =
-          ap (λ (z : Bytes). broken z x) (rw (et, es) (text-front t (k .at)))
+          ap (λ (z : Bytes). broken z x) same
           ∙ ap (broken (textAt t (k .at))) (ex ∙ ap (λ (i : ℕ). framedText (record { front = i; len = size - i; ends = false }) false false) ef
           ∙ ap (λ (z : Bytes). framedText (soleFrame z size) false false) et ∙ ap (λ (m : ℕ). framedText (soleFrame (tailAt t (k .at)) m) false false) es)
 
--- a step that was found to lead to such a text leads to it
-pub lone-at : (t : Tape) (n depth : ℕ) (note : Bool) {s : Step} {k : Cursor} → LoneAt t n depth note s → s ≡ At k → LoneText t n depth note k
-lone-at t n depth note l e = subst (LoneAt t n depth note) e l
+-- a char around a text: what opens it, the text, what closes it
+module _ (t : Tape) (n : ℕ) (w : Desk) where
+  pub char-put : {tail : Bytes} (front len : ℕ) (x : Normalized) (ca : ℕ) (da : List ℕ) (oa : Bytes) → deskOf (t .source) ca da oa ≡ emitAll w (markerOpens t n char)
+      → (cz : ℕ) (dz : List ℕ) (oz : Bytes)
+      → ((size : ℕ) (ends : Bool) → Framed tail size (record { front = front; len = len; ends = ends }) → (source : Bytes) → deskOf source cz dz oz ≡ emitAll (deskOf source ca da oa) (broken (take size tail) x))
+      → {r : Desk} → r ≡ emitAll (deskOf (t .source) cz dz oz) (markerCloses t n char)
+      → (size : ℕ) (ends : Bool) → Framed tail size (record { front = front; len = len; ends = ends }) → r ≡ emitAll w (markerOpens t n char ++ (broken (take size tail) x ++ markerCloses t n char))
+  char-put {tail} front len x ca da oa ea cz dz oz ez er size ends f =
+      let mid : List Event = broken (take size tail) x in
+      er
+      ∙ ap (λ (y : Desk). emitAll y (markerCloses t n char)) (ez size ends f (t .source) ∙ ap (λ (y : Desk). emitAll y mid) ea)
+      ∙ sym (emit-append (emitAll w (markerOpens t n char)) mid (markerCloses t n char))
+      ∙ sym (emit-append w (markerOpens t n char) (mid ++ markerCloses t n char))
+
+-- by the role
+module _ (t : Tape) (n depth : ℕ) (at : ℕ) (d : List ℕ) (out : Bytes) where
+  pub role-char : {code : Code} → code ≡ Char → (last-d : List ℕ) (last : Bytes) (r : Put)
+      → ((outer : Bool) → char ≡ roleOf t n → PutAs (t .source) at d out (markerAs (inside t depth) t n outer (roleOf t n)) last-d last r)
+      → (outer : Bool) → roleIn code ≡ roleOf t n → PutAs (t .source) at d out (markerAs (inside t depth) t n outer (roleOf t n)) last-d last r
+  unfolding roleIn
+  role-char e last-d last r f outer er = f outer (sym (ap roleIn e) ∙ er)
+
+-- what was written, and what was not
+module _ (source : Bytes) (at : ℕ) (d : List ℕ) (out : Bytes) (es : List Event) (last-d : List ℕ) (last : Bytes) {r : Put} (p : PutAs source at d out es last-d last r) where
+  pub put-written : {z : ℕ} → r ≡ Written z → deskOf source z last-d last ≡ emitAll (deskOf source at d out) es
+  put-written e = subst (PutAs source at d out es last-d last) e p
+
+  pub put-nothing : r ≡ Nothing → deskOf source at last-d last ≡ deskOf source at d out
+  put-nothing e = subst (PutAs source at d out es last-d last) e p
+
+-- events from a desk that is as another was
+pub from-same : {a w r : Desk} (es : List Event) → r ≡ emitAll a es → a ≡ w → r ≡ emitAll w es
+from-same es e h = e ∙ ap (λ (x : Desk). emitAll x es) h

@@ -1,19 +1,23 @@
--- Markers that hold one text alone.
+-- Chars that hold one text alone.
 use mathlib.Core.Path.{_≡_}
-use mathlib.Core.Bool.{Bool, true, false}
+use mathlib.Core.Bool.{Bool, false}
 use mathlib.Core.List.{List, []}
 use Prim.Native.Nat.{ℕ, _-_}
-use lib.ListN.{length, drop}
+use lib.ListN.{drop}
 use Rattle.parts.specs.Bytes.{Bytes}
-use Rattle.put_body.specs.Frame.{Frame, whiteFront, framedText, Framed}
-use Rattle.tape.specs.File.{Tape, nodeAt, kindAt, textAt}
-use Rattle.tape.specs.Tree.{nextSibling, firstChild, children, walkFrom}
+use Rattle.put_body.specs.Frame.{Frame, whiteFront}
+use Rattle.tape.specs.File.{Tape, nodeAt, kindAt}
+use Rattle.tape.specs.Tree.{nextSibling, firstChild, walkFrom}
 use Rattle.tape.specs.declared.Cursor.{Cursor}
 use Rattle.tape.specs.declared.Step.{Step}
 use Rattle.tape.specs.declared.Step.the-variants.{At, Done}
 use Rattle.tape.specs.Kind as kinds
 use Rattle.events.specs.Event.{Event}
-use Rattle.events.specs.Walk.{broken, inlineAll}
+use Rattle.events.specs.Walk.{inlineAll}
+use Rattle.events.specs.Emit.{emitAll}
+use Rattle.desk.specs.Desk.{deskOf}
+use Rattle.inline.specs.declared.lone.Put.{Put}
+use Rattle.inline.specs.declared.lone.Put.the-variants.{Nothing, Written}
 
 -- the nodes from a step on write nothing
 pub record WritesNothing (t : Tape) (s : Step) : Type 0 where
@@ -38,15 +42,7 @@ soleFrame s size = record { front = whiteFront s size; len = size - whiteFront s
 abbrev pub tailAt : Tape → ℕ → Bytes
 tailAt t k = drop (nodeAt t k .start) (t .source)
 
--- a node that is no note and is walked holds one text alone, which is told by its frame and is all that its children write
-pub record LoneText (t : Tape) (n depth : ℕ) (note : Bool) (k : Cursor) : Type 0 where
-  pub deep : depth ≡ 0 → ⊥
-  pub list : note ≡ false
-  pub framed : Framed (tailAt t (k .at)) (length (textAt t (k .at))) (soleFrame (tailAt t (k .at)) (length (textAt t (k .at))))
-  pub alone : (node : ℕ → Bool → List Event) (behind : Bool) → inlineAll node t behind true (children t n)
-      ≡ broken (textAt t (k .at)) (framedText (soleFrame (tailAt t (k .at)) (length (textAt t (k .at)))) false false)
-
--- the same of where a step leads, if it leads anywhere
-abbrev pub LoneAt : Tape → ℕ → ℕ → Bool → Step → Type 0
-LoneAt t n depth note Done = Unit {0}
-LoneAt t n depth note (At k) = LoneText t n depth note k
+-- what may have been written: nothing is changed, or the events are written up to a count
+abbrev pub PutAs : Bytes → ℕ → List ℕ → Bytes → List Event → List ℕ → Bytes → Put → Type 0
+PutAs source at d out es last-d last Nothing = deskOf source at last-d last ≡ deskOf source at d out
+PutAs source at d out es last-d last (Written z) = deskOf source z last-d last ≡ emitAll (deskOf source at d out) es

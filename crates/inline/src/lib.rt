@@ -15,8 +15,8 @@ ghost use Rattle.inline_turns.specs.declared.Behind.the-variants.{Unasked};
 
 mod lone;
 
-use crate::lone::lone_marker;
-use crate::lone::lone_of;
+use crate::lone::Put;
+use crate::lone::lone;
 use desk::Numbers;
 use inline_turns::Behind;
 use inline_turns::Sort;
@@ -47,18 +47,28 @@ fn marker(
     ensures { λ r. ⌜ deskOf (tapeIn tape (now (file .entry)) .source) r (now (desk .exit)) (now (out .exit)) ≡ emitAll (deskOf (tapeIn tape (now (file .entry)) .source) at (now (desk .entry)) (now (out .entry))) (markerAs (insideOf (tapeIn tape (now (file .entry))) depth) (tapeIn tape (now (file .entry))) (c .at) outer (roleOf (tapeIn tape (now (file .entry))) (c .at))) ⌝ }
 {
     let role = roles::role_of(file, tape, c);
-    if roles::is_whole(file, tape, c, role) {
-        let note = roles::is_note(role);
-        match lone_of(file, tape, c, depth, note) {
-            Step::At(k) => lone_marker(file, tape, solids, c, role, k, at, desk, out),
-            Step::Done => {
+    match lone(file, tape, solids, c, role, depth, at, desk, out) {
+        Put::Written(z) => z,
+        Put::Nothing => {
+            if roles::is_whole(file, tape, c, role) {
                 let a = put_markers::open_marker(file, tape, solids, c, role, at, desk, out);
-                let z = inside(file, tape, solids, c, depth, outer, note, a, desk, out);
+                let z = inside(
+                    file,
+                    tape,
+                    solids,
+                    c,
+                    depth,
+                    outer,
+                    roles::is_note(role),
+                    a,
+                    desk,
+                    out,
+                );
                 put_markers::close_marker(file, tape, solids, c, role, z, desk, out)
+            } else {
+                put_markers::write_leaf(file, tape, c, role, at, desk, out)
             }
         }
-    } else {
-        put_markers::write_leaf(file, tape, c, role, at, desk, out)
     }
 }
 

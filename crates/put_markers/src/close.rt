@@ -17,7 +17,7 @@ use tape::Cursor;
 use tape::Sections;
 
 // The end of a char, and of the `ref` around what it links.
-fn close_char(
+pub fn close_char(
     file: &[u8],
     tape: Sections,
     solids: &[u32],

@@ -183,7 +183,7 @@ fn open_link(
 }
 
 // A char, and the `ref` around what it links.
-fn open_char(
+pub fn open_char(
     file: &[u8],
     tape: Sections,
     solids: &[u32],

@@ -1,5 +1,6 @@
 use borrow.Author.Needs.{needs}
-use mathlib.Core.Path.{_≡_, refl, sym, _∙_}
+use mathlib.Core.Path.{_≡_, refl}
+use mathlib.Core.Bool.{true}
 use Prim.Native.Nat.{ℕ, _<_, _+_, _*_}
 use lib.ListN.{length}
 use Rattle.tape.specs.File.{tapeIn}
@@ -11,7 +12,7 @@ use Rattle.events.specs.Emit.{emitAll}
 use Rattle.desk.specs.Desk.{deskOf}
 use Rattle.inline_turns.specs.Turn.{KeptAt, behindOf}
 use Rattle.inline.proofs.Steps.{marker-whole, marker-leaf, node-chapter, node-verse, node-marker, node-other, inside-zero, inside-inline, inside-note, inline-done, inline-ended, inline-entered, inline-plain, note-done, note-ended, note-entered, note-plain, kept-plain}
-use Rattle.inline.proofs.Alone.{lone-at}
+use Rattle.inline.proofs.Alone.{put-written, put-nothing, from-same}
 use Rattle.inline_turns.proofs.Laws.{kept-here}
 use borrow.Fn.Kinds.{In}
 use borrow.Fn.PlainCycle.{Measures, is, falls, and}
@@ -30,8 +31,7 @@ use Rattle.inline.proofs.+inline+inside+marker+node+note_inline.Lts-nod
 use Rattle.inline.proofs.note_inline.Reads as note-inline
 use Rattle.inline.proofs.note_inline.Kinds as note-inline-kinds
 use Rattle.inline.proofs.+inline+inside+marker+node+note_inline.Lts-note_inline as note-inline-lts
-use Rattle.inline.proofs.lone.lone_of.Reads as lone-of-reads
-use Rattle.inline.proofs.lone.lone_marker.Reads as lone-marker-reads
+use Rattle.inline.proofs.lone.lone.Reads as lone-reads
 use Rattle.put_chapters.proofs.chapter.Reads as chapter-reads
 use Rattle.put_chapters.proofs.verse.Reads as verse-reads
 use Rattle.render.proofs.trims_after.Reads as trims-after-reads
@@ -106,7 +106,7 @@ abbrev inside-calls : ℕ → inside-lts.Claims
 inside-calls t = (first-child-reads.Asked, first-child-reads.Learnt, note-inline-below t, note-inline.Post, inline-below t, inline.Post)
 
 abbrev marker-calls : ℕ → marker-lts.Claims
-marker-calls t = (role-of-reads.Asked, role-of-reads.Learnt, is-whole-reads.Asked, is-whole-reads.Learnt, is-note-reads.Asked, is-note-reads.Learnt, lone-of-reads.Asked, lone-of-reads.Learnt, lone-marker-reads.Asked, lone-marker-reads.Learnt, open-marker-reads.Asked, open-marker-reads.Learnt, inside-below t, inside.Post, close-marker-reads.Asked, close-marker-reads.Learnt, write-leaf-reads.Asked, write-leaf-reads.Learnt)
+marker-calls t = (role-of-reads.Asked, role-of-reads.Learnt, lone-reads.Asked, lone-reads.Learnt, is-whole-reads.Asked, is-whole-reads.Learnt, open-marker-reads.Asked, open-marker-reads.Learnt, is-note-reads.Asked, is-note-reads.Learnt, inside-below t, inside.Post, close-marker-reads.Asked, close-marker-reads.Learnt, write-leaf-reads.Asked, write-leaf-reads.Learnt)
 
 abbrev node-calls : ℕ → node-lts.Claims
 node-calls t = (kind-reads.Asked, kind-reads.Learnt, number-reads.Asked, number-reads.Learnt, chapter-reads.Asked, chapter-reads.Learnt, verse-reads.Asked, verse-reads.Learnt, marker-below t, marker.Post)
@@ -222,53 +222,50 @@ inside-returns-3 t c = search inside-inline
 marker-role-of-requires : (t : ℕ) → marker-lts.Need-role-of-requires (marker-calls t) (marker-at t) marker.Post
 marker-role-of-requires t c κs = search needs
 
-marker-is-whole-requires : (t : ℕ) → marker-lts.Need-is-whole-requires (marker-calls t) (marker-at t) marker.Post
-marker-is-whole-requires t c κs = search needs
+marker-lone-requires : (t : ℕ) → marker-lts.Need-lone-requires (marker-calls t) (marker-at t) marker.Post
+marker-lone-requires t c κs = search needs
 
-marker-is-note-requires : (t : ℕ) → marker-lts.Need-is-note-requires (marker-calls t) (marker-at t) marker.Post
-marker-is-note-requires t c κs = search needs
-
-marker-lone-of-requires : (t : ℕ) → marker-lts.Need-lone-of-requires (marker-calls t) (marker-at t) marker.Post
-marker-lone-of-requires t c κs = search needs
+marker-enum-known-z : (t : ℕ) → marker-lts.Need-enum-known-z (marker-calls t) (marker-at t) marker.Post
+marker-enum-known-z t c = search needs
 
 marker-enum-told : (t : ℕ) → marker-lts.Need-enum-told (marker-calls t) (marker-at t) marker.Post
 marker-enum-told t c = search needs
 
-marker-enum-known-k : (t : ℕ) → marker-lts.Need-enum-known-k (marker-calls t) (marker-at t) marker.Post
-marker-enum-known-k t c = search needs
-
-marker-lone-marker-requires : (t : ℕ) → marker-lts.Need-lone-marker-requires (marker-calls t) (marker-at t) marker.Post
-marker-lone-marker-requires t c κs = search needs
-
-marker-same-length : (t : ℕ) → marker-lts.Need-same-length (marker-calls t) (marker-at t) marker.Post
-marker-same-length t c = search needs
-
-marker-returns : (t : ℕ) → marker-lts.Need-returns (marker-calls t) (marker-at t) marker.Post
-marker-returns t c = c .before .before .lone-marker .ensures _ _ _ (lone-at _ _ _ _ {s = c .before .before .before .before .before .before .before .before .lone-of .result} (c .before .before .before .before .before .before .before .before .lone-of .ensures) (search needs)) (c .before .before .before .before .before .before .before .before .before .before .before .before .role-of .ensures) (sym (c .before .before .before .before .before .before .before .before .before .before .before .is-whole .ensures) ∙ c .before .before .before .before .before .before .before .before .before .before .if1 .taken) (c .before .before .before .before .before .before .before .before .before .is-note .ensures)
+marker-is-whole-requires : (t : ℕ) → marker-lts.Need-is-whole-requires (marker-calls t) (marker-at t) marker.Post
+marker-is-whole-requires t c κs = search needs
 
 marker-open-marker-requires : (t : ℕ) → marker-lts.Need-open-marker-requires (marker-calls t) (marker-at t) marker.Post
 marker-open-marker-requires t c κs = search needs
+
+marker-is-note-requires : (t : ℕ) → marker-lts.Need-is-note-requires (marker-calls t) (marker-at t) marker.Post
+marker-is-note-requires t c κs = search needs
 
 marker-inside-requires : (t : ℕ) → marker-lts.Need-inside-requires (marker-calls t) (marker-at t) marker.Post
 marker-inside-requires t c κs = search needs
 
 marker-close-marker-requires : (t : ℕ) → marker-lts.Need-close-marker-requires (marker-calls t) (marker-at t) marker.Post
-marker-close-marker-requires t c κs = c .before .before .before .before .before .before .before .before .before .before .before .before .before .before .before .before .before .before .before .before .before .before .pre .1
+marker-close-marker-requires t c κs = c .before .before .before .before .before .before .before .before .before .before .before .before .before .before .before .before .before .before .before .before .before .before .before .before .before .before .pre .1
+
+marker-write-leaf-requires : (t : ℕ) → marker-lts.Need-write-leaf-requires (marker-calls t) (marker-at t) marker.Post
+marker-write-leaf-requires t c κs = search needs
+
+marker-same-length : (t : ℕ) → marker-lts.Need-same-length (marker-calls t) (marker-at t) marker.Post
+marker-same-length t c = search needs
+
+marker-returns : (t : ℕ) → marker-lts.Need-returns (marker-calls t) (marker-at t) marker.Post
+marker-returns t c = put-written _ _ _ _ _ _ _ {r = c .before .before .before .before .before .lone .result} (c .before .before .before .before .before .lone .ensures _ (c .before .before .before .before .before .before .before .before .role-of .ensures)) (search needs)
 
 marker-same-length-2 : (t : ℕ) → marker-lts.Need-same-length-2 (marker-calls t) (marker-at t) marker.Post
 marker-same-length-2 t c = search needs
 
 marker-returns-2 : (t : ℕ) → marker-lts.Need-returns-2 (marker-calls t) (marker-at t) marker.Post
-marker-returns-2 t c = marker-whole _ _ _ _ _ (c .before .before .before .before .before .before .before .before .before .before .before .before .before .before .before .before .before .before .before .before .before .role-of .ensures) (c .before .before .before .before .before .before .before .before .before .before .before .before .before .before .before .before .before .before .before .before .is-whole .ensures) (c .before .before .before .before .before .before .before .before .before .before .before .before .before .before .before .before .before .before .before .if1 .taken) _ (c .before .before .before .before .before .before .before .before .before .before .before .before .open-marker .ensures) (c .before .before .before .before .before .before .before .before .before .before .before .before .before .before .before .before .before .before .is-note .ensures) (c .before .before .before .before .before .before .before .inside .ensures) (c .before .before .close-marker .ensures)
-
-marker-write-leaf-requires : (t : ℕ) → marker-lts.Need-write-leaf-requires (marker-calls t) (marker-at t) marker.Post
-marker-write-leaf-requires t c κs = search needs
+marker-returns-2 t c = from-same _ (marker-whole _ _ _ _ _ (c .before .before .before .before .before .before .before .before .before .before .before .before .before .before .before .before .before .before .before .before .before .before .before .before .before .role-of .ensures) (c .before .before .before .before .before .before .before .before .before .before .before .before .before .before .before .before .before .is-whole .ensures) (c .before .before .before .before .before .before .before .before .before .before .before .before .before .before .before .before .if1 .taken) _ (c .before .before .before .before .before .before .before .before .before .before .before .before .before .open-marker .ensures) (c .before .before .before .before .before .before .before .before .before .before .is-note .ensures) (c .before .before .before .before .before .before .before .inside .ensures) (c .before .before .close-marker .ensures)) (put-nothing _ _ _ _ _ _ _ {r = c .before .before .before .before .before .before .before .before .before .before .before .before .before .before .before .before .before .before .before .before .before .before .lone .result} (c .before .before .before .before .before .before .before .before .before .before .before .before .before .before .before .before .before .before .before .before .before .before .lone .ensures true (c .before .before .before .before .before .before .before .before .before .before .before .before .before .before .before .before .before .before .before .before .before .before .before .before .before .role-of .ensures)) (search needs))
 
 marker-same-length-3 : (t : ℕ) → marker-lts.Need-same-length-3 (marker-calls t) (marker-at t) marker.Post
 marker-same-length-3 t c = search needs
 
 marker-returns-3 : (t : ℕ) → marker-lts.Need-returns-3 (marker-calls t) (marker-at t) marker.Post
-marker-returns-3 t c = search marker-leaf
+marker-returns-3 t c = from-same _ (marker-leaf _ _ _ _ _ (c .before .before .before .before .before .before .before .before .before .before .before .before .before .before .role-of .ensures) (c .before .before .before .before .before .before .is-whole .ensures) (c .before .before .before .before .before .if1 .left) (c .before .before .write-leaf .ensures)) (put-nothing _ _ _ _ _ _ _ {r = c .before .before .before .before .before .before .before .before .before .before .before .lone .result} (c .before .before .before .before .before .before .before .before .before .before .before .lone .ensures true (c .before .before .before .before .before .before .before .before .before .before .before .before .before .before .role-of .ensures)) (search needs))
 
 -- ---- node
 
@@ -387,7 +384,7 @@ pub +inline+inside+marker+node+note-inline-spec : {M : Type 1} → statement M
     (λ t. inside-lts.spec (inside-calls t) (inside-at t) inside.Post
     (inside-returns t) (inside-first-child-requires t) (inside-sub-note-inline t) (inside-note-inline-requires t) (inside-sub-inline t) (inside-inline-requires t) (inside-same-length t) (inside-returns-2 t) (inside-same-length-2 t) (inside-returns-3 t))
     (λ t. marker-lts.spec (marker-calls t) (marker-at t) marker.Post
-    (marker-role-of-requires t) (marker-is-whole-requires t) (marker-is-note-requires t) (marker-lone-of-requires t) (marker-enum-known-k t) (marker-lone-marker-requires t) (marker-enum-told t) (marker-open-marker-requires t) (marker-inside-requires t) (marker-close-marker-requires t) (marker-write-leaf-requires t) (marker-same-length t) (marker-returns t) (marker-same-length-2 t) (marker-returns-2 t) (marker-same-length-3 t) (marker-returns-3 t))
+    (marker-role-of-requires t) (marker-lone-requires t) (marker-enum-known-z t) (marker-enum-told t) (marker-is-whole-requires t) (marker-open-marker-requires t) (marker-is-note-requires t) (marker-inside-requires t) (marker-close-marker-requires t) (marker-write-leaf-requires t) (marker-same-length t) (marker-returns t) (marker-same-length-2 t) (marker-returns-2 t) (marker-same-length-3 t) (marker-returns-3 t))
     (λ t. node-lts.spec (node-calls t) (node-at t) node.Post
     (node-kind-requires t) (node-number-requires t) (node-chapter-requires t) (node-same-length t) (node-returns t) (node-verse-requires t) (node-same-length-2 t) (node-returns-2 t) (node-marker-requires t) (node-same-length-3 t) (node-returns-3 t) (node-returns-4 t))
     (λ t. note-inline-lts.spec (note-inline-calls t) (note-inline-at t) note-inline.Post note-inline-Inv-loop note-inline-μ-loop
