@@ -76,40 +76,6 @@ module _ (t : Tape) (k : ℕ) {text : Bytes} (et : text ≡ stepText t (firstTex
       rw (← et, unless-some s (joined-some text (sym ex ∙ h))) (drew-attr d d₁ d₂ last-d (b "alt") false s e₁ e₂ e₃)
 
 module _ (t : Tape) (k : ℕ) {at u v r : ℕ} (d d₁ d₂ last-d : List ℕ) {out o₁ o₂ last : Bytes} where
-  pub sidebar-put : {name : Bytes} → name ≡ markerName t k → Drew at d out (opens 13 ∷ key (b "style") ∷ piece true name ∷ endValue ∷ []) u d₁ o₁
-      → Drew u d₁ o₁ (strokesOfAttrs (perhaps (b "category") (writtenCategory t k))) v d₂ o₂ → Drew v d₂ o₂ (strokesOfAttrs (unclosed t k)) r last-d last
-      → Drew at d out (opens (elementNo true) ∷ strokesOfAttrs (sidebarAttrs t k)) r last-d last
-  unfolding elementNo sidebarAttrs style rawly strokesOfAttrs strokesOfAttr
-  sidebar-put en e₁ e₂ e₃ =
-      rw (attrs-append (perhaps (b "category") (writtenCategory t k)) (unclosed t k), ← en) (drew-two d d₁ last-d e₁ (drew-two d₁ d₂ last-d e₂ e₃))
-
--- ---- a periph's attributes
-
-unless-some : (s : Bytes) → (s ≡ [] → ⊥) → unlessEmpty s ≡ some s
-unfolding unlessEmpty
-unless-some [] h = absurd (h refl)
-unless-some (x ∷ s) h = refl
-
-joined-some : (s : Bytes) → isBlank Unicode s ≡ false → joined (words Unicode s) ≡ [] → ⊥
-joined-some s h e =
-    let bare : words Unicode s ≡ [] = sym (words-again Unicode s) ∙ ap (words Unicode) e ∙ words-nil Unicode in
-    let yes : isBlank Unicode s ≡ true = blank-words Unicode s .1 bare in
-    let no-way : _≡_ {A = ℕ} 0 1 = cc in omega arith
-
-module _ (t : Tape) (k : ℕ) {text : Bytes} (et : text ≡ stepText t (firstText t k)) {x : Bool} (ex : x ≡ isBlank Unicode text) {at : ℕ} (d : List ℕ) {out : Bytes} where
-  pub alt-none : x ≡ true → Drew at d out (strokesOfAttrs (perhaps (b "alt") (periphAlt t k))) at d out
-  unfolding strokesOfAttrs perhaps periphAlt unlessEmpty firstWords joined
-  alt-none h = rw (← et, blank-words Unicode text .0 (sym ex ∙ h)) (drew-none d)
-
-  pub alt-some : x ≡ false → {a : ℕ} {v : Window} {r : ℕ} (d₁ last-d : List ℕ) {o₁ o₂ last : Bytes} → Drew at d out (key (b "alt") ∷ []) a d₁ o₁
-      → pageOf v o₂ ≡ paint (record { at = a; from = getD d₁ 0 0; buf = o₁ }) (escape true (joined (words Unicode text))) → Drew (v .at) d₁ o₂ (endValue ∷ []) r last-d last
-      → Drew at d out (strokesOfAttrs (perhaps (b "alt") (periphAlt t k))) r last-d last
-  unfolding strokesOfAttrs strokesOfAttr escaped perhaps periphAlt firstWords ink
-  alt-some h {a} d₁ last-d {o₁} e₁ e₂ e₃ =
-      let s : Bytes = joined (words Unicode text) in
-      rw (← et, unless-some s (joined-some text (sym ex ∙ h))) (drew-attr d d₁ d₁ last-d (b "alt") false s e₁ (drew-one a d₁ o₁ (piece false s) e₂) e₃)
-
-module _ (t : Tape) (k : ℕ) {at u v r : ℕ} (d d₁ d₂ last-d : List ℕ) {out o₁ o₂ last : Bytes} where
   pub periph-put : Drew at d out (opens 14 ∷ []) u d₁ o₁ → Drew u d₁ o₁ (strokesOfAttrs (perhaps (b "alt") (periphAlt t k))) v d₂ o₂
       → Drew v d₂ o₂ (strokesOfAttrs (collected (attributesOf t k (b "periph")))) r last-d last → Drew at d out (opens (elementNo false) ∷ strokesOfAttrs (periphAttrs t k)) r last-d last
   unfolding elementNo periphAttrs
