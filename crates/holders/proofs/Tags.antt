@@ -5,9 +5,7 @@ use mathlib.Core.List.{List, [], _∷_}
 use mathlib.Core.Option.{some}
 use Prim.Native.Nat.{ℕ}
 use native.Mathlib.Omega.{arith}
-use lib.ListN.{getD}
 use Rattle.parts.specs.Bytes.{Bytes, b}
-use Rattle.chars.specs.Escape.{escape}
 use Rattle.words.specs.Words.{words, joined, isBlank}
 use Rattle.words.specs.declared.Set.the-variants.{Unicode}
 use Rattle.words.proofs.Places.{words-nil}
@@ -24,8 +22,8 @@ use Rattle.events.specs.Event.{item, rawly, escaped, perhaps, collected}
 use Rattle.events.specs.Walk.{style, unclosed}
 use Rattle.events.specs.Emit.{Desk, emit, emitAll}
 use Rattle.desk.specs.Desk.{deskOf}
-use Rattle.desk.specs.Stroke.{opens, key, piece, endValue, ends, shuts, closes, strokesOfAttr, strokesOfAttrs, strokesOf, ink, strokes, Drew}
-use Rattle.desk.proofs.Strokes.{drew-none, drew-one, drew-two, drew-attr, drew-item, strokes-item, attrs-append}
+use Rattle.desk.specs.Stroke.{opens, key, piece, endValue, ends, shuts, closes, strokesOfAttr, strokesOfAttrs, strokesOf, strokes, Drew}
+use Rattle.desk.proofs.Strokes.{drew-none, drew-two, drew-attr, drew-item, strokes-item, attrs-append}
 use Rattle.holders.specs.Holders.{isBlockOrRow, sidebarAttrs, periphAttrs, attrsOf, elementNo}
 
 -- ---- what a list is searched for

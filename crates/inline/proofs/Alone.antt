@@ -1,17 +1,16 @@
 -- Chars that hold one text alone.
 use mathlib.Core.Path.{_≡_, refl, sym, ap, _∙_, subst}
-use mathlib.Core.Bool.{Bool, true, false, cond, not, _&&_, _||_, and-false}
+use mathlib.Core.Bool.{Bool, true, false, not, _&&_, _||_}
 use mathlib.Core.List.{List, [], _∷_, _++_, append-nil}
-use Prim.Native.Nat.{ℕ, zero, suc, _+_, _-_, _≤_, _<_}
+use Prim.Native.Nat.{ℕ, zero, suc, _+_, _-_, _≤_}
 use native.Mathlib.Omega.{arith}
-use lib.ListN.{length, take, drop, length-take}
-use lib.Dec.{eqb, ltb}
+use lib.ListN.{length, take, length-take}
 use borrow.Author.Tests.{not-true, not-false}
 use Rattle.parts.specs.Bytes.{Bytes}
 use Rattle.texts.specs.Text.{normalizeText}
 use Rattle.texts.specs.declared.Normalized.{Normalized}
 use Rattle.put_body.specs.Frame.{Frame, whiteFront, whiteBack, frameOf, framedText, Framed}
-use Rattle.tape.specs.File.{Tape, nodeAt, kindAt, textAt}
+use Rattle.tape.specs.File.{Tape, kindAt, textAt}
 use Rattle.tape.specs.Tree.{nextSibling, firstChild, children, walkFrom, found}
 use Rattle.tape.specs.declared.Cursor.{Cursor}
 use Rattle.tape.specs.declared.kinds.Kind.{Kind}

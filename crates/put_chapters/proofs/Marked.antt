@@ -7,7 +7,6 @@ use Prim.Native.Nat.{ℕ, _<_}
 use native.Mathlib.Omega.{arith}
 use lib.ListN.{length, getD}
 use Rattle.parts.specs.Bytes.{Bytes, b, part}
-use Rattle.chars.specs.Escape.{escape}
 use Rattle.chars.specs.Decimal.{decimal}
 use Rattle.words.specs.Words.{words, joined, isBlank, bytesOf}
 use Rattle.words.specs.declared.Set.the-variants.{Unicode}
@@ -30,8 +29,8 @@ use Rattle.events.specs.Pairing.{State, chapterId, verseId, after, endOf, chapt
 use Rattle.events.specs.Profile.{renderAs}
 use Rattle.events.specs.Emit.{Desk, emit}
 use Rattle.desk.specs.Desk.{chapterIn, verseIn, stateIn, marksOf, profileOf, Kept, deskOf, putOn, ended}
-use Rattle.desk.specs.Stroke.{Stroke, opens, key, piece, endValue, ends, shuts, closes, words as said, strokesOfAttr, strokesOfAttrs, strokesOf, strokesOfAll, ink, strokes, Drew}
-use Rattle.desk.proofs.Strokes.{drew-two, drew-one, attrs-append, ink-items}
+use Rattle.desk.specs.Stroke.{Stroke, opens, key, piece, endValue, ends, shuts, closes, words as said, strokesOfAttr, strokesOfAttrs, strokesOf, strokesOfAll, strokes, Drew}
+use Rattle.desk.proofs.Strokes.{drew-two, attrs-append, ink-items}
 use Rattle.put_chapters.proofs.Idents.{drew-as, drew-three}
 
 -- ---- parts of tags

@@ -1,11 +1,9 @@
 -- Markers with nothing written inside.
 use mathlib.Core.Path.{_≡_, _∙_}
-use mathlib.Core.Bool.{true, false}
+use mathlib.Core.Bool.{true}
 use mathlib.Core.List.{List, [], _∷_, _++_}
 use Prim.Native.Nat.{ℕ}
-use lib.ListN.{getD}
 use Rattle.parts.specs.Bytes.{Bytes, b}
-use Rattle.chars.specs.Escape.{escape}
 use Rattle.tape.specs.File.{Tape}
 use Rattle.tape.specs.Name.{markerName}
 use Rattle.tape.specs.declared.Cursor.{Cursor}
@@ -20,8 +18,8 @@ use Rattle.events.specs.Walk.{style, styled, figure}
 use Rattle.events.specs.Emit.{Desk, emit, emitAll}
 use Rattle.events.proofs.Emits.{aside-on, back-on}
 use Rattle.desk.specs.Desk.{deskOf}
-use Rattle.desk.specs.Stroke.{opens, key, piece, endValue, ends, shuts, closes, words, strokesOfAttr, strokesOfAttrs, strokesOf, strokesOfAll, ink, Drew}
-use Rattle.desk.proofs.Strokes.{drew-one, drew-two}
+use Rattle.desk.specs.Stroke.{opens, key, piece, endValue, ends, shuts, closes, words, strokesOfAttr, strokesOfAttrs, strokesOf, strokesOfAll, Drew}
+use Rattle.desk.proofs.Strokes.{drew-two}
 use Rattle.roles.specs.declared.Role.{Role}
 use Rattle.roles.specs.declared.Role.the-variants.{UnknownBlock, UnknownInline, Unwritten, Figure, Ref, Id, Note, Ms, Char, Para}
 use Rattle.roles.specs.Roles.{roleIn}
