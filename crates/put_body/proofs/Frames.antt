@@ -2,10 +2,10 @@
 use mathlib.Core.Path.{_≡_, refl, sym, ap, _∙_}
 use mathlib.Core.Bool.{Bool, true, false, cond, not, _&&_, _||_}
 use mathlib.Core.List.{List, [], _∷_, _++_, append-nil}
-use Prim.Native.Nat.{ℕ, zero, suc, _+_, _-_, _≤_, _<_}
+use Prim.Native.Nat.{ℕ, _+_, _-_, _≤_, _<_}
 use native.Mathlib.Omega.{arith}
 use lib.ListN.{length, getD, take, drop, length-append, length-take, length-drop}
-use lib.Seq.{take-add, drop-drop, take-suc, take-nil, take-at, drop-at, getD-append-add, getD-drop, drop-cons}
+use lib.Seq.{take-add, drop-drop, take-suc, getD-append-add, getD-drop}
 use lib.Dec.{eqb, leb, ltb}
 use borrow.Author.Tests.{eq-eqb, ne-eqb, eqb-true, eqb-false, ltb-false, lt-ltb, le-ltb, leb-false, le-leb, lt-leb, not-true, not-false}
 use Rattle.parts.specs.Bytes.{Bytes, part}
@@ -25,7 +25,7 @@ use Rattle.texts.proofs.Edges.{blank-step, solid-above}
 use Rattle.texts.proofs.Texts.{body-blank}
 use Rattle.put_body.specs.Body.{odd}
 use Rattle.put_body.specs.Easy.{hard, anyHard, easy, tight, edged}
-use Rattle.put_body.specs.Frame.{Frame, whiteFront, whiteBack, frameOf, framedText, Framed}
+use Rattle.put_body.specs.Frame.{whiteFront, whiteBack, frameOf, framedText, Framed}
 use Rattle.put_body.proofs.Easy.{first, both, escape-easy, pair-easy, easy-both, body-easy}
 use Rattle.put_body.proofs.Turns.{written-escaped}
 
