@@ -23,10 +23,11 @@ use Rattle.tape.proofs.Laws.{text-front}
 use Rattle.tape.proofs.Walk.{left-turn}
 use Rattle.leading_white.specs.Lean.{lean}
 use Rattle.leading_white.proofs.Leans.{normalize-lean, body-lean, ends-lean}
-use Rattle.render.specs.Follow.{nextSolid, inlineAt, inlineFollows, followed, Kept}
+use Rattle.render.specs.Shape.{isInline}
+use Rattle.render.specs.Follow.{isSolid, nextSolid, inlineAt, inlineFollows, followed, Kept}
 use Rattle.render.specs.Label.{labelOf}
 use Rattle.render.specs.Note.{remainder}
-use Rattle.render.proofs.Follows.{kept-on, kept-first, behind-far, behind-done, follows-of}
+use Rattle.render.proofs.Follows.{solid-end, solid-here, kept-on, kept-first, behind-far, behind-done, follows-of}
 use Rattle.fold.specs.Fold.{Folded, foldAt, foldedNumber}
 use Rattle.lists.specs.Span.{nodesIn, foldedIn, foldsAt}
 use Rattle.lists.specs.declared.Span.{Span}
@@ -209,6 +210,36 @@ module _ (t : Tape) (c : Cursor) (kept : Step) (s : Bytes) {e : Bool} (ee : e �
   pub looked-known : (parent : Cursor) (outer : Bool) (known : Behind) {r : Behind}
       → ((s : Bytes) → e ≡ endsWhite s → Kept t c kept → r ≡ behindText t parent outer known (c .at) s) → Kept t c kept → r ≡ behindText t parent outer known (c .at) s
   looked-known parent outer known f k = f s ee k
+
+-- ---- a glance behind a text
+
+module _ (t : Tape) {next : Step} where
+  pub runs-done : next ≡ Done → false ≡ true → (k : ℕ) → next ≡ nextSibling t k → nextSolid t k ≡ next
+  runs-done ed h k en = solid-end t k (sym en ∙ ed) ∙ sym ed
+
+  module _ (d : Cursor) {x : Bool} (ed : next ≡ At d) where
+    pub runs-solid : (x ≡ true → isSolid t (d .at) ≡ true) → x ≡ true → (k : ℕ) → next ≡ nextSibling t k → nextSolid t k ≡ next
+    runs-solid f h k en = solid-here t k d (sym en ∙ ed) (f h) ∙ sym ed
+
+    pub runs-inline : (x ≡ true → isInline t (d .at) ≡ true) → x ≡ true → inlineAt t next ≡ true
+    unfolding inlineAt
+    runs-inline f h = rw ed (f h)
+
+-- where it tells, the step behind the text is the solid one
+module _ (t : Tape) (c : Cursor) (kept : Step) {next : Step} {x : Bool} (f : x ≡ true → (k : ℕ) → next ≡ nextSibling t k → nextSolid t k ≡ next) (h : x ≡ true) where
+  told : next ≡ nextSibling t (c .at) → Kept t c kept → next ≡ nextSolid t (c .at)
+  told en k = sym (f h (c .at) en)
+
+  pub glance-kept : {e : Bool} → e ≡ true → next ≡ nextSibling t (c .at) → (s : Bytes) → e ≡ endsWhite s → Kept t c kept → next ≡ keptBehind t s kept (c .at) next
+  glance-kept he en = behind-solid t c kept next he (told en)
+
+  module _ (g : x ≡ true → inlineAt t next ≡ true) where
+    pub glance-text : (b : Bool) {e : Bool} → next ≡ nextSibling t (c .at) → (s : Bytes) (trim : Bool) → e ≡ endsWhite s → Kept t c kept → normalizeText s (not trim) true ≡ normalized t (c .at) s trim b
+    glance-text b en = look-inline t c kept b (told en) refl (g h)
+
+    pub glance-known : (parent : Cursor) (outer : Bool) (known : Behind) {e : Bool} → e ≡ true → next ≡ nextSibling t (c .at) → (s : Bytes) → e ≡ endsWhite s → Kept t c kept
+        → known ≡ behindText t parent outer known (c .at) s
+    glance-known parent outer known he en = text-inline t parent c outer known kept he (told en) refl (g h)
 
 -- ---- a text
 

@@ -10,7 +10,7 @@ ghost use Rattle.tape.specs.File.{Tape, tapeIn, textAt};
 ghost use Rattle.tape.specs.Tree.{nextSibling, walkFrom, left};
 ghost use Rattle.tape.specs.declared.Step.the-variants.{At};
 ghost use Rattle.leading_white.specs.Lean.{lean, Solids};
-ghost use Rattle.render.specs.Follow.{Kept};
+ghost use Rattle.render.specs.Follow.{nextSolid, inlineAt, Kept};
 ghost use Rattle.events.specs.Event.{Event};
 ghost use Rattle.events.specs.Walk.{normalized, inlineAll, noteText, noteAll};
 ghost use Rattle.events.specs.Emit.{emitAll};
@@ -224,6 +224,59 @@ fn wait(
     }
 }
 
+// Whether a look tells that a step leads to a node that runs inside text and is not passed over.
+fn runs_at(file: &[u8], tape: Sections, next: Step) -> bool
+    ensures { λ r. ⌜ (r ≡ true → (k : ℕ) → next ≡ nextSibling (tapeIn tape (now (file .entry))) k → nextSolid (tapeIn tape (now (file .entry))) k ≡ next) ⌝ }
+    ensures { λ r. ⌜ (r ≡ true → inlineAt (tapeIn tape (now (file .entry))) next ≡ true) ⌝ }
+{
+    match next {
+        Step::Done => false,
+        Step::At(d) => render::runs_on(file, tape, d),
+    }
+}
+
+// Looks behind a text; most that end with white space are followed at once by a char.
+fn glance(
+    file: &[u8],
+    tape: Sections,
+    solids: &[u32],
+    parent: Cursor,
+    outer: bool,
+    c: Cursor,
+    ends: bool,
+    behind: Behind,
+    kept: Step,
+    next: Step,
+) -> Waited
+    requires { ⌜ Solids (tapeIn tape (now file)) (now solids) ⌝ }
+    ensures { λ r. ⌜ (next ≡ nextSibling (tapeIn tape (now (file .entry))) (c .at) → (s : Bytes) (trim : Bool) → ends ≡ endsWhite s → Kept (tapeIn tape (now (file .entry))) c kept → normalizeText s (not trim) (r .follows) ≡ normalized (tapeIn tape (now (file .entry))) (c .at) s trim (behindOf (tapeIn tape (now (file .entry))) parent outer behind)) ⌝ }
+    ensures { λ r. ⌜ (Kept (tapeIn tape (now (file .entry))) c kept → next ≡ nextSibling (tapeIn tape (now (file .entry))) (c .at) → KeptAt (tapeIn tape (now (file .entry))) next (r .kept)) ⌝ }
+    ensures { λ r. ⌜ (next ≡ nextSibling (tapeIn tape (now (file .entry))) (c .at) → (s : Bytes) → ends ≡ endsWhite s → Kept (tapeIn tape (now (file .entry))) c kept → r .kept ≡ keptBehind (tapeIn tape (now (file .entry))) s kept (c .at) next) ⌝ }
+    ensures { λ r. ⌜ (next ≡ nextSibling (tapeIn tape (now (file .entry))) (c .at) → (s : Bytes) → ends ≡ endsWhite s → Kept (tapeIn tape (now (file .entry))) c kept → r .behind ≡ behindText (tapeIn tape (now (file .entry))) parent outer behind (c .at) s) ⌝ }
+{
+    if ends {
+        if runs_at(file, tape, next) {
+            return Waited {
+                follows: true,
+                behind,
+                kept: next,
+            };
+        }
+    }
+    wait(
+        file,
+        tape,
+        solids,
+        parent,
+        outer,
+        c,
+        ends,
+        behind,
+        kept,
+        next,
+    )
+}
+
 // A text as it is normalized, with what was looked for behind it.
 fn look(
     file: &[u8],
@@ -348,14 +401,14 @@ fn framed_turn(
     out: &mut [u8],
 ) -> Going
     requires { ⌜ Solids (tapeIn tape (now file)) (now solids) ⌝ }
-    ensures { λ r. ⌜ (Here (tapeIn tape (now (file .entry))) (c .at) (now (tail .entry)) (record { front = front; len = len; ends = ends }) → Kept (tapeIn tape (now (file .entry))) c kept → (node : ℕ → Bool → List Event) (ks : List ℕ) → emitAll (deskOf (tapeIn tape (now (file .entry)) .source) (r .at) (now (desk .exit)) (now (out .exit))) (inlineAll node (tapeIn tape (now (file .entry))) (behindOf (tapeIn tape (now (file .entry))) parent outer behind) (r .trim) ks) ≡ emitAll (deskOf (tapeIn tape (now (file .entry)) .source) at (now (desk .entry)) (now (out .entry))) (plainFrom node (tapeIn tape (now (file .entry))) (behindOf (tapeIn tape (now (file .entry))) parent outer behind) trim (c .at) ks Words)) ⌝ }
+    ensures { λ r. ⌜ (next ≡ nextSibling (tapeIn tape (now (file .entry))) (c .at) → Here (tapeIn tape (now (file .entry))) (c .at) (now (tail .entry)) (record { front = front; len = len; ends = ends }) → Kept (tapeIn tape (now (file .entry))) c kept → (node : ℕ → Bool → List Event) (ks : List ℕ) → emitAll (deskOf (tapeIn tape (now (file .entry)) .source) (r .at) (now (desk .exit)) (now (out .exit))) (inlineAll node (tapeIn tape (now (file .entry))) (behindOf (tapeIn tape (now (file .entry))) parent outer behind) (r .trim) ks) ≡ emitAll (deskOf (tapeIn tape (now (file .entry)) .source) at (now (desk .entry)) (now (out .entry))) (plainFrom node (tapeIn tape (now (file .entry))) (behindOf (tapeIn tape (now (file .entry))) parent outer behind) trim (c .at) ks Words)) ⌝ }
     ensures { λ r. ⌜ (Here (tapeIn tape (now (file .entry))) (c .at) (now (tail .entry)) (record { front = front; len = len; ends = ends }) → Kept (tapeIn tape (now (file .entry))) c kept → next ≡ nextSibling (tapeIn tape (now (file .entry))) (c .at) → KeptAt (tapeIn tape (now (file .entry))) (r .next) (r .kept)) ⌝ }
     ensures { λ r. ⌜ r .next ≡ next ⌝ }
-    ensures { λ r. ⌜ (Here (tapeIn tape (now (file .entry))) (c .at) (now (tail .entry)) (record { front = front; len = len; ends = ends }) → Kept (tapeIn tape (now (file .entry))) c kept → r .trim ≡ trimBy (tapeIn tape (now (file .entry))) (behindOf (tapeIn tape (now (file .entry))) parent outer behind) trim (c .at) Words) ⌝ }
-    ensures { λ r. ⌜ (Here (tapeIn tape (now (file .entry))) (c .at) (now (tail .entry)) (record { front = front; len = len; ends = ends }) → Kept (tapeIn tape (now (file .entry))) c kept → r .kept ≡ keptBehind (tapeIn tape (now (file .entry))) (textAt (tapeIn tape (now (file .entry))) (c .at)) kept (c .at) (r .next)) ⌝ }
-    ensures { λ r. ⌜ (Here (tapeIn tape (now (file .entry))) (c .at) (now (tail .entry)) (record { front = front; len = len; ends = ends }) → Kept (tapeIn tape (now (file .entry))) c kept → r .behind ≡ behindText (tapeIn tape (now (file .entry))) parent outer behind (c .at) (textAt (tapeIn tape (now (file .entry))) (c .at))) ⌝ }
+    ensures { λ r. ⌜ (next ≡ nextSibling (tapeIn tape (now (file .entry))) (c .at) → Here (tapeIn tape (now (file .entry))) (c .at) (now (tail .entry)) (record { front = front; len = len; ends = ends }) → Kept (tapeIn tape (now (file .entry))) c kept → r .trim ≡ trimBy (tapeIn tape (now (file .entry))) (behindOf (tapeIn tape (now (file .entry))) parent outer behind) trim (c .at) Words) ⌝ }
+    ensures { λ r. ⌜ (next ≡ nextSibling (tapeIn tape (now (file .entry))) (c .at) → Here (tapeIn tape (now (file .entry))) (c .at) (now (tail .entry)) (record { front = front; len = len; ends = ends }) → Kept (tapeIn tape (now (file .entry))) c kept → r .kept ≡ keptBehind (tapeIn tape (now (file .entry))) (textAt (tapeIn tape (now (file .entry))) (c .at)) kept (c .at) (r .next)) ⌝ }
+    ensures { λ r. ⌜ (next ≡ nextSibling (tapeIn tape (now (file .entry))) (c .at) → Here (tapeIn tape (now (file .entry))) (c .at) (now (tail .entry)) (record { front = front; len = len; ends = ends }) → Kept (tapeIn tape (now (file .entry))) c kept → r .behind ≡ behindText (tapeIn tape (now (file .entry))) parent outer behind (c .at) (textAt (tapeIn tape (now (file .entry))) (c .at))) ⌝ }
 {
-    let w = wait(
+    let w = glance(
         file,
         tape,
         solids,

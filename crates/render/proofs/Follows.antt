@@ -6,15 +6,18 @@ use Prim.Native.Nat.{ℕ}
 use native.Mathlib.Omega.{arith}
 use lib.ListN.{getD}
 use lib.Dec.{eqb, ltb}
-use borrow.Author.Tests.{eqb-false, not-true, not-false}
+use borrow.Author.Tests.{eqb-true, eqb-false, not-true, not-false}
 use Rattle.parts.specs.Bytes.{Bytes}
 use Rattle.words.specs.Words.{isBlank as blank}
 use Rattle.words.specs.declared.Set.the-variants.{Ascii}
 use Rattle.texts.proofs.Edges.{soon-shows}
-use Rattle.tape.specs.File.{Tape, kindAt, textAt}
+use Rattle.tape.specs.File.{Tape, kindAt, textAt, infoAt}
 use Rattle.tape.specs.Tree.{nextSibling, walkFrom}
 use Rattle.tape.specs.declared.kinds.Kind.{Kind}
 use Rattle.tape.specs.declared.Cursor.{Cursor}
+use Rattle.tape.specs.declared.Entry.{Entry}
+use Rattle.tape.specs.declared.Info.{Info}
+use Rattle.tape.specs.declared.Info.the-variants.{Known}
 use Rattle.tape.specs.declared.Step.{Step}
 use Rattle.tape.specs.declared.Step.the-variants.{At, Done}
 use Rattle.tape.proofs.Walk.{siblings-walk}
@@ -25,7 +28,7 @@ use Rattle.render.specs.Shape.{isInline}
 use Rattle.render.specs.First.{firstWith}
 use Rattle.render.specs.Follow.{isSolid, nextSolid, inlineAt, inlineFollows, followed, Kept}
 use Rattle.render.specs.Children.{sees}
-use Rattle.render.proofs.Shapes.{kind-is, kind-not}
+use Rattle.render.proofs.Shapes.{kind-is, kind-not, inline-known, category-character}
 use Rattle.render.proofs.Finds.{first-end, first-here, first-past}
 
 -- ---- what is passed over
@@ -58,8 +61,18 @@ module _ (t : Tape) (k : ℕ) {z : Kind} (ek : z .code ≡ kindAt t k) where
   pub clear-other : (z .code ≡ 1 → ⊥) → (z .code ≡ 2 → ⊥) → not (eqb (z .code) 8) ≡ true → isSolid t k ≡ true
   clear-other l g e = sym (solid-other t k ek g (eqb-false (z .code) 8 (not-true (eqb (z .code) 8) e)) l)
 
-pub clear-none : (t : Tape) (k : ℕ) → false ≡ true → isSolid t k ≡ true
-clear-none t k e = absurd (let no-way : _≡_ {A = ℕ} 0 1 = cc in omega arith)
+  -- a marker of characters
+
+  pub runs-solid : {x : Bool} → z .code ≡ 3 → x ≡ true → isSolid t k ≡ true
+  runs-solid h e = sym (solid-other t k ek (λ n. omega arith) (λ n. omega arith) (λ n. omega arith))
+
+  pub runs-inline : {i : Info} (x : Entry) → z .code ≡ 3 → i ≡ infoAt t k → i ≡ Known x → eqb (x .category .code) 4 ≡ true → isInline t k ≡ true
+  runs-inline x h ei ex e =
+      sym (inline-known t k ek (λ n. omega arith) (λ n. omega arith) x h ei ex (category-character (x .category .code) (eqb-true (x .category .code) 4 e)))
+
+-- nothing is claimed where a look does not tell
+pub clear-none : {x : Bool} → false ≡ true → x ≡ true
+clear-none e = absurd (let no-way : _≡_ {A = ℕ} 0 1 = cc in omega arith)
 
 -- ---- the next solid sibling
 

@@ -4,11 +4,14 @@ ghost use mathlib.Core.Bool.{true};
 ghost use Rattle.tape.specs.File.{tapeIn};
 ghost use Rattle.leading_white.specs.Lean.{Solids};
 ghost use Rattle.render.specs.Follow.{isSolid, nextSolid, inlineAt, inlineFollows, followed as isFollowed, Kept};
+ghost use Rattle.render.specs.Shape.{isInline};
 use crate::children::Seen;
 use crate::children::find_seen;
 use crate::shape::is_inline;
 use leading_white::lean_text;
+use tape::Category;
 use tape::Cursor;
+use tape::Info;
 use tape::Kind;
 use tape::Sections;
 use tape::Step;
@@ -45,6 +48,20 @@ fn is_clear(file: &[u8], tape: Sections, c: Cursor) -> bool
         return false;
     }
     kind.code != Kind::ERROR
+}
+
+// Whether a look tells that a node runs inside text and is not passed over: a marker whose entry is of characters.
+pub fn runs_on(file: &[u8], tape: Sections, c: Cursor) -> bool
+    ensures { λ r. ⌜ (r ≡ true → isSolid (tapeIn tape (now (file .entry))) (c .at) ≡ true) ⌝ }
+    ensures { λ r. ⌜ (r ≡ true → isInline (tapeIn tape (now (file .entry))) (c .at) ≡ true) ⌝ }
+{
+    if c.kind(file, tape).code != Kind::MARKER_OPEN {
+        return false;
+    }
+    match c.marker_info(file, tape) {
+        Info::Known(e) => e.category.code == Category::CHARACTER,
+        Info::Unknown => false,
+    }
 }
 
 // The first later sibling that is not passed over.

@@ -14,6 +14,7 @@ pub use follow::followed;
 pub use follow::inline_at;
 pub use follow::inline_follows;
 pub use follow::next_solid;
+pub use follow::runs_on;
 pub use follow::solid_behind;
 pub use label::verse_label;
 pub use label::word_part;

@@ -8,19 +8,15 @@ use Rattle.inline_turns.proofs.wait.Reads as wait-reads
 use Rattle.texts.proofs.ends_white.Reads as ends-white-reads
 use Rattle.texts.proofs.normalize_text.Reads as normalize-text-reads
 
--- src/lib.rt:248:9
 ends-white-requires : tie.Need-ends-white-requires
 ends-white-requires c κs = search needs
 
--- src/lib.rt:249:9
 wait-requires : tie.Need-wait-requires
 wait-requires c κs = search needs
 
--- src/lib.rt:264:15
 normalize-text-requires : tie.Need-normalize-text-requires
 normalize-text-requires c κs = search needs
 
--- src/lib.rt:229:1
 returns : tie.Need-returns
 returns c = (search looked-text, (search needs, (search looked-kept, search looked-known)))
 

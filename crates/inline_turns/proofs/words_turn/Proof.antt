@@ -14,61 +14,47 @@ use Rattle.tape.proofs.Cursor.next_sibling.Reads as next-sibling-reads
 use Rattle.tape.proofs.Cursor.size.Reads as size-reads
 use Rattle.tape.proofs.Cursor.tail.Reads as tail-reads
 
--- src/lib.rt:406:9
 tail-requires : tie.Need-tail-requires
 tail-requires c κs = search needs
 
--- src/lib.rt:407:9
 size-requires : tie.Need-size-requires
 size-requires c κs = search needs
 
--- src/lib.rt:408:9
 white-front-requires : tie.Need-white-front-requires
 white-front-requires c κs = search needs
 
--- src/lib.rt:409:9
 white-back-requires : tie.Need-white-back-requires
 white-back-requires c κs = search needs
 
--- src/lib.rt:410:15
 sub-len : tie.Need-sub-len
 sub-len c = search needs
 
--- src/lib.rt:410:15
 sub-len-2 : tie.Need-sub-len-2
 sub-len-2 c = search needs
 
--- src/lib.rt:411:8
 is-framed-requires : tie.Need-is-framed-requires
 is-framed-requires c κs = search needs
 
--- src/lib.rt:412:13
 next-sibling-requires : tie.Need-next-sibling-requires
 next-sibling-requires c κs = search needs
 
--- src/lib.rt:413:9
 framed-turn-requires : tie.Need-framed-turn-requires
 framed-turn-requires c κs = search needs
 
--- src/lib.rt:413:9
 same-length : tie.Need-same-length
 same-length c = search needs
 
--- src/lib.rt:413:9
 returns : tie.Need-returns
 returns c =
     let e = c .before .before .framed-turn .ensures in
-    (e .0 (search here-of), (λ k. e .1 .0 (search here-of) k (search needs), (e .1 .1 .0 ∙ search needs, (e .1 .1 .1 .0 (search here-of), (e .1 .1 .1 .1 .0 (search here-of), e .1 .1 .1 .1 .1 (search here-of))))))
+    (e .0 (search needs) (search here-of), (λ k. e .1 .0 (search here-of) k (search needs), (e .1 .1 .0 ∙ search needs, (e .1 .1 .1 .0 (search needs) (search here-of), (e .1 .1 .1 .1 .0 (search needs) (search here-of), e .1 .1 .1 .1 .1 (search needs) (search here-of))))))
 
--- src/lib.rt:433:5
 worded-turn-requires : tie.Need-worded-turn-requires
 worded-turn-requires c κs = search needs
 
--- src/lib.rt:384:1
 same-length-2 : tie.Need-same-length-2
 same-length-2 c = search needs
 
--- src/lib.rt:384:1
 returns-2 : tie.Need-returns-2
 returns-2 c = search needs
 
