@@ -24,6 +24,8 @@ use Rattle.events.specs.Walk.{Manner, asInline, asNote, Role, roleOf, markerAs,
 use Rattle.events.specs.Emit.{Desk, emit, emitAll}
 use Rattle.events.proofs.Emits.{emit-append}
 use Rattle.events.proofs.Turns.{inline-none}
+use Rattle.parts.specs.Bytes.{Bytes}
+use Rattle.desk.specs.Desk.{deskOf}
 use Rattle.roles.specs.Roles.{isWhole, mannerOf, mannerBy}
 use Rattle.put_markers.specs.Marker.{markerOpens, markerCloses, leafOf}
 use Rattle.put_markers.proofs.Splits.{marker-split}
@@ -34,6 +36,10 @@ use Rattle.inline_turns.specs.declared.Sort.{Sort}
 use Rattle.inline_turns.specs.declared.Sort.the-variants.{End, Enter, Plain}
 use Rattle.inline_turns.specs.declared.Child.{Child}
 use Rattle.inline_turns.proofs.Sorts.{sort-turn, note-sort-turn}
+use Rattle.inline.specs.Lone.{PutAs, KeepsBehind}
+use Rattle.inline.specs.declared.lone.Put.{Put}
+use Rattle.inline.specs.declared.lone.Put.the-variants.{Written}
+use Rattle.inline.proofs.Alone.{put-written, kept-behind}
 use Rattle.inline_turns.proofs.Laws.{asked-same, follows-learnt, turn-same, note-turn-same}
 
 -- ---- markers
@@ -139,17 +145,22 @@ module _ (node : ℕ → Bool → List Event) (t : Tape) (span : Span) (parent :
     unfolding onward emitAll
     inline-ended h = ap (λ (z : Sort). emitAll s (onward node t (behindOf t parent outer known) trim (c .at) (nodesIn t span (nextSibling t (c .at))) z)) (sym h) ∙ turned refl
 
-    pub inline-entered : r ≡ Enter → {later : Behind} {y : Bool} {u : Desk} {x : Bool} {n : Step} → later ≡ learnt (behindOf t parent outer known) → y ≡ followsBy later
-        → u ≡ emitAll s (node (c .at) y) → x ≡ trimsAfter t (c .at) → n ≡ nextSibling t (c .at)
-        → emitAll u (inlineAll node t (behindOf t parent outer later) x (nodesIn t span n)) ≡ s₀
+    entered : r ≡ Enter → {u : Desk} {x : Bool} {n : Step} → u ≡ emitAll s (node (c .at) (behindOf t parent outer known)) → x ≡ trimsAfter t (c .at) → n ≡ nextSibling t (c .at)
+        → emitAll u (inlineAll node t (behindOf t parent outer known) x (nodesIn t span n)) ≡ s₀
     unfolding onward
-    inline-entered h {later} {y} {u} {x} {n} el ey eu ex en =
-        ap (λ (z : Bool). emitAll u (inlineAll node t z x (nodesIn t span n))) (ap (behindOf t parent outer) el ∙ asked-same t parent outer (behindOf t parent outer known))
-        ∙ ap (λ (z : Desk). emitAll z (inlineAll node t (behindOf t parent outer known) x (nodesIn t span n))) (eu ∙ ap (λ (z : Bool). emitAll s (node (c .at) z)) (follows-learnt (behindOf t parent outer known) el ey))
+    entered h {u} {x} {n} eu ex en =
+        ap (λ (z : Desk). emitAll z (inlineAll node t (behindOf t parent outer known) x (nodesIn t span n))) eu
         ∙ sym (emit-append s (node (c .at) (behindOf t parent outer known)) (inlineAll node t (behindOf t parent outer known) x (nodesIn t span n)))
         ∙ ap (λ (y : Bool). emitAll s (node (c .at) (behindOf t parent outer known) ++ inlineAll node t (behindOf t parent outer known) y (nodesIn t span n))) ex
         ∙ ap (λ (z : Sort). emitAll s (onward node t (behindOf t parent outer known) trim (c .at) (nodesIn t span n) z)) (sym h)
         ∙ turned en
+
+    pub inline-entered : r ≡ Enter → {later : Behind} {y : Bool} {u : Desk} {x : Bool} {n : Step} → later ≡ learnt (behindOf t parent outer known) → y ≡ followsBy later
+        → u ≡ emitAll s (node (c .at) y) → x ≡ trimsAfter t (c .at) → n ≡ nextSibling t (c .at)
+        → emitAll u (inlineAll node t (behindOf t parent outer later) x (nodesIn t span n)) ≡ s₀
+    inline-entered h {later} {y} {u} {x} {n} el ey eu ex en =
+        ap (λ (z : Bool). emitAll u (inlineAll node t z x (nodesIn t span n))) (ap (behindOf t parent outer) el ∙ asked-same t parent outer (behindOf t parent outer known))
+        ∙ entered h (eu ∙ ap (λ (z : Bool). emitAll s (node (c .at) z)) (follows-learnt (behindOf t parent outer known) el ey)) ex en
 
     pub inline-plain : {child : Child} → r ≡ Plain child → (kept : Step) → KeptAt t step kept → (u : Desk) (x : Bool) (n : Step) (later : Behind)
         → (Kept t c kept → later ≡ behindBy t parent outer known (c .at) child)
@@ -160,6 +171,14 @@ module _ (node : ℕ → Bool → List Event) (t : Tape) (span : Span) (parent :
         ap (λ (z : Bool). emitAll u (inlineAll node t z x (nodesIn t span n))) (ap (behindOf t parent outer) (el (kept-for t hk ec)) ∙ turn-same t parent outer known (c .at) child)
         ∙ e (kept-for t hk ec) node
         ∙ ap (λ (z : Sort). emitAll s (onward node t (behindOf t parent outer known) trim (c .at) (nodesIn t span (nextSibling t (c .at))) z)) (sym h) ∙ turned refl
+
+  -- one that is written whatever follows the parent
+  pub inline-lone : (c : Cursor) (source : Bytes) (at : ℕ) (d : List ℕ) (out : Bytes) (last-d : List ℕ) (last : Bytes) (p : Put) → s ≡ deskOf source at d out
+      → ((y : Bool) → PutAs source at d out (node (c .at) y) last-d last p) → KeepsBehind t (c .at) p → {z : ℕ} → p ≡ Written z → step ≡ At c → {r : Sort} → r ≡ sortIn t span (c .at) → r ≡ Enter
+      → {n : Step} → n ≡ nextSibling t (c .at) → emitAll (deskOf source z last-d last) (inlineAll node t (behindOf t parent outer known) false (nodesIn t span n)) ≡ s₀
+  inline-lone c source at d out last-d last p es f k ep ec er h en =
+      let y : Bool = behindOf t parent outer known in
+      entered ec er h (put-written source at d out (node (c .at) y) last-d last (f y) ep ∙ ap (λ (x : Desk). emitAll x (node (c .at) y)) (sym es)) (sym (kept-behind t (c .at) k ep)) en
 
 -- ---- a note's children
 
@@ -177,17 +196,22 @@ module _ (node : ℕ → Bool → List Event) (t : Tape) (first : ℕ) (parent :
     unfolding noteOnward emitAll
     note-ended h = ap (λ (z : Sort). emitAll s (noteOnward node t (behindOf t parent outer known) trim first (c .at) (walkFrom t (nextSibling t (c .at))) z)) (sym h) ∙ note-turned refl
 
-    pub note-entered : r ≡ Enter → {later : Behind} {y : Bool} {u : Desk} {x : Bool} {n : Step} → later ≡ learnt (behindOf t parent outer known) → y ≡ followsBy later
-        → u ≡ emitAll s (node (c .at) y) → x ≡ trimsAfter t (c .at) → n ≡ nextSibling t (c .at)
-        → emitAll u (noteAll node t first (behindOf t parent outer later) x (walkFrom t n)) ≡ s₀
+    note-in : r ≡ Enter → {u : Desk} {x : Bool} {n : Step} → u ≡ emitAll s (node (c .at) (behindOf t parent outer known)) → x ≡ trimsAfter t (c .at) → n ≡ nextSibling t (c .at)
+        → emitAll u (noteAll node t first (behindOf t parent outer known) x (walkFrom t n)) ≡ s₀
     unfolding noteOnward
-    note-entered h {later} {y} {u} {x} {n} el ey eu ex en =
-        ap (λ (z : Bool). emitAll u (noteAll node t first z x (walkFrom t n))) (ap (behindOf t parent outer) el ∙ asked-same t parent outer (behindOf t parent outer known))
-        ∙ ap (λ (z : Desk). emitAll z (noteAll node t first (behindOf t parent outer known) x (walkFrom t n))) (eu ∙ ap (λ (z : Bool). emitAll s (node (c .at) z)) (follows-learnt (behindOf t parent outer known) el ey))
+    note-in h {u} {x} {n} eu ex en =
+        ap (λ (z : Desk). emitAll z (noteAll node t first (behindOf t parent outer known) x (walkFrom t n))) eu
         ∙ sym (emit-append s (node (c .at) (behindOf t parent outer known)) (noteAll node t first (behindOf t parent outer known) x (walkFrom t n)))
         ∙ ap (λ (y : Bool). emitAll s (node (c .at) (behindOf t parent outer known) ++ noteAll node t first (behindOf t parent outer known) y (walkFrom t n))) ex
         ∙ ap (λ (z : Sort). emitAll s (noteOnward node t (behindOf t parent outer known) trim first (c .at) (walkFrom t n) z)) (sym h)
         ∙ note-turned en
+
+    pub note-entered : r ≡ Enter → {later : Behind} {y : Bool} {u : Desk} {x : Bool} {n : Step} → later ≡ learnt (behindOf t parent outer known) → y ≡ followsBy later
+        → u ≡ emitAll s (node (c .at) y) → x ≡ trimsAfter t (c .at) → n ≡ nextSibling t (c .at)
+        → emitAll u (noteAll node t first (behindOf t parent outer later) x (walkFrom t n)) ≡ s₀
+    note-entered h {later} {y} {u} {x} {n} el ey eu ex en =
+        ap (λ (z : Bool). emitAll u (noteAll node t first z x (walkFrom t n))) (ap (behindOf t parent outer) el ∙ asked-same t parent outer (behindOf t parent outer known))
+        ∙ note-in h (eu ∙ ap (λ (z : Bool). emitAll s (node (c .at) z)) (follows-learnt (behindOf t parent outer known) el ey)) ex en
 
     pub note-plain : {child : Child} → r ≡ Plain child → (kept : Step) → KeptAt t step kept → (u : Desk) (x : Bool) (n : Step) (later : Behind)
         → (Kept t c kept → later ≡ noteBehindBy t first parent outer known (c .at) child)
@@ -198,3 +222,11 @@ module _ (node : ℕ → Bool → List Event) (t : Tape) (first : ℕ) (parent :
         ap (λ (z : Bool). emitAll u (noteAll node t first z x (walkFrom t n))) (ap (behindOf t parent outer) (el (kept-for t hk ec)) ∙ note-turn-same t parent outer known (c .at) first child)
         ∙ e (kept-for t hk ec) node
         ∙ ap (λ (z : Sort). emitAll s (noteOnward node t (behindOf t parent outer known) trim first (c .at) (walkFrom t (nextSibling t (c .at))) z)) (sym h) ∙ note-turned refl
+
+  -- one that is written whatever follows the parent
+  pub note-lone : (c : Cursor) (source : Bytes) (at : ℕ) (d : List ℕ) (out : Bytes) (last-d : List ℕ) (last : Bytes) (p : Put) → s ≡ deskOf source at d out
+      → ((y : Bool) → PutAs source at d out (node (c .at) y) last-d last p) → KeepsBehind t (c .at) p → {z : ℕ} → p ≡ Written z → step ≡ At c → {r : Sort} → r ≡ noteSort t (c .at) → r ≡ Enter
+      → {n : Step} → n ≡ nextSibling t (c .at) → emitAll (deskOf source z last-d last) (noteAll node t first (behindOf t parent outer known) false (walkFrom t n)) ≡ s₀
+  note-lone c source at d out last-d last p es f k ep ec er h en =
+      let y : Bool = behindOf t parent outer known in
+      note-in ec er h (put-written source at d out (node (c .at) y) last-d last (f y) ep ∙ ap (λ (x : Desk). emitAll x (node (c .at) y)) (sym es)) (sym (kept-behind t (c .at) k ep)) en

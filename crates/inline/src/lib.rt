@@ -47,28 +47,23 @@ fn marker(
     ensures { λ r. ⌜ deskOf (tapeIn tape (now (file .entry)) .source) r (now (desk .exit)) (now (out .exit)) ≡ emitAll (deskOf (tapeIn tape (now (file .entry)) .source) at (now (desk .entry)) (now (out .entry))) (markerAs (insideOf (tapeIn tape (now (file .entry))) depth) (tapeIn tape (now (file .entry))) (c .at) outer (roleOf (tapeIn tape (now (file .entry))) (c .at))) ⌝ }
 {
     let role = roles::role_of(file, tape, c);
-    match lone(file, tape, solids, c, role, depth, at, desk, out) {
-        Put::Written(z) => z,
-        Put::Nothing => {
-            if roles::is_whole(file, tape, c, role) {
-                let a = put_markers::open_marker(file, tape, solids, c, role, at, desk, out);
-                let z = inside(
-                    file,
-                    tape,
-                    solids,
-                    c,
-                    depth,
-                    outer,
-                    roles::is_note(role),
-                    a,
-                    desk,
-                    out,
-                );
-                put_markers::close_marker(file, tape, solids, c, role, z, desk, out)
-            } else {
-                put_markers::write_leaf(file, tape, c, role, at, desk, out)
-            }
-        }
+    if roles::is_whole(file, tape, c, role) {
+        let a = put_markers::open_marker(file, tape, solids, c, role, at, desk, out);
+        let z = inside(
+            file,
+            tape,
+            solids,
+            c,
+            depth,
+            outer,
+            roles::is_note(role),
+            a,
+            desk,
+            out,
+        );
+        put_markers::close_marker(file, tape, solids, c, role, z, desk, out)
+    } else {
+        put_markers::write_leaf(file, tape, c, role, at, desk, out)
     }
 }
 
@@ -193,11 +188,21 @@ pub fn inline(
             Step::At(c) => match sort_in(file, tape, span, c) {
                 Sort::End => return s,
                 Sort::Enter => {
-                    known = inline_turns::ask(file, tape, solids, parent, outer, known);
-                    s = node(file, tape, solids, c, depth, follows(known), s, desk, out);
-                    trim = render::trims_after(file, tape, c);
-                    step = c.next_sibling(file, tape);
-                    kept = step;
+                    match lone(file, tape, c, depth, s, desk, out) {
+                        Put::Written(z) => {
+                            s = z;
+                            trim = false;
+                            step = c.next_sibling(file, tape);
+                            kept = step;
+                        }
+                        Put::Nothing => {
+                            known = inline_turns::ask(file, tape, solids, parent, outer, known);
+                            s = node(file, tape, solids, c, depth, follows(known), s, desk, out);
+                            trim = render::trims_after(file, tape, c);
+                            step = c.next_sibling(file, tape);
+                            kept = step;
+                        }
+                    }
                 }
                 Sort::Plain(child) => {
                     let g = plain_turn(
@@ -254,11 +259,21 @@ fn note_inline(
             Step::At(c) => match note_sort(file, tape, c) {
                 Sort::End => return s,
                 Sort::Enter => {
-                    known = inline_turns::ask(file, tape, solids, parent, outer, known);
-                    s = node(file, tape, solids, c, depth, follows(known), s, desk, out);
-                    trim = render::trims_after(file, tape, c);
-                    step = c.next_sibling(file, tape);
-                    kept = step;
+                    match lone(file, tape, c, depth, s, desk, out) {
+                        Put::Written(z) => {
+                            s = z;
+                            trim = false;
+                            step = c.next_sibling(file, tape);
+                            kept = step;
+                        }
+                        Put::Nothing => {
+                            known = inline_turns::ask(file, tape, solids, parent, outer, known);
+                            s = node(file, tape, solids, c, depth, follows(known), s, desk, out);
+                            trim = render::trims_after(file, tape, c);
+                            step = c.next_sibling(file, tape);
+                            kept = step;
+                        }
+                    }
                 }
                 Sort::Plain(child) => {
                     let g = note_turn(

@@ -1,28 +1,27 @@
-// Chars that hold one text alone: it is told by its frame, and no list is walked.
+// Chars that hold one text alone: they are told by a look and written whole, and no list is walked.
 ghost use mathlib.Core.Path.{_≡_};
-ghost use mathlib.Core.Bool.{Bool, true};
-ghost use mathlib.Core.List.{_++_};
+ghost use mathlib.Core.Bool.{Bool, true, false};
+ghost use mathlib.Core.List.{List, [], _∷_, _++_};
 ghost use Prim.Native.Nat.{ℕ};
 ghost use lib.ListN.{take};
-ghost use Rattle.put_body.specs.Frame.{Framed};
+ghost use Rattle.parts.specs.Bytes.{Bytes, b};
+ghost use Rattle.chars.specs.Escape.{escape};
 ghost use Rattle.tape.specs.File.{tapeIn};
-ghost use Rattle.tape.specs.declared.Step.the-variants.{At};
-ghost use Rattle.leading_white.specs.Lean.{Solids};
-ghost use Rattle.events.specs.Walk.{char, broken, roleOf, markerAs, inside as insideOf};
-ghost use Rattle.events.specs.Emit.{emitAll};
-ghost use Rattle.roles.specs.Roles.{roleIn};
-ghost use Rattle.put_markers.specs.Marker.{markerOpens, markerCloses};
-ghost use Rattle.desk.specs.Desk.{deskOf};
-ghost use Rattle.inline.specs.Lone.{WritesNothing, OnlyAt, PutAs};
+ghost use Rattle.tape.specs.Tree.{children};
+ghost use Rattle.tags.specs.Items.{Attr, attrsBytes, text};
+ghost use Rattle.events.specs.Event.{Event, item};
+ghost use Rattle.events.specs.Walk.{inlineAll, nodeIn, inside as insideOf};
+ghost use Rattle.desk.specs.Stroke.{ends, words, closes, Drew};
+ghost use Rattle.inline.specs.Lone.{LastAttribute, OnlyText, OnlyAt, loneChar, charAround, PutAs, KeepsBehind};
 use desk::Numbers;
-use put_body::framed_text;
+use desk::attr_as_it_stands;
+use desk::close_char;
+use desk::end_tag;
+use desk::open_char;
+use desk::text_body;
 use put_body::is_framed;
 use put_body::white_back;
 use put_body::white_front;
-use put_markers::close_char;
-use put_markers::open_char;
-use put_texts::put_framed;
-use roles::Role;
 use tape::Cursor;
 use tape::Kind;
 use tape::Sections;
@@ -36,9 +35,9 @@ pub enum Put {
     Written(usize),
 }
 
-// Whether a node is an Attribute that no sibling follows: it writes nothing, and nothing stands behind it.
+// Whether a node is an Attribute that no sibling follows.
 fn is_last_attribute(file: &[u8], tape: Sections, a: Cursor) -> bool
-    ensures { λ r. ⌜ (r ≡ true → WritesNothing (tapeIn tape (now (file .entry))) (At a)) ⌝ }
+    ensures { λ r. ⌜ (r ≡ true → LastAttribute (tapeIn tape (now (file .entry))) a) ⌝ }
 {
     if a.kind(file, tape).code != Kind::ATTRIBUTE {
         return false;
@@ -66,98 +65,145 @@ fn only_text(file: &[u8], tape: Sections, c: Cursor) -> Step
     }
 }
 
-// A char around a text whose body starts here and is so long.
-fn put_lone(
-    file: &[u8],
-    tape: Sections,
-    solids: &[u32],
-    c: Cursor,
-    tail: &[u8],
-    front: usize,
+// The end of a char's opening tag, the first bytes of a text, which are written as they stand, and the char's end.
+fn put_held(s: &[u8], len: usize, at: usize, desk: &mut Numbers, out: &mut [u8]) -> usize
+    ensures { λ r. ⌜ ((t : Bytes) → escape false t ≡ take len (now (s .entry)) → Drew at (now (desk .entry)) (now (out .entry)) (ends ∷ words t ∷ closes 6 ∷ []) r (now (desk .exit)) (now (out .exit))) ⌝ }
+{
+    let sole = Normalized {
+        lead: false,
+        trail: false,
+        shows: true,
+    };
+    let a = end_tag(at, desk, out);
+    let z = text_body(a, desk, out, s, len, sole);
+    close_char(z, desk, out)
+}
+
+// A char of this name around them.
+fn put_bare(
+    name: &[u8],
+    s: &[u8],
     len: usize,
-    n: Normalized,
     at: usize,
     desk: &mut Numbers,
     out: &mut [u8],
 ) -> usize
-    requires { ⌜ Solids (tapeIn tape (now file)) (now solids) ⌝ }
-    ensures { λ r. ⌜ ((size : ℕ) (ends : Bool) → Framed (now (tail .entry)) size (record { front = front; len = len; ends = ends }) → deskOf (tapeIn tape (now (file .entry)) .source) r (now (desk .exit)) (now (out .exit)) ≡ emitAll (deskOf (tapeIn tape (now (file .entry)) .source) at (now (desk .entry)) (now (out .entry))) (markerOpens (tapeIn tape (now (file .entry))) (c .at) char ++ (broken (take size (now (tail .entry))) n ++ markerCloses (tapeIn tape (now (file .entry))) (c .at) char))) ⌝ }
+    ensures { λ r. ⌜ ((t : Bytes) → escape false t ≡ take len (now (s .entry)) → Drew at (now (desk .entry)) (now (out .entry)) (loneChar (now (name .entry)) [] t) r (now (desk .exit)) (now (out .exit))) ⌝ }
 {
-    let a = open_char(file, tape, solids, c, at, desk, out);
-    let z = put_framed(tail, front, len, n, a, desk, out);
-    close_char(file, tape, solids, c, z, desk, out)
+    let a = open_char(at, desk, out, name);
+    put_held(s, len, a, desk, out)
 }
 
-// A char that holds one text alone, if it is walked, its frame tells the text, and the text does not end with white space: its opening tags, the text, its closing tags.
-fn lone_char(
+// The same with attributes, which are written as they stand behind a space.
+fn put_given(
+    name: &[u8],
+    given: &[u8],
+    s: &[u8],
+    len: usize,
+    at: usize,
+    desk: &mut Numbers,
+    out: &mut [u8],
+) -> usize
+    ensures { λ r. ⌜ ((qs : List Attr) → b " " ++ now (given .entry) ≡ attrsBytes qs → (t : Bytes) → escape false t ≡ take len (now (s .entry)) → Drew at (now (desk .entry)) (now (out .entry)) (loneChar (now (name .entry)) qs t) r (now (desk .exit)) (now (out .exit))) ⌝ }
+{
+    let a = open_char(at, desk, out, name);
+    let z = attr_as_it_stands(a, desk, out, given);
+    put_held(s, len, z, desk, out)
+}
+
+// A char of this name around the first bytes of a text, if no Attribute follows the text or one that is written as it stands.
+fn put_around(
     file: &[u8],
     tape: Sections,
-    solids: &[u32],
+    k: Cursor,
+    name: &[u8],
+    s: &[u8],
+    len: usize,
+    at: usize,
+    desk: &mut Numbers,
+    out: &mut [u8],
+) -> Put
+    ensures { λ r. ⌜ ((n : ℕ) → OnlyText (tapeIn tape (now (file .entry))) n k → (t : Bytes) → escape false t ≡ take len (now (s .entry)) → PutAs (tapeIn tape (now (file .entry)) .source) at (now (desk .entry)) (now (out .entry)) (charAround (tapeIn tape (now (file .entry))) n (now (name .entry)) (item (text t) ∷ [])) (now (desk .exit)) (now (out .exit)) r) ⌝ }
+{
+    let Step::At(a) = k.next_sibling(file, tape) else {
+        return Put::Written(put_bare(name, s, len, at, desk, out));
+    };
+    if parts::same(name, b"fig") {
+        return Put::Nothing;
+    }
+    let given = a.text(file, tape);
+    if !barred::is_barred(given) {
+        return Put::Nothing;
+    }
+    Put::Written(put_given(name, parts::from(given, 1), s, len, at, desk, out))
+}
+
+// The same around a whole text, if its frame tells it and it does not end with white space.
+fn put_lone(
+    file: &[u8],
+    tape: Sections,
+    k: Cursor,
+    name: &[u8],
+    at: usize,
+    desk: &mut Numbers,
+    out: &mut [u8],
+) -> Put
+    ensures { λ r. ⌜ ((n : ℕ) → OnlyText (tapeIn tape (now (file .entry))) n k → (node : ℕ → Bool → List Event) (behind : Bool) → PutAs (tapeIn tape (now (file .entry)) .source) at (now (desk .entry)) (now (out .entry)) (charAround (tapeIn tape (now (file .entry))) n (now (name .entry)) (inlineAll node (tapeIn tape (now (file .entry))) behind true (children (tapeIn tape (now (file .entry))) n))) (now (desk .exit)) (now (out .exit)) r) ⌝ }
+{
+    let tail = k.tail(file, tape);
+    let size = k.size(file, tape);
+    let front = white_front(tail, size);
+    if size <= front {
+        return Put::Nothing;
+    }
+    if 0 < white_back(tail, front, size) {
+        return Put::Nothing;
+    }
+    let len = size - front;
+    if !is_framed(tail, size, front, len) {
+        return Put::Nothing;
+    }
+    put_around(
+        file,
+        tape,
+        k,
+        name,
+        parts::from(tail, front),
+        len,
+        at,
+        desk,
+        out,
+    )
+}
+
+// A node, if a look tells that it is a char around one text alone; what follows its parent does not matter then.
+pub fn lone(
+    file: &[u8],
+    tape: Sections,
     c: Cursor,
     depth: usize,
     at: usize,
     desk: &mut Numbers,
     out: &mut [u8],
 ) -> Put
-    requires { ⌜ Solids (tapeIn tape (now file)) (now solids) ⌝ }
-    ensures { λ r. ⌜ ((outer : Bool) → char ≡ roleOf (tapeIn tape (now (file .entry))) (c .at) → PutAs (tapeIn tape (now (file .entry)) .source) at (now (desk .entry)) (now (out .entry)) (markerAs (insideOf (tapeIn tape (now (file .entry))) depth) (tapeIn tape (now (file .entry))) (c .at) outer (roleOf (tapeIn tape (now (file .entry))) (c .at))) (now (desk .exit)) (now (out .exit)) r) ⌝ }
+    ensures { λ r. ⌜ ((outer : Bool) → PutAs (tapeIn tape (now (file .entry)) .source) at (now (desk .entry)) (now (out .entry)) (nodeIn (insideOf (tapeIn tape (now (file .entry))) depth) (tapeIn tape (now (file .entry))) (c .at) outer) (now (desk .exit)) (now (out .exit)) r) ⌝ }
+    ensures { λ r. ⌜ KeepsBehind (tapeIn tape (now (file .entry))) (c .at) r ⌝ }
 {
     if depth == 0 {
+        return Put::Nothing;
+    }
+    if c.kind(file, tape).code != Kind::MARKER_OPEN {
+        return Put::Nothing;
+    }
+    if !put_markers::is_flat(file, tape, c) {
         return Put::Nothing;
     }
     let Step::At(k) = only_text(file, tape, c) else {
         return Put::Nothing;
     };
-    let tail = k.tail(file, tape);
-    let size = k.size(file, tape);
-    let front = white_front(tail, size);
-    if 0 < white_back(tail, front, size) {
+    let name = tape::name_in(c.text(file, tape));
+    if !roles::is_char(file, tape, c, name) {
         return Put::Nothing;
     }
-    if !is_framed(tail, size, front, size - front) {
-        return Put::Nothing;
-    }
-    let n = framed_text(front, size - front, false, false, false);
-    Put::Written(put_lone(
-        file,
-        tape,
-        solids,
-        c,
-        tail,
-        front,
-        size - front,
-        n,
-        at,
-        desk,
-        out,
-    ))
-}
-
-// A marker that holds one text alone, where it is such a char.
-pub fn lone(
-    file: &[u8],
-    tape: Sections,
-    solids: &[u32],
-    c: Cursor,
-    role: Role,
-    depth: usize,
-    at: usize,
-    desk: &mut Numbers,
-    out: &mut [u8],
-) -> Put
-    requires { ⌜ Solids (tapeIn tape (now file)) (now solids) ⌝ }
-    ensures { λ r. ⌜ ((outer : Bool) → roleIn role ≡ roleOf (tapeIn tape (now (file .entry))) (c .at) → PutAs (tapeIn tape (now (file .entry)) .source) at (now (desk .entry)) (now (out .entry)) (markerAs (insideOf (tapeIn tape (now (file .entry))) depth) (tapeIn tape (now (file .entry))) (c .at) outer (roleOf (tapeIn tape (now (file .entry))) (c .at))) (now (desk .exit)) (now (out .exit)) r) ⌝ }
-{
-    match role {
-        Role::UnknownBlock => Put::Nothing,
-        Role::UnknownInline => Put::Nothing,
-        Role::Unwritten => Put::Nothing,
-        Role::Figure => Put::Nothing,
-        Role::Ref => Put::Nothing,
-        Role::Id => Put::Nothing,
-        Role::Note => Put::Nothing,
-        Role::Ms => Put::Nothing,
-        Role::Char => lone_char(file, tape, solids, c, depth, at, desk, out),
-        Role::Para => Put::Nothing,
-    }
+    put_lone(file, tape, k, name, at, desk, out)
 }

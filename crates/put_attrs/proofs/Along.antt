@@ -79,6 +79,21 @@ pub none-drawn : {at : ℕ} (d : List ℕ) {out : Bytes} {ps : List Pair} → ps
 unfolding collected strokesOfAttrs
 none-drawn d e = rw e (drew-none d)
 
+-- ---- one Attribute behind a text
+
+-- a node that holds a text and an Attribute that is written as it stands
+pub given-barred : (t : Tape) (k : ℕ) (c a : Cursor) → firstChild t k ≡ At c → kindAt t (c .at) ≡ 1 → nextSibling t (c .at) ≡ At a → kindAt t (a .at) ≡ 2 → nextSibling t (a .at) ≡ Done
+    → (m : Bytes) {f : Bool} → f ≡ same m (b "fig") → f ≡ false → {x : Bytes} → x ≡ textAt t (a .at) → Barred x → b " " ++ drop 1 x ≡ attrsBytes (collected (attributesOf t k m))
+unfolding pairsAt
+given-barred t k c a ec hc ea ha en m ef hf {x} ex z =
+    sym (ap (λ (ps : List Pair). attrsBytes (collected ps)) (sym (of-children t k refl m)
+    ∙ past-other t c ec refl {k = record { code = kindAt t (c .at) }} refl (λ e. omega arith) m
+    ∙ behind t a ea refl {k = record { code = kindAt t (a .at) }} refl m
+    ∙ ap (λ (ps : List Pair). pairsAt t m (a .at) ++ ps) (none-on t en m)
+    ∙ append-nil (pairsAt t m (a .at))
+    ∙ rw (eq-eqb (kindAt t (a .at)) 2 ha, ex))
+    ∙ barred-written m (sym ef ∙ hf) z)
+
 -- ---- to the first Attribute
 
 -- the nodes from a step on have the attributes of those from another on

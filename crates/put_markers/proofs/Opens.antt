@@ -1,9 +1,10 @@
 -- What opens a marker.
-use mathlib.Core.Path.{_≡_, refl, ap, _∙_}
-use mathlib.Core.Bool.{Bool, true, false, cond}
+use mathlib.Core.Path.{_≡_, refl, sym, ap, _∙_}
+use mathlib.Core.Bool.{Bool, true, false, not, cond}
 use mathlib.Core.List.{List, [], _∷_, _++_}
-use mathlib.Core.Option.{Option}
+use mathlib.Core.Option.{Option, none}
 use Prim.Native.Nat.{ℕ}
+use borrow.Author.Tests.{not-true}
 use Rattle.parts.specs.Bytes.{Bytes, b}
 use Rattle.window.specs.Page.{paint}
 use Rattle.tape.specs.File.{Tape, nodeAt, isSynthetic, isNested}
@@ -44,6 +45,22 @@ module _ (t : Tape) (k : ℕ) {x : Bool} (ex : x ≡ isSynthetic t (nodeAt t k .
   pub unclosed-none : x ≡ false → Drew at d out (strokesOfAttrs (unclosed t k)) at d out
   unfolding unclosed strokesOfAttrs strokes putOn inkAll paint
   unclosed-none hx = rw (← ex, hx) (record { on = λ source. refl })
+
+-- a marker that is closed in the source and links nothing
+module _ (t : Tape) (k : ℕ) where
+  pub flat-closed : {x : Bool} → x ≡ isSynthetic t (nodeAt t k .link) → not x ≡ true → unclosed t k ≡ []
+  unfolding unclosed
+  flat-closed {x} ex hx = rw (← ex, not-true x hx)
+
+  pub flat-link : {y : Bool} → y ≡ isNested t k → y ≡ false → linkOf t k ≡ none
+  unfolding soughtOf
+  flat-link ey hy = sym (link-flat t k ey (rw hy))
+
+  pub flat-not : false ≡ true → unclosed t k ≡ []
+  flat-not e = ap (λ (x : Bool). cond x [] (unclosed t k)) e
+
+  pub link-not : false ≡ true → linkOf t k ≡ none
+  link-not e = ap (λ (x : Bool). cond x none (linkOf t k)) e
 
 -- what is not told to be bare says nothing
 pub bare-not : (t : Tape) (k : ℕ) → false ≡ true → (m : Bytes) → attributesOf t k m ≡ []

@@ -3,9 +3,8 @@ mod close;
 mod leaf;
 mod open;
 
-pub use close::close_char;
 pub use close::close_marker;
 pub use leaf::write_leaf;
-pub use open::open_char;
+pub use open::is_flat;
 pub use open::open_marker;
 pub use open::put_unclosed;

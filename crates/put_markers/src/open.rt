@@ -2,6 +2,7 @@
 ghost use mathlib.Core.Path.{_≡_};
 ghost use mathlib.Core.Bool.{true};
 ghost use mathlib.Core.List.{[], _∷_, _++_};
+ghost use mathlib.Core.Option.{none};
 ghost use Rattle.parts.specs.Bytes.{Bytes, b};
 ghost use Rattle.tape.specs.File.{tapeIn, nodeAt, isSynthetic};
 ghost use Rattle.tape.specs.Name.{markerName};
@@ -11,7 +12,7 @@ ghost use Rattle.attrs.specs.Attr.{attributesOf};
 ghost use Rattle.attrs.specs.Walk.{soughtOf};
 ghost use Rattle.tags.specs.Items.{start};
 ghost use Rattle.events.specs.Event.{rawly, escaped, perhaps, collected};
-ghost use Rattle.events.specs.Walk.{style, styled, unclosed, char};
+ghost use Rattle.events.specs.Walk.{style, styled, unclosed, linkOf, char};
 ghost use Rattle.events.specs.Emit.{emitAll};
 ghost use Rattle.desk.specs.Desk.{deskOf};
 ghost use Rattle.desk.specs.Named.{numberOf};
@@ -88,6 +89,17 @@ fn ends_synthetic(file: &[u8], tape: Sections, c: Cursor) -> bool
     ensures { λ r. ⌜ r ≡ isSynthetic (tapeIn tape (now (file .entry))) (nodeAt (tapeIn tape (now (file .entry))) (c .at) .link) ⌝ }
 {
     Cursor::new(c.link(file, tape)).is_synthetic(file, tape)
+}
+
+// Whether a look tells that a marker is closed in the source and links nothing.
+pub fn is_flat(file: &[u8], tape: Sections, c: Cursor) -> bool
+    ensures { λ r. ⌜ (r ≡ true → unclosed (tapeIn tape (now (file .entry))) (c .at) ≡ []) ⌝ }
+    ensures { λ r. ⌜ (r ≡ true → linkOf (tapeIn tape (now (file .entry))) (c .at) ≡ none) ⌝ }
+{
+    if c.is_nested(file, tape) {
+        return false;
+    }
+    !ends_synthetic(file, tape, c)
 }
 
 // `closed="false"` where a marker is not closed in the source.

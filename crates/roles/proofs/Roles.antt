@@ -1,6 +1,6 @@
 -- What a MarkerOpen is written as, from what was read.
 use mathlib.Core.Path.{_≡_, refl, sym, ap, _∙_}
-use mathlib.Core.Bool.{Bool, true, false, not, cond, and-false}
+use mathlib.Core.Bool.{Bool, true, false, not, cond, and-false, or-true}
 use mathlib.Core.List.{[], _∷_}
 use mathlib.Core.Option.{Option}
 use Prim.Native.Nat.{ℕ, _≤_, _<_}
@@ -23,7 +23,7 @@ use Rattle.tape.proofs.NameRule.{name-of}
 use Rattle.tape.proofs.Walk.{children-walk}
 use Rattle.render.specs.First.{firstWith, any}
 use Rattle.render.specs.Children.{hasContent}
-use Rattle.render.specs.Shape.{unknownShape}
+use Rattle.render.specs.Shape.{unknownShape, isOpen, isVerse, isText, isInline, inlineMarker, inlineCategory}
 use Rattle.render.specs.declared.shape.Shape.{Shape}
 use Rattle.render.proofs.Shapes.{kind-is, kind-not}
 use Rattle.render.proofs.Finds.{first-end, first-here, first-past}
@@ -31,7 +31,7 @@ use Rattle.attrs.specs.Attr.{attributesOf}
 use Rattle.attrs.specs.Walk.{firstOf, soughtOf}
 use Rattle.attrs.specs.declared.Sought.the-variants.{Nowhere}
 use Rattle.figure.specs.Figure.{legacyAt}
-use Rattle.events.specs.Walk.{Role as Written, roleOf, roleBy, roleOfShape, roleOfCategory, isRef, canLink, linkOf}
+use Rattle.events.specs.Walk.{Role as Written, char, roleOf, roleBy, roleOfShape, roleOfCategory, isRef, canLink, linkOf}
 use Rattle.roles.specs.declared.Role.{Role}
 use Rattle.roles.specs.declared.Role.the-variants.{Unwritten, Figure, Ref, Id, Note, Ms, Char, Para}
 use Rattle.roles.specs.Roles.{roleIn, roleOfEntry, isWhole}
@@ -139,6 +139,24 @@ module _ (t : Tape) (k : ℕ) {i : Info} (ei : i ≡ infoAt t k) where
   pub role-unknown : {s : Shape} {r : Written} → i ≡ Unknown → s ≡ unknownShape t k → r ≡ roleOfShape s → r ≡ roleOf t k
   unfolding roleOf roleBy
   role-unknown ee es er = rw (← ei, ee) (er ∙ ap roleOfShape es)
+
+-- a look at an entry of characters
+module _ (t : Tape) (k : ℕ) {i : Info} (ei : i ≡ infoAt t k) {e : Entry} (ee : i ≡ Known e) (hc : e .category .code ≡ 4) where
+  pub char-told : {u : Bool} → u ≡ same (entryName t e) (b "usfm") → u ≡ false → {f : Bool} → f ≡ same (entryName t e) (b "fig") → f ≡ false → (name : Bytes) {x : Bool} → x ≡ same name (b "ref")
+      → not x ≡ true → name ≡ markerName t k → roleOf t k ≡ char
+  unfolding roleIn
+  char-told eu hu ef hf name {x} ex hx en = sym (role-known t k ei ee (known-char t k e eu hu ef hf (ex ∙ ap (λ (z : Bytes). same z (b "ref")) en) (not-true x hx) hc))
+
+  pub inline-told : isOpen t k ≡ true → isInline t k ≡ true
+  unfolding isInline inlineMarker inlineCategory
+  inline-told h = rw (h, ← ei, ee, hc, or-true (isVerse t k), or-true (isText t k))
+
+module _ (t : Tape) (k : ℕ) (e : false ≡ true) where
+  pub char-not : roleOf t k ≡ char
+  char-not = ap (λ (x : Bool). cond x char (roleOf t k)) e
+
+  pub inline-not : isInline t k ≡ true
+  inline-not = ap (λ (x : Bool). cond x true (isInline t k)) e
 
 -- ---- whether the events inside are written
 

@@ -1,5 +1,6 @@
 // The roles of MarkerOpens, and what is linked.
 ghost use mathlib.Core.Path.{_≡_};
+ghost use mathlib.Core.Bool.{true};
 ghost use Rattle.parts.specs.Bytes.{b, same};
 ghost use Rattle.tape.specs.File.{tapeIn, entryName};
 ghost use Rattle.tape.specs.Name.{markerName};
@@ -7,8 +8,9 @@ ghost use Rattle.tape.specs.Tree.{children};
 ghost use Rattle.tape.specs.declared.Info.the-variants.{Known};
 ghost use Rattle.leading_white.specs.Lean.{Solids};
 ghost use Rattle.render.specs.First.{any};
+ghost use Rattle.render.specs.Shape.{isOpen, isInline};
 ghost use Rattle.attrs.specs.Walk.{soughtOf};
-ghost use Rattle.events.specs.Walk.{roleOf, roleBy, roleOfShape, roleOfCategory, isRef, canLink, linkOf};
+ghost use Rattle.events.specs.Walk.{char, roleOf, roleBy, roleOfShape, roleOfCategory, isRef, canLink, linkOf};
 ghost use Rattle.roles.specs.Roles.{roleIn, roleOfEntry, isWhole, mannerOf, mannerBy};
 use attrs::Sought;
 use render::Shape;
@@ -125,6 +127,28 @@ pub fn role_of(file: &[u8], tape: Sections, c: Cursor) -> Role
     match c.marker_info(file, tape) {
         Info::Known(e) => role_known(file, tape, c, e),
         Info::Unknown => role_of_shape(render::unknown_shape(file, tape, c)),
+    }
+}
+
+// Whether a look tells that a marker of this name is a char: its entry is of characters, and no name decides otherwise.
+pub fn is_char(file: &[u8], tape: Sections, c: Cursor, name: &[u8]) -> bool
+    ensures { λ r. ⌜ (r ≡ true → now (name .entry) ≡ markerName (tapeIn tape (now (file .entry))) (c .at) → roleOf (tapeIn tape (now (file .entry))) (c .at) ≡ char) ⌝ }
+    ensures { λ r. ⌜ (r ≡ true → isOpen (tapeIn tape (now (file .entry))) (c .at) ≡ true → isInline (tapeIn tape (now (file .entry))) (c .at) ≡ true) ⌝ }
+{
+    match c.marker_info(file, tape) {
+        Info::Known(e) => {
+            if e.category.code != Category::CHARACTER {
+                return false;
+            }
+            if is_entry(file, tape, e, b"usfm") {
+                return false;
+            }
+            if is_entry(file, tape, e, b"fig") {
+                return false;
+            }
+            !parts::same(name, b"ref")
+        }
+        Info::Unknown => false,
     }
 }
 

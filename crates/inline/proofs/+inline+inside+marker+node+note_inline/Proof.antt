@@ -11,8 +11,8 @@ use Rattle.events.specs.Walk.{nodeIn, inside as insideOf, inlineAll, noteAll}
 use Rattle.events.specs.Emit.{emitAll}
 use Rattle.desk.specs.Desk.{deskOf}
 use Rattle.inline_turns.specs.Turn.{KeptAt, behindOf}
-use Rattle.inline.proofs.Steps.{marker-whole, marker-leaf, node-chapter, node-verse, node-marker, node-other, inside-zero, inside-inline, inside-note, inline-done, inline-ended, inline-entered, inline-plain, note-done, note-ended, note-entered, note-plain, kept-plain}
-use Rattle.inline.proofs.Alone.{put-written, put-nothing, from-same}
+use Rattle.inline.proofs.Steps.{marker-whole, marker-leaf, node-chapter, node-verse, node-marker, node-other, inside-zero, inside-inline, inside-note, inline-done, inline-ended, inline-entered, inline-lone, inline-plain, note-done, note-ended, note-entered, note-lone, note-plain, kept-plain}
+use Rattle.inline.proofs.Alone.{put-nothing, from-same}
 use Rattle.inline_turns.proofs.Laws.{kept-here}
 use borrow.Fn.Kinds.{In}
 use borrow.Fn.PlainCycle.{Measures, is, falls, and}
@@ -100,19 +100,19 @@ abbrev note-inline-below : ℕ → In 4 note-inline-kinds.ps
 note-inline-below t = and 4 note-inline-kinds.ps (falls 4 note-inline-kinds.ps _<_ μ-note-inline t) note-inline.Pre
 
 abbrev inline-calls : ℕ → inline-lts.Claims
-inline-calls t = (sort-in-reads.Asked, sort-in-reads.Learnt, ask-reads.Asked, ask-reads.Learnt, follows-reads.Asked, follows-reads.Learnt, node-below t, node.Post, trims-after-reads.Asked, trims-after-reads.Learnt, next-sibling-reads.Asked, next-sibling-reads.Learnt, plain-turn-reads.Asked, plain-turn-reads.Learnt)
+inline-calls t = (sort-in-reads.Asked, sort-in-reads.Learnt, lone-reads.Asked, lone-reads.Learnt, next-sibling-reads.Asked, next-sibling-reads.Learnt, ask-reads.Asked, ask-reads.Learnt, follows-reads.Asked, follows-reads.Learnt, node-below t, node.Post, trims-after-reads.Asked, trims-after-reads.Learnt, plain-turn-reads.Asked, plain-turn-reads.Learnt)
 
 abbrev inside-calls : ℕ → inside-lts.Claims
 inside-calls t = (first-child-reads.Asked, first-child-reads.Learnt, note-inline-below t, note-inline.Post, inline-below t, inline.Post)
 
 abbrev marker-calls : ℕ → marker-lts.Claims
-marker-calls t = (role-of-reads.Asked, role-of-reads.Learnt, lone-reads.Asked, lone-reads.Learnt, is-whole-reads.Asked, is-whole-reads.Learnt, open-marker-reads.Asked, open-marker-reads.Learnt, is-note-reads.Asked, is-note-reads.Learnt, inside-below t, inside.Post, close-marker-reads.Asked, close-marker-reads.Learnt, write-leaf-reads.Asked, write-leaf-reads.Learnt)
+marker-calls t = (role-of-reads.Asked, role-of-reads.Learnt, is-whole-reads.Asked, is-whole-reads.Learnt, open-marker-reads.Asked, open-marker-reads.Learnt, is-note-reads.Asked, is-note-reads.Learnt, inside-below t, inside.Post, close-marker-reads.Asked, close-marker-reads.Learnt, write-leaf-reads.Asked, write-leaf-reads.Learnt)
 
 abbrev node-calls : ℕ → node-lts.Claims
 node-calls t = (kind-reads.Asked, kind-reads.Learnt, number-reads.Asked, number-reads.Learnt, chapter-reads.Asked, chapter-reads.Learnt, verse-reads.Asked, verse-reads.Learnt, marker-below t, marker.Post)
 
 abbrev note-inline-calls : ℕ → note-inline-lts.Claims
-note-inline-calls t = (note-sort-reads.Asked, note-sort-reads.Learnt, ask-reads.Asked, ask-reads.Learnt, follows-reads.Asked, follows-reads.Learnt, node-below t, node.Post, trims-after-reads.Asked, trims-after-reads.Learnt, next-sibling-reads.Asked, next-sibling-reads.Learnt, note-turn-reads.Asked, note-turn-reads.Learnt)
+note-inline-calls t = (note-sort-reads.Asked, note-sort-reads.Learnt, lone-reads.Asked, lone-reads.Learnt, next-sibling-reads.Asked, next-sibling-reads.Learnt, ask-reads.Asked, ask-reads.Learnt, follows-reads.Asked, follows-reads.Learnt, node-below t, node.Post, trims-after-reads.Asked, trims-after-reads.Learnt, note-turn-reads.Asked, note-turn-reads.Learnt)
 
 -- ---- inline
 
@@ -152,6 +152,24 @@ inline-returns-2 t c = search inline-ended
 inline-enum-told-3 : (t : ℕ) → inline-lts.Need-enum-told-3 (inline-calls t) (inline-at t) inline.Post inline-Inv-loop inline-μ-loop
 inline-enum-told-3 t c = search needs
 
+inline-lone-requires : (t : ℕ) → inline-lts.Need-lone-requires (inline-calls t) (inline-at t) inline.Post inline-Inv-loop inline-μ-loop
+inline-lone-requires t c κs = search needs
+
+inline-enum-known-z : (t : ℕ) → inline-lts.Need-enum-known-z (inline-calls t) (inline-at t) inline.Post inline-Inv-loop inline-μ-loop
+inline-enum-known-z t c = search needs
+
+inline-next-sibling-requires : (t : ℕ) → inline-lts.Need-next-sibling-requires (inline-calls t) (inline-at t) inline.Post inline-Inv-loop inline-μ-loop
+inline-next-sibling-requires t c κs = search needs
+
+inline-loop-less : (t : ℕ) → inline-lts.Need-loop-less (inline-calls t) (inline-at t) inline.Post inline-Inv-loop inline-μ-loop
+inline-loop-less t c = search left-turn
+
+inline-loop-again : (t : ℕ) → inline-lts.Need-loop-again (inline-calls t) (inline-at t) inline.Post inline-Inv-loop inline-μ-loop
+inline-loop-again t c = (search (inline-lone _ _ _ _ _ _ _ _ (c .before .before .before .before .before .before .before .before .before .before .before .before .before .before .before .loop .inv .0) _ _ _ _ _ _ _ (c .before .before .before .before .before .before .lone .result) refl (c .before .before .before .before .before .before .lone .ensures .0) (c .before .before .before .before .before .before .lone .ensures .1)), (search kept-here, search (needs, c .before .before .before .before .before .before .before .before .before .before .before .before .before .before .before .loop .inv, c .before .before .before .before .before .before .before .before .before .before .before .before .before .before .before .before .slice-known)))
+
+inline-enum-told-4 : (t : ℕ) → inline-lts.Need-enum-told-4 (inline-calls t) (inline-at t) inline.Post inline-Inv-loop inline-μ-loop
+inline-enum-told-4 t c = search needs
+
 inline-ask-requires : (t : ℕ) → inline-lts.Need-ask-requires (inline-calls t) (inline-at t) inline.Post inline-Inv-loop inline-μ-loop
 inline-ask-requires t c κs = search needs
 
@@ -164,14 +182,14 @@ inline-node-requires t c κs = search needs
 inline-trims-after-requires : (t : ℕ) → inline-lts.Need-trims-after-requires (inline-calls t) (inline-at t) inline.Post inline-Inv-loop inline-μ-loop
 inline-trims-after-requires t c κs = search needs
 
-inline-next-sibling-requires : (t : ℕ) → inline-lts.Need-next-sibling-requires (inline-calls t) (inline-at t) inline.Post inline-Inv-loop inline-μ-loop
-inline-next-sibling-requires t c κs = search needs
+inline-next-sibling-requires-2 : (t : ℕ) → inline-lts.Need-next-sibling-requires-2 (inline-calls t) (inline-at t) inline.Post inline-Inv-loop inline-μ-loop
+inline-next-sibling-requires-2 t c κs = search needs
 
-inline-loop-less : (t : ℕ) → inline-lts.Need-loop-less (inline-calls t) (inline-at t) inline.Post inline-Inv-loop inline-μ-loop
-inline-loop-less t c = search left-turn
+inline-loop-less-2 : (t : ℕ) → inline-lts.Need-loop-less-2 (inline-calls t) (inline-at t) inline.Post inline-Inv-loop inline-μ-loop
+inline-loop-less-2 t c = left-turn _ _ (c .before .before .before .before .before .before .before .before .before .before .before .before .before .before .before .before .before .before .before .before .step .given .1) (c .next-sibling2 .ensures)
 
-inline-loop-again : (t : ℕ) → inline-lts.Need-loop-again (inline-calls t) (inline-at t) inline.Post inline-Inv-loop inline-μ-loop
-inline-loop-again t c = (search (inline-entered _ _ _ _ _ _ _ _ (c .before .before .before .before .before .before .before .before .before .before .before .before .before .before .before .loop .inv .0)), (search kept-here, search (needs, c .before .before .before .before .before .before .before .before .before .before .before .before .before .before .before .loop .inv, c .before .before .before .before .before .before .before .before .before .before .before .before .before .before .before .before .slice-known)))
+inline-loop-again-2 : (t : ℕ) → inline-lts.Need-loop-again-2 (inline-calls t) (inline-at t) inline.Post inline-Inv-loop inline-μ-loop
+inline-loop-again-2 t c = (inline-entered _ _ _ _ _ _ _ _ (from-same (put-nothing _ _ _ _ _ _ _ {r = c .before .before .before .before .before .before .before .before .before .before .before .before .before .lone .result} (c .before .before .before .before .before .before .before .before .before .before .before .before .before .lone .ensures .0 true) (search needs)) _ (c .before .before .before .before .before .before .before .before .before .before .before .before .before .before .before .before .before .before .before .before .before .before .loop .inv .0)) (c .before .before .before .before .before .before .before .before .before .before .before .before .before .before .before .before .before .before .before .before .step .given .1) (c .before .before .before .before .before .before .before .before .before .before .before .before .before .before .before .before .before .before .sort-in .ensures) (c .before .before .before .before .before .before .before .before .before .before .before .before .before .before .before .before .enum-told3 .given .1) (c .before .before .before .before .before .before .before .before .ask .ensures) (c .before .before .before .before .before .before .before .follows .ensures) (c .before .before .before .before .node .ensures) (c .before .trims-after .ensures) (c .next-sibling2 .ensures), (search kept-here, search (needs, c .before .before .before .before .before .before .before .before .before .before .before .before .before .before .before .before .before .before .before .before .before .before .loop .inv, c .before .before .before .before .before .before .before .before .before .before .before .before .before .before .before .before .before .before .before .before .before .before .before .slice-known)))
 
 inline-enum-known-child : (t : ℕ) → inline-lts.Need-enum-known-child (inline-calls t) (inline-at t) inline.Post inline-Inv-loop inline-μ-loop
 inline-enum-known-child t c = search needs
@@ -179,11 +197,11 @@ inline-enum-known-child t c = search needs
 inline-plain-turn-requires : (t : ℕ) → inline-lts.Need-plain-turn-requires (inline-calls t) (inline-at t) inline.Post inline-Inv-loop inline-μ-loop
 inline-plain-turn-requires t c κs = search needs
 
-inline-loop-less-2 : (t : ℕ) → inline-lts.Need-loop-less-2 (inline-calls t) (inline-at t) inline.Post inline-Inv-loop inline-μ-loop
-inline-loop-less-2 t c = search left-behind
+inline-loop-less-3 : (t : ℕ) → inline-lts.Need-loop-less-3 (inline-calls t) (inline-at t) inline.Post inline-Inv-loop inline-μ-loop
+inline-loop-less-3 t c = search left-behind
 
-inline-loop-again-2 : (t : ℕ) → inline-lts.Need-loop-again-2 (inline-calls t) (inline-at t) inline.Post inline-Inv-loop inline-μ-loop
-inline-loop-again-2 t c = (search inline-plain, (search kept-plain, search needs))
+inline-loop-again-3 : (t : ℕ) → inline-lts.Need-loop-again-3 (inline-calls t) (inline-at t) inline.Post inline-Inv-loop inline-μ-loop
+inline-loop-again-3 t c = (search inline-plain, (search kept-plain, search needs))
 
 -- ---- inside
 
@@ -222,15 +240,6 @@ inside-returns-3 t c = search inside-inline
 marker-role-of-requires : (t : ℕ) → marker-lts.Need-role-of-requires (marker-calls t) (marker-at t) marker.Post
 marker-role-of-requires t c κs = search needs
 
-marker-lone-requires : (t : ℕ) → marker-lts.Need-lone-requires (marker-calls t) (marker-at t) marker.Post
-marker-lone-requires t c κs = search needs
-
-marker-enum-known-z : (t : ℕ) → marker-lts.Need-enum-known-z (marker-calls t) (marker-at t) marker.Post
-marker-enum-known-z t c = search needs
-
-marker-enum-told : (t : ℕ) → marker-lts.Need-enum-told (marker-calls t) (marker-at t) marker.Post
-marker-enum-told t c = search needs
-
 marker-is-whole-requires : (t : ℕ) → marker-lts.Need-is-whole-requires (marker-calls t) (marker-at t) marker.Post
 marker-is-whole-requires t c κs = search needs
 
@@ -244,7 +253,7 @@ marker-inside-requires : (t : ℕ) → marker-lts.Need-inside-requires (marker-c
 marker-inside-requires t c κs = search needs
 
 marker-close-marker-requires : (t : ℕ) → marker-lts.Need-close-marker-requires (marker-calls t) (marker-at t) marker.Post
-marker-close-marker-requires t c κs = c .before .before .before .before .before .before .before .before .before .before .before .before .before .before .before .before .before .before .before .before .before .before .before .before .before .before .pre .1
+marker-close-marker-requires t c κs = c .before .before .before .before .before .before .before .before .before .before .before .before .before .before .before .before .before .before .before .pre .1
 
 marker-write-leaf-requires : (t : ℕ) → marker-lts.Need-write-leaf-requires (marker-calls t) (marker-at t) marker.Post
 marker-write-leaf-requires t c κs = search needs
@@ -253,19 +262,13 @@ marker-same-length : (t : ℕ) → marker-lts.Need-same-length (marker-calls t) 
 marker-same-length t c = search needs
 
 marker-returns : (t : ℕ) → marker-lts.Need-returns (marker-calls t) (marker-at t) marker.Post
-marker-returns t c = put-written _ _ _ _ _ _ _ {r = c .before .before .before .before .before .lone .result} (c .before .before .before .before .before .lone .ensures _ (c .before .before .before .before .before .before .before .before .role-of .ensures)) (search needs)
+marker-returns t c = marker-whole _ _ _ _ _ (c .before .before .before .before .before .before .before .before .before .before .before .before .before .before .before .before .before .before .role-of .ensures) (c .before .before .before .before .before .before .before .before .before .before .before .before .before .before .before .before .before .is-whole .ensures) (c .before .before .before .before .before .before .before .before .before .before .before .before .before .before .before .before .if1 .taken) _ (c .before .before .before .before .before .before .before .before .before .before .before .before .before .open-marker .ensures) (c .before .before .before .before .before .before .before .before .before .before .is-note .ensures) (c .before .before .before .before .before .before .before .inside .ensures) (c .before .before .close-marker .ensures)
 
 marker-same-length-2 : (t : ℕ) → marker-lts.Need-same-length-2 (marker-calls t) (marker-at t) marker.Post
 marker-same-length-2 t c = search needs
 
 marker-returns-2 : (t : ℕ) → marker-lts.Need-returns-2 (marker-calls t) (marker-at t) marker.Post
-marker-returns-2 t c = from-same _ (marker-whole _ _ _ _ _ (c .before .before .before .before .before .before .before .before .before .before .before .before .before .before .before .before .before .before .before .before .before .before .before .before .before .role-of .ensures) (c .before .before .before .before .before .before .before .before .before .before .before .before .before .before .before .before .before .is-whole .ensures) (c .before .before .before .before .before .before .before .before .before .before .before .before .before .before .before .before .if1 .taken) _ (c .before .before .before .before .before .before .before .before .before .before .before .before .before .open-marker .ensures) (c .before .before .before .before .before .before .before .before .before .before .is-note .ensures) (c .before .before .before .before .before .before .before .inside .ensures) (c .before .before .close-marker .ensures)) (put-nothing _ _ _ _ _ _ _ {r = c .before .before .before .before .before .before .before .before .before .before .before .before .before .before .before .before .before .before .before .before .before .before .lone .result} (c .before .before .before .before .before .before .before .before .before .before .before .before .before .before .before .before .before .before .before .before .before .before .lone .ensures true (c .before .before .before .before .before .before .before .before .before .before .before .before .before .before .before .before .before .before .before .before .before .before .before .before .before .role-of .ensures)) (search needs))
-
-marker-same-length-3 : (t : ℕ) → marker-lts.Need-same-length-3 (marker-calls t) (marker-at t) marker.Post
-marker-same-length-3 t c = search needs
-
-marker-returns-3 : (t : ℕ) → marker-lts.Need-returns-3 (marker-calls t) (marker-at t) marker.Post
-marker-returns-3 t c = from-same _ (marker-leaf _ _ _ _ _ (c .before .before .before .before .before .before .before .before .before .before .before .before .before .before .role-of .ensures) (c .before .before .before .before .before .before .is-whole .ensures) (c .before .before .before .before .before .if1 .left) (c .before .before .write-leaf .ensures)) (put-nothing _ _ _ _ _ _ _ {r = c .before .before .before .before .before .before .before .before .before .before .before .lone .result} (c .before .before .before .before .before .before .before .before .before .before .before .lone .ensures true (c .before .before .before .before .before .before .before .before .before .before .before .before .before .before .role-of .ensures)) (search needs))
+marker-returns-2 t c = search marker-leaf
 
 -- ---- node
 
@@ -343,6 +346,24 @@ note-inline-returns-2 t c = search note-ended
 note-inline-enum-told-3 : (t : ℕ) → note-inline-lts.Need-enum-told-3 (note-inline-calls t) (note-inline-at t) note-inline.Post note-inline-Inv-loop note-inline-μ-loop
 note-inline-enum-told-3 t c = search needs
 
+note-inline-lone-requires : (t : ℕ) → note-inline-lts.Need-lone-requires (note-inline-calls t) (note-inline-at t) note-inline.Post note-inline-Inv-loop note-inline-μ-loop
+note-inline-lone-requires t c κs = search needs
+
+note-inline-enum-known-z : (t : ℕ) → note-inline-lts.Need-enum-known-z (note-inline-calls t) (note-inline-at t) note-inline.Post note-inline-Inv-loop note-inline-μ-loop
+note-inline-enum-known-z t c = search needs
+
+note-inline-next-sibling-requires : (t : ℕ) → note-inline-lts.Need-next-sibling-requires (note-inline-calls t) (note-inline-at t) note-inline.Post note-inline-Inv-loop note-inline-μ-loop
+note-inline-next-sibling-requires t c κs = search needs
+
+note-inline-loop-less : (t : ℕ) → note-inline-lts.Need-loop-less (note-inline-calls t) (note-inline-at t) note-inline.Post note-inline-Inv-loop note-inline-μ-loop
+note-inline-loop-less t c = search left-turn
+
+note-inline-loop-again : (t : ℕ) → note-inline-lts.Need-loop-again (note-inline-calls t) (note-inline-at t) note-inline.Post note-inline-Inv-loop note-inline-μ-loop
+note-inline-loop-again t c = (search (note-lone _ _ _ _ _ _ _ _ (c .before .before .before .before .before .before .before .before .before .before .before .before .before .before .before .loop .inv .0) _ _ _ _ _ _ _ (c .before .before .before .before .before .before .lone .result) refl (c .before .before .before .before .before .before .lone .ensures .0) (c .before .before .before .before .before .before .lone .ensures .1)), (search kept-here, search (needs, c .before .before .before .before .before .before .before .before .before .before .before .before .before .before .before .loop .inv, c .before .before .before .before .before .before .before .before .before .before .before .before .before .before .before .before .slice-known)))
+
+note-inline-enum-told-4 : (t : ℕ) → note-inline-lts.Need-enum-told-4 (note-inline-calls t) (note-inline-at t) note-inline.Post note-inline-Inv-loop note-inline-μ-loop
+note-inline-enum-told-4 t c = search needs
+
 note-inline-ask-requires : (t : ℕ) → note-inline-lts.Need-ask-requires (note-inline-calls t) (note-inline-at t) note-inline.Post note-inline-Inv-loop note-inline-μ-loop
 note-inline-ask-requires t c κs = search needs
 
@@ -355,14 +376,14 @@ note-inline-node-requires t c κs = search needs
 note-inline-trims-after-requires : (t : ℕ) → note-inline-lts.Need-trims-after-requires (note-inline-calls t) (note-inline-at t) note-inline.Post note-inline-Inv-loop note-inline-μ-loop
 note-inline-trims-after-requires t c κs = search needs
 
-note-inline-next-sibling-requires : (t : ℕ) → note-inline-lts.Need-next-sibling-requires (note-inline-calls t) (note-inline-at t) note-inline.Post note-inline-Inv-loop note-inline-μ-loop
-note-inline-next-sibling-requires t c κs = search needs
+note-inline-next-sibling-requires-2 : (t : ℕ) → note-inline-lts.Need-next-sibling-requires-2 (note-inline-calls t) (note-inline-at t) note-inline.Post note-inline-Inv-loop note-inline-μ-loop
+note-inline-next-sibling-requires-2 t c κs = search needs
 
-note-inline-loop-less : (t : ℕ) → note-inline-lts.Need-loop-less (note-inline-calls t) (note-inline-at t) note-inline.Post note-inline-Inv-loop note-inline-μ-loop
-note-inline-loop-less t c = search left-turn
+note-inline-loop-less-2 : (t : ℕ) → note-inline-lts.Need-loop-less-2 (note-inline-calls t) (note-inline-at t) note-inline.Post note-inline-Inv-loop note-inline-μ-loop
+note-inline-loop-less-2 t c = left-turn _ _ (c .before .before .before .before .before .before .before .before .before .before .before .before .before .before .before .before .before .before .before .before .step .given .1) (c .next-sibling2 .ensures)
 
-note-inline-loop-again : (t : ℕ) → note-inline-lts.Need-loop-again (note-inline-calls t) (note-inline-at t) note-inline.Post note-inline-Inv-loop note-inline-μ-loop
-note-inline-loop-again t c = (search (note-entered _ _ _ _ _ _ _ _ (c .before .before .before .before .before .before .before .before .before .before .before .before .before .before .before .loop .inv .0)), (search kept-here, search (needs, c .before .before .before .before .before .before .before .before .before .before .before .before .before .before .before .loop .inv, c .before .before .before .before .before .before .before .before .before .before .before .before .before .before .before .before .slice-known)))
+note-inline-loop-again-2 : (t : ℕ) → note-inline-lts.Need-loop-again-2 (note-inline-calls t) (note-inline-at t) note-inline.Post note-inline-Inv-loop note-inline-μ-loop
+note-inline-loop-again-2 t c = (note-entered _ _ _ _ _ _ _ _ (from-same (put-nothing _ _ _ _ _ _ _ {r = c .before .before .before .before .before .before .before .before .before .before .before .before .before .lone .result} (c .before .before .before .before .before .before .before .before .before .before .before .before .before .lone .ensures .0 true) (search needs)) _ (c .before .before .before .before .before .before .before .before .before .before .before .before .before .before .before .before .before .before .before .before .before .before .loop .inv .0)) (c .before .before .before .before .before .before .before .before .before .before .before .before .before .before .before .before .before .before .before .before .step .given .1) (c .before .before .before .before .before .before .before .before .before .before .before .before .before .before .before .before .before .before .note-sort .ensures) (c .before .before .before .before .before .before .before .before .before .before .before .before .before .before .before .before .enum-told3 .given .1) (c .before .before .before .before .before .before .before .before .ask .ensures) (c .before .before .before .before .before .before .before .follows .ensures) (c .before .before .before .before .node .ensures) (c .before .trims-after .ensures) (c .next-sibling2 .ensures), (search kept-here, search (needs, c .before .before .before .before .before .before .before .before .before .before .before .before .before .before .before .before .before .before .before .before .before .before .loop .inv, c .before .before .before .before .before .before .before .before .before .before .before .before .before .before .before .before .before .before .before .before .before .before .before .slice-known)))
 
 note-inline-enum-known-child : (t : ℕ) → note-inline-lts.Need-enum-known-child (note-inline-calls t) (note-inline-at t) note-inline.Post note-inline-Inv-loop note-inline-μ-loop
 note-inline-enum-known-child t c = search needs
@@ -370,22 +391,22 @@ note-inline-enum-known-child t c = search needs
 note-inline-note-turn-requires : (t : ℕ) → note-inline-lts.Need-note-turn-requires (note-inline-calls t) (note-inline-at t) note-inline.Post note-inline-Inv-loop note-inline-μ-loop
 note-inline-note-turn-requires t c κs = search needs
 
-note-inline-loop-less-2 : (t : ℕ) → note-inline-lts.Need-loop-less-2 (note-inline-calls t) (note-inline-at t) note-inline.Post note-inline-Inv-loop note-inline-μ-loop
-note-inline-loop-less-2 t c = search left-behind
+note-inline-loop-less-3 : (t : ℕ) → note-inline-lts.Need-loop-less-3 (note-inline-calls t) (note-inline-at t) note-inline.Post note-inline-Inv-loop note-inline-μ-loop
+note-inline-loop-less-3 t c = search left-behind
 
-note-inline-loop-again-2 : (t : ℕ) → note-inline-lts.Need-loop-again-2 (note-inline-calls t) (note-inline-at t) note-inline.Post note-inline-Inv-loop note-inline-μ-loop
-note-inline-loop-again-2 t c = (search note-plain, (search kept-plain, search needs))
+note-inline-loop-again-3 : (t : ℕ) → note-inline-lts.Need-loop-again-3 (note-inline-calls t) (note-inline-at t) note-inline.Post note-inline-Inv-loop note-inline-μ-loop
+note-inline-loop-again-3 t c = (search note-plain, (search kept-plain, search needs))
 
 pub +inline+inside+marker+node+note-inline-spec : {M : Type 1} → statement M
 +inline+inside+marker+node+note-inline-spec =
     close μ-inline μ-inside μ-marker μ-node μ-note-inline
     (λ t. inline-lts.spec (inline-calls t) (inline-at t) inline.Post inline-Inv-loop inline-μ-loop
-    (inline-loop-holds t) (inline-enum-told t) (inline-same-length t) (inline-returns t) (inline-enum-known-step t) (inline-sort-in-requires t) (inline-enum-told-2 t) (inline-same-length-2 t) (inline-returns-2 t) (inline-enum-told-3 t) (inline-ask-requires t) (inline-follows-requires t) (inline-node-requires t) (inline-trims-after-requires t) (inline-next-sibling-requires t) (inline-loop-less t) (inline-loop-again t) (inline-enum-known-child t) (inline-plain-turn-requires t) (inline-loop-less-2 t) (inline-loop-again-2 t))
+    (inline-loop-holds t) (inline-enum-told t) (inline-same-length t) (inline-returns t) (inline-enum-known-step t) (inline-sort-in-requires t) (inline-enum-told-2 t) (inline-same-length-2 t) (inline-returns-2 t) (inline-enum-told-3 t) (inline-lone-requires t) (inline-enum-known-z t) (inline-next-sibling-requires t) (inline-loop-less t) (inline-loop-again t) (inline-enum-told-4 t) (inline-ask-requires t) (inline-follows-requires t) (inline-node-requires t) (inline-trims-after-requires t) (inline-next-sibling-requires-2 t) (inline-loop-less-2 t) (inline-loop-again-2 t) (inline-enum-known-child t) (inline-plain-turn-requires t) (inline-loop-less-3 t) (inline-loop-again-3 t))
     (λ t. inside-lts.spec (inside-calls t) (inside-at t) inside.Post
     (inside-returns t) (inside-first-child-requires t) (inside-sub-note-inline t) (inside-note-inline-requires t) (inside-sub-inline t) (inside-inline-requires t) (inside-same-length t) (inside-returns-2 t) (inside-same-length-2 t) (inside-returns-3 t))
     (λ t. marker-lts.spec (marker-calls t) (marker-at t) marker.Post
-    (marker-role-of-requires t) (marker-lone-requires t) (marker-enum-known-z t) (marker-enum-told t) (marker-is-whole-requires t) (marker-open-marker-requires t) (marker-is-note-requires t) (marker-inside-requires t) (marker-close-marker-requires t) (marker-write-leaf-requires t) (marker-same-length t) (marker-returns t) (marker-same-length-2 t) (marker-returns-2 t) (marker-same-length-3 t) (marker-returns-3 t))
+    (marker-role-of-requires t) (marker-is-whole-requires t) (marker-open-marker-requires t) (marker-is-note-requires t) (marker-inside-requires t) (marker-close-marker-requires t) (marker-write-leaf-requires t) (marker-same-length t) (marker-returns t) (marker-same-length-2 t) (marker-returns-2 t))
     (λ t. node-lts.spec (node-calls t) (node-at t) node.Post
     (node-kind-requires t) (node-number-requires t) (node-chapter-requires t) (node-same-length t) (node-returns t) (node-verse-requires t) (node-same-length-2 t) (node-returns-2 t) (node-marker-requires t) (node-same-length-3 t) (node-returns-3 t) (node-returns-4 t))
     (λ t. note-inline-lts.spec (note-inline-calls t) (note-inline-at t) note-inline.Post note-inline-Inv-loop note-inline-μ-loop
-    (note-inline-loop-holds t) (note-inline-enum-told t) (note-inline-same-length t) (note-inline-returns t) (note-inline-enum-known-step t) (note-inline-note-sort-requires t) (note-inline-enum-told-2 t) (note-inline-same-length-2 t) (note-inline-returns-2 t) (note-inline-enum-told-3 t) (note-inline-ask-requires t) (note-inline-follows-requires t) (note-inline-node-requires t) (note-inline-trims-after-requires t) (note-inline-next-sibling-requires t) (note-inline-loop-less t) (note-inline-loop-again t) (note-inline-enum-known-child t) (note-inline-note-turn-requires t) (note-inline-loop-less-2 t) (note-inline-loop-again-2 t))
+    (note-inline-loop-holds t) (note-inline-enum-told t) (note-inline-same-length t) (note-inline-returns t) (note-inline-enum-known-step t) (note-inline-note-sort-requires t) (note-inline-enum-told-2 t) (note-inline-same-length-2 t) (note-inline-returns-2 t) (note-inline-enum-told-3 t) (note-inline-lone-requires t) (note-inline-enum-known-z t) (note-inline-next-sibling-requires t) (note-inline-loop-less t) (note-inline-loop-again t) (note-inline-enum-told-4 t) (note-inline-ask-requires t) (note-inline-follows-requires t) (note-inline-node-requires t) (note-inline-trims-after-requires t) (note-inline-next-sibling-requires-2 t) (note-inline-loop-less-2 t) (note-inline-loop-again-2 t) (note-inline-enum-known-child t) (note-inline-note-turn-requires t) (note-inline-loop-less-3 t) (note-inline-loop-again-3 t))
