@@ -10,7 +10,7 @@ use lib.Dec.{ltb}
 use borrow.Author.Tests.{eq-eqb, ne-eqb, not-true, not-false}
 use Rattle.parts.specs.Bytes.{Bytes, b, same}
 use Rattle.chars.specs.Escape.{escape}
-use Rattle.texts.specs.Text.{normalizeText, written, spaceIf}
+use Rattle.texts.specs.Text.{written, spaceIf}
 use Rattle.texts.specs.declared.Normalized.{Normalized}
 use Rattle.put_body.specs.Easy.{edged}
 use Rattle.put_body.specs.Frame.{Frame, whiteFront, whiteBack, frameOf, framedText, Framed}

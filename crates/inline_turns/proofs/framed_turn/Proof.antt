@@ -2,12 +2,6 @@ use Rattle.inline_turns.proofs.Laws.{framed-written, framed-trim, frame
 use borrow.Author.Needs.{needs}
 use Rattle.inline_turns.proofs.framed_turn.Statement.{statement}
 use Rattle.inline_turns.proofs.framed_turn.Tie as tie
-use Rattle.inline_turns.proofs.framed_turn.Reads as reads
-use Rattle.inline_turns.proofs.framed_turn.Lts as lts
-use Rattle.inline_turns.proofs.glance.Reads as glance-reads
-use Rattle.inline_turns.proofs.still.Reads as still-reads
-use Rattle.put_body.proofs.framed_text.Reads as framed-text-reads
-use Rattle.put_texts.proofs.put_framed.Reads as put-framed-reads
 
 glance-requires : tie.Need-glance-requires
 glance-requires c κs = search needs

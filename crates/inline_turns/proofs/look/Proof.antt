@@ -2,11 +2,6 @@ use Rattle.inline_turns.proofs.Laws.{looked-text, looked-kept, looked-k
 use borrow.Author.Needs.{needs}
 use Rattle.inline_turns.proofs.look.Statement.{statement}
 use Rattle.inline_turns.proofs.look.Tie as tie
-use Rattle.inline_turns.proofs.look.Reads as reads
-use Rattle.inline_turns.proofs.look.Lts as lts
-use Rattle.inline_turns.proofs.wait.Reads as wait-reads
-use Rattle.texts.proofs.ends_white.Reads as ends-white-reads
-use Rattle.texts.proofs.normalize_text.Reads as normalize-text-reads
 
 ends-white-requires : tie.Need-ends-white-requires
 ends-white-requires c κs = search needs

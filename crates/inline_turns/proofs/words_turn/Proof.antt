@@ -3,16 +3,6 @@ use Rattle.inline_turns.proofs.Laws.{here-of}
 use borrow.Author.Needs.{needs}
 use Rattle.inline_turns.proofs.words_turn.Statement.{statement}
 use Rattle.inline_turns.proofs.words_turn.Tie as tie
-use Rattle.inline_turns.proofs.words_turn.Reads as reads
-use Rattle.inline_turns.proofs.words_turn.Lts as lts
-use Rattle.inline_turns.proofs.framed_turn.Reads as framed-turn-reads
-use Rattle.inline_turns.proofs.worded_turn.Reads as worded-turn-reads
-use Rattle.put_body.proofs.is_framed.Reads as is-framed-reads
-use Rattle.put_body.proofs.white_back.Reads as white-back-reads
-use Rattle.put_body.proofs.white_front.Reads as white-front-reads
-use Rattle.tape.proofs.Cursor.next_sibling.Reads as next-sibling-reads
-use Rattle.tape.proofs.Cursor.size.Reads as size-reads
-use Rattle.tape.proofs.Cursor.tail.Reads as tail-reads
 
 tail-requires : tie.Need-tail-requires
 tail-requires c κs = search needs
