@@ -4,3 +4,5 @@ pub mod Keys
 pub mod Turns
 pub mod Walks
 pub mod Examples
+pub mod Scan
+pub mod AsItStands

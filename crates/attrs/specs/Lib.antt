@@ -1,2 +1,3 @@
 pub mod Attr
 pub mod Walk
+pub mod Barred

@@ -1,4 +1,7 @@
 // The attributes of a node.
+mod barred;
+
+pub use barred::is_barred;
 use tape::Cursor;
 use tape::Kind;
 use tape::Sections;

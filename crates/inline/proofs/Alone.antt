@@ -27,7 +27,7 @@ use Rattle.render.specs.Shape.{isOpen, isInline, trimsAfter}
 use Rattle.render.specs.Follow.{inlineFollows, followed}
 use Rattle.render.proofs.Shapes.{kind-is, trims-other}
 use Rattle.attrs.specs.Attr.{Pair, attributesOf}
-use Rattle.barred.specs.Barred.{Barred}
+use Rattle.attrs.specs.Barred.{Barred}
 use Rattle.tags.specs.Items.{Attr, attrsBytes, start, text, close}
 use Rattle.events.specs.Event.{Event, item, rawly, collected, element}
 use Rattle.events.specs.Walk.{words, passed, childOf, inlineTurn, inlineOn, inlineAll, normalized, unbroken, broken, asInline, char, roleOf, style, unclosed, linkOf, linked, nodeIn, markerAs, inside}

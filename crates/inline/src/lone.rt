@@ -132,7 +132,7 @@ fn put_around(
         return Put::Nothing;
     }
     let given = a.text(file, tape);
-    if !barred::is_barred(given) {
+    if !attrs::is_barred(given) {
         return Put::Nothing;
     }
     Put::Written(put_given(name, parts::from(given, 1), s, len, at, desk, out))

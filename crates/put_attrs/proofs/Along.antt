@@ -15,8 +15,8 @@ use Rattle.tape.specs.declared.Step.{Step}
 use Rattle.tape.specs.declared.Step.the-variants.{At, Done}
 use Rattle.tape.proofs.Walk.{walk-turn, walk-end, children-walk}
 use Rattle.attrs.specs.Attr.{Pair, attributeBody, bodyPairs, pairsAt, pairsAlong, attributesOf}
-use Rattle.barred.specs.Barred.{Barred}
-use Rattle.barred.proofs.Pairs.{barred-pairs, barred-escape}
+use Rattle.attrs.specs.Barred.{Barred}
+use Rattle.attrs.proofs.AsItStands.{barred-pairs, barred-escape}
 use Rattle.tags.specs.Items.{Attr, attrBytes, attrsBytes, valueOf}
 use Rattle.events.specs.Event.{escaped, collected}
 use Rattle.desk.specs.Stroke.{Stroke, strokesOfAttrs, Drew}

@@ -167,7 +167,7 @@ fn put_from(
         step = d.next_sibling(file, tape);
         if d.kind(file, tape).code == Kind::ATTRIBUTE {
             let s = d.text(file, tape);
-            if !barred::is_barred(s) {
+            if !attrs::is_barred(s) {
                 return put_pairs(a, desk, out, file, tape, Step::At(d), marker);
             }
             a = put_barred(a, desk, out, s);

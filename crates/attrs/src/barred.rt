@@ -1,7 +1,7 @@
 // Attributes that are written as they stand in the source.
 ghost use mathlib.Core.Path.{_≡_};
 ghost use mathlib.Core.Bool.{true};
-ghost use Rattle.barred.specs.Barred.{inKey, inValue, RunTo, Barred};
+ghost use Rattle.attrs.specs.Barred.{inKey, inValue, RunTo, Barred};
 
 // Whether a byte can stand in a simple key.
 fn in_key(x: u8) -> bool

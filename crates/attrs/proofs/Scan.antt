@@ -12,7 +12,7 @@ use Rattle.parts.specs.Bytes.{Bytes, b}
 use Rattle.parts.proofs.Laws.{drop-at}
 use Rattle.chars.specs.Range.{_to_, within}
 use Rattle.chars.proofs.Laws.{below, beyond, inside}
-use Rattle.barred.specs.Barred.{inKey, inValue, lead, RunTo, Simple, Barred}
+use Rattle.attrs.specs.Barred.{inKey, inValue, lead, RunTo, Simple, Barred}
 
 -- ---- a byte of a key
 

@@ -1,8 +1,8 @@
 use mathlib.Core.Path.{refl}
 use Rattle.chars.specs.Escape.{special}
-use Rattle.barred.specs.Barred.{inValue}
-use Rattle.barred.proofs.in_value.Statement.{statement}
-use Rattle.barred.proofs.in_value.Tie as tie
+use Rattle.attrs.specs.Barred.{inValue}
+use Rattle.attrs.proofs.barred.in_value.Statement.{statement}
+use Rattle.attrs.proofs.barred.in_value.Tie as tie
 
 returns : tie.Need-returns
 unfolding inValue special

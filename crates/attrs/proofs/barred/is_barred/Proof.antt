@@ -1,7 +1,7 @@
-use Rattle.barred.proofs.Scan.{no-pair, pair-found}
+use Rattle.attrs.proofs.Scan.{no-pair, pair-found}
 use borrow.Author.Needs.{needs}
-use Rattle.barred.proofs.is_barred.Statement.{statement}
-use Rattle.barred.proofs.is_barred.Tie as tie
+use Rattle.attrs.proofs.barred.is_barred.Statement.{statement}
+use Rattle.attrs.proofs.barred.is_barred.Tie as tie
 
 returns : tie.Need-returns
 returns c = search no-pair

@@ -1,6 +1,6 @@
-use Rattle.barred.proofs.Scan.{key-low, key-high, key-within}
-use Rattle.barred.proofs.in_key.Statement.{statement}
-use Rattle.barred.proofs.in_key.Tie as tie
+use Rattle.attrs.proofs.Scan.{key-low, key-high, key-within}
+use Rattle.attrs.proofs.barred.in_key.Statement.{statement}
+use Rattle.attrs.proofs.barred.in_key.Tie as tie
 
 returns : tie.Need-returns
 returns c = search key-low

@@ -25,10 +25,10 @@ use Rattle.words.proofs.Texts.{trim-start-drop, trim-end-take}
 use Rattle.words.proofs.Ends.{visible-whole}
 use Rattle.words.proofs.Joins.{word-alone}
 use Rattle.tape.specs.Name.{strip}
 use Rattle.attrs.specs.Attr.{closesAt, quotedFrom, quotedLen, unquoted, shown, equals, hasEquals, keyed, pairsIn, keyFor, keyedFor, attributeBody, bodyPairs}
 use Rattle.attrs.proofs.Values.{value-quoted}
 use Rattle.attrs.proofs.Pairs.{pairs-nil, pair-first}
-use Rattle.barred.specs.Barred.{inKey, inValue, lead, Simple, Barred}
+use Rattle.attrs.specs.Barred.{inKey, inValue, lead, Simple, Barred}
 
 -- the first byte of a simple text is simple, and so is what follows
 each : (p : ℕ → Bool) (x : ℕ) (s : Bytes) → Simple p (x ∷ s) → (p x ≡ true) × Simple p s

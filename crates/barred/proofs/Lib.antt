@@ -1,2 +1,0 @@
-pub mod Scan
-pub mod Pairs
