@@ -4,7 +4,7 @@ use mathlib.Core.Bool.{Bool, true, false}
 use mathlib.Core.List.{List, [], _∷_, _++_, append-assoc, append-nil}
 use Prim.Native.Nat.{ℕ}
 use lib.ListN.{getD}
-use Rattle.parts.specs.Bytes.{Bytes, b}
+use Rattle.parts.specs.Bytes.{Bytes, b, part}
 use Rattle.chars.specs.Decimal.{decimal}
 use Rattle.chars.specs.Escape.{escape}
 use Rattle.chars.proofs.Escapes.{escape-append}
@@ -18,8 +18,9 @@ use Rattle.events.specs.Profile.{Profile, rust, renderAs}
 use Rattle.events.specs.Emit.{Desk, emit}
 use Rattle.events.proofs.Emits.{one-profile}
 use Rattle.desk.specs.Desk.{profileOf, deskOf, putOn, shownAs}
-use Rattle.desk.specs.Named.{numberOf}
+use Rattle.desk.specs.Named.{numberOf, row, startOf, lenOf}
 use Rattle.desk.specs.declared.stroke.Element.{Element}
+use Rattle.desk.specs.declared.stroke.Element.the-variants.{Usx, Book, Chapter, Verse, Para, Char, Note, Ms, Figure, Table, Row, Cell, Sidebar, Periph, Optbreak, Ref}
 use Rattle.desk.specs.Stroke.{Stroke, opens, key, piece, endValue, ends, shuts, closes, strokesOfAttr, strokesOfAttrs, strokesOf, strokesOfAll, ink, inkAll, strokes, Drew}
 use Rattle.desk.proofs.Chains.{paint-three, paint-four, desk-on, item-on}
 use Rattle.desk.proofs.Shown.{shown-decimal}
@@ -58,9 +59,28 @@ pub drew-one : (at : ℕ) {v : Window} (d : List ℕ) (out : Bytes) {last : Byte
 unfolding inkAll
 drew-one at d out s ev = drew-run at d out (s ∷ []) (sym (append-nil (ink rust s))) ev
 
--- the name of an element
-pub name-by : (k : Element) (p : Page) {q : Page} {e : Element} → e ≡ k → q ≡ paint p (nameOf (numberOf k)) → q ≡ paint p (nameOf (numberOf e))
-name-by k p h eq = eq ∙ ap (λ (x : Element). paint p (nameOf (numberOf x))) (sym h)
+-- the name of an element is its part of the row
+row-part : (e : Element) → part row (startOf e) (lenOf e) ≡ nameOf (numberOf e)
+unfolding nameOf
+row-part Usx = refl
+row-part Book = refl
+row-part Chapter = refl
+row-part Verse = refl
+row-part Para = refl
+row-part Char = refl
+row-part Note = refl
+row-part Ms = refl
+row-part Figure = refl
+row-part Table = refl
+row-part Row = refl
+row-part Cell = refl
+row-part Sidebar = refl
+row-part Periph = refl
+row-part Optbreak = refl
+row-part Ref = refl
+
+pub name-bytes : (p : Page) {q : Page} (e : Element) {a n : ℕ} {x : Bytes} → a ≡ startOf e → n ≡ lenOf e → x ≡ part row a n → q ≡ paint p x → q ≡ paint p (nameOf (numberOf e))
+name-bytes p e ea en ex eq = eq ∙ ap (paint p) (ex ∙ rw (ea, en) (row-part e))
 
 -- the front of a tag, and a closing tag, from their runs
 pub open-bytes : (p : Page) {q r : Page} (n : ℕ) → q ≡ paint p (b "<") → r ≡ paint q (nameOf n) → r ≡ paint p (ink rust (opens n))

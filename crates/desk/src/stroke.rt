@@ -9,7 +9,7 @@ ghost use Rattle.window.specs.Page.{pageOf, paint};
 ghost use Rattle.tags.specs.Names.{nameOf};
 ghost use Rattle.events.specs.Profile.{rust};
 ghost use Rattle.desk.specs.Desk.{shownAs};
-ghost use Rattle.desk.specs.Named.{numberOf};
+ghost use Rattle.desk.specs.Named.{numberOf, startOf, lenOf};
 ghost use Rattle.desk.specs.Stroke.{opens, key as keyStroke, piece as pieceStroke, endValue, ends, shuts, closes, ink, Drew};
 use crate::held::Numbers;
 use window::Window;
@@ -37,28 +37,60 @@ pub enum Element {
     Ref,
 }
 
+// Where the name of an element starts in the row of all names.
+fn name_start(e: Element) -> usize
+    ensures { λ r. ⌜ r ≡ startOf e ⌝ }
+{
+    match e {
+        Element::Usx => 0,
+        Element::Book => 3,
+        Element::Chapter => 7,
+        Element::Verse => 14,
+        Element::Para => 19,
+        Element::Char => 23,
+        Element::Note => 27,
+        Element::Ms => 31,
+        Element::Figure => 33,
+        Element::Table => 39,
+        Element::Row => 44,
+        Element::Cell => 47,
+        Element::Sidebar => 51,
+        Element::Periph => 58,
+        Element::Optbreak => 64,
+        Element::Ref => 72,
+    }
+}
+
+// How long it is.
+fn name_len(e: Element) -> usize
+    ensures { λ r. ⌜ r ≡ lenOf e ⌝ }
+{
+    match e {
+        Element::Usx => 3,
+        Element::Book => 4,
+        Element::Chapter => 7,
+        Element::Verse => 5,
+        Element::Para => 4,
+        Element::Char => 4,
+        Element::Note => 4,
+        Element::Ms => 2,
+        Element::Figure => 6,
+        Element::Table => 5,
+        Element::Row => 3,
+        Element::Cell => 4,
+        Element::Sidebar => 7,
+        Element::Periph => 6,
+        Element::Optbreak => 8,
+        Element::Ref => 3,
+    }
+}
+
 // The name of an element.
 fn put_name(w: Window, out: &mut [u8], e: Element) -> Window
     ensures { λ r. ⌜ pageOf r (now (out .exit)) ≡ paint (pageOf w (now (out .entry))) (nameOf (numberOf e)) ⌝ }
 {
-    match e {
-        Element::Usx => put_run(w, out, b"usx"),
-        Element::Book => put_run(w, out, b"book"),
-        Element::Chapter => put_run(w, out, b"chapter"),
-        Element::Verse => put_run(w, out, b"verse"),
-        Element::Para => put_run(w, out, b"para"),
-        Element::Char => put_run(w, out, b"char"),
-        Element::Note => put_run(w, out, b"note"),
-        Element::Ms => put_run(w, out, b"ms"),
-        Element::Figure => put_run(w, out, b"figure"),
-        Element::Table => put_run(w, out, b"table"),
-        Element::Row => put_run(w, out, b"row"),
-        Element::Cell => put_run(w, out, b"cell"),
-        Element::Sidebar => put_run(w, out, b"sidebar"),
-        Element::Periph => put_run(w, out, b"periph"),
-        Element::Optbreak => put_run(w, out, b"optbreak"),
-        Element::Ref => put_run(w, out, b"ref"),
-    }
+    let row = b"usxbookchapterverseparacharnotemsfiguretablerowcellsidebarperiphoptbreakref";
+    put_run(w, out, parts::part(row, name_start(e), name_len(e)))
 }
 
 // `<` and the name of an element.

@@ -24,6 +24,11 @@ fn small(x: u8) -> u32 {
     x as u32
 }
 
+// Which name a code has: whatever is no other step finishes.
+fn index(code: u8) -> usize {
+    if code < FINISH { code as usize } else { 11 }
+}
+
 fn put(w: Window, out: &mut [u8], run: &[u8]) -> Window {
     window::put_run(w, out, run)
 }
@@ -56,20 +61,9 @@ fn state(w: Window, out: &mut [u8], s: Writer) -> Window {
 
 // The name of a step.
 fn name(w: Window, out: &mut [u8], code: u8) -> Window {
-    match code {
-        0 => put(w, out, b"start"),
-        1 => put(w, out, b"entry"),
-        2 => put(w, out, b"source"),
-        3 => put(w, out, b"open"),
-        4 => put(w, out, b"close"),
-        5 => put(w, out, b"leaf"),
-        6 => put(w, out, b"text"),
-        7 => put(w, out, b"attribute"),
-        8 => put(w, out, b"error"),
-        9 => put(w, out, b"chapter"),
-        10 => put(w, out, b"verse"),
-        _ => put(w, out, b"finish"),
-    }
+    let row = b"start entry source open close leaf text attribute error chapter verse finish";
+    let word = words::nth_word(row, words::Set::Ascii, index(code));
+    put(w, out, parts::part(row, word.start, word.len))
 }
 
 // Ends a line and writes it.

@@ -155,31 +155,13 @@ pub fn answer(code: usize, set: Set, n: usize, s: &[u8], out: &mut [u8]) -> usiz
     of_parts(op, n, s, w, out).at
 }
 
+// The name of an operation, and a space.
 pub fn print_name(op: usize) {
-    match op {
-        0 => line(b"is_utf8 "),
-        1 => line(b"first_char "),
-        2 => line(b"is_boundary "),
-        3 => line(b"is_white "),
-        4 => line(b"is_ascii_white "),
-        5 => line(b"trim_start "),
-        6 => line(b"trim_end "),
-        7 => line(b"trim "),
-        8 => line(b"is_blank "),
-        9 => line(b"first_word "),
-        10 => line(b"after_word "),
-        11 => line(b"nth_word "),
-        12 => line(b"last_word "),
-        13 => line(b"escape_xml "),
-        14 => line(b"escape_xml_attr "),
-        15 => line(b"put_number "),
-        16 => line(b"find_byte "),
-        17 => line(b"find_pair "),
-        18 => line(b"begins_with "),
-        19 => line(b"same "),
-        20 => line(b"part "),
-        _ => line(b"next_word "),
-    }
+    let row =
+        b"is_utf8 first_char is_boundary is_white is_ascii_white trim_start trim_end trim is_blank first_word after_word nth_word last_word escape_xml escape_xml_attr put_number find_byte find_pair begins_with same part next_word";
+    let word = words::nth_word(row, Set::Ascii, op);
+    line(parts::part(row, word.start, word.len));
+    line(b" ");
 }
 
 fn line(text: &[u8]) {

@@ -2,4 +2,4 @@ pub mod Paint
 pub mod Run
 pub mod Escape
 pub mod Decimal
-pub mod Block
+pub mod Front

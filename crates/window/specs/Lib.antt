@@ -1,3 +1,2 @@
 pub mod Page
-pub mod Lay
 pub mod Plain

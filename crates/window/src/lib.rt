@@ -7,7 +7,6 @@ ghost use lib.ListN.{take, drop};
 ghost use Rattle.chars.specs.Escape.{special as isSpecial, escape};
 ghost use Rattle.chars.specs.Decimal.{decimal};
 ghost use Rattle.window.specs.Page.{pageOf, paint, stamp as stampOf};
-ghost use Rattle.window.specs.Lay.{lay, over};
 ghost use Rattle.window.specs.Plain.{anySpecial, plainLen, PlainTo, RunTo, entityStart, entityEnd, entityOf};
 
 // How many bytes of the text are written, and which byte of it the buffer starts with.
@@ -65,34 +64,6 @@ fn put_each(w: Window, out: &mut [u8], run: &[u8]) -> Window
     v
 }
 
-// A run over the buffer from a place on, as far as the buffer reaches.
-fn lay_over(out: &mut [u8], start: usize, run: &[u8])
-    ensures { λ _. ⌜ now (out .exit) ≡ over (now (out .entry)) start (now (run .entry)) ⌝ }
-{
-    if start < out.len() {
-        let room = out.len() - start;
-        if run.len() <= room {
-            bytes::copy(run, &mut out[start..]);
-        } else {
-            bytes::copy(&run[..room], &mut out[start..]);
-        }
-    }
-}
-
-// A run whose first byte is number `at` of the text, where the window has a place for it.
-fn lay_run(out: &mut [u8], from: usize, at: usize, run: &[u8])
-    ensures { λ _. ⌜ now (out .exit) ≡ lay (now (out .entry)) from at (now (run .entry)) ⌝ }
-{
-    if from <= at {
-        lay_over(out, at - from, run);
-    } else {
-        let skipped = from - at;
-        if skipped < run.len() {
-            lay_over(out, 0, &run[skipped..]);
-        }
-    }
-}
-
 // A run of bytes.
 pub fn put_run(w: Window, out: &mut [u8], run: &[u8]) -> Window
     ensures { λ r. ⌜ pageOf r (now (out .exit)) ≡ paint (pageOf w (now (out .entry))) (now (run .entry)) ⌝ }
@@ -102,83 +73,10 @@ pub fn put_run(w: Window, out: &mut [u8], run: &[u8]) -> Window
     if usize::MAX - at < n {
         return put_each(w, out, run);
     }
-    lay_run(out, w.from, at, run);
+    lay::lay_run(out, w.from, at, run);
     Window {
         at: at + n,
         from: w.from,
-    }
-}
-
-// At most 16 bytes from a text's front over the buffer: a whole block, and what stood behind the bytes again.
-fn lay_block(out: &mut [u8], start: usize, s: &[u8], n: usize)
-    ensures { λ _. ⌜ now (out .exit) ≡ over (now (out .entry)) start (take n (now (s .entry))) ⌝ }
-{
-    if n <= 16 {
-        if 16 <= s.len() {
-            if start < out.len() {
-                if 32 <= out.len() - start {
-                    let mut fresh = [0u8; 16];
-                    let mut saved = [0u8; 16];
-                    let b = start + n;
-                    let e = b + 16;
-                    let m = start + 16;
-                    bytes::copy(&s[..16], &mut fresh);
-                    bytes::copy(&out[b..e], &mut saved);
-                    bytes::copy(&fresh, &mut out[start..m]);
-                    bytes::copy(&saved, &mut out[b..e]);
-                    return;
-                }
-            }
-        }
-    }
-    lay_over(out, start, parts::part(s, 0, n));
-}
-
-// A run over the buffer by blocks of 16, the last of which may reach back.
-fn lay_long(out: &mut [u8], start: usize, run: &[u8])
-    ensures { λ _. ⌜ now (out .exit) ≡ over (now (out .entry)) start (now (run .entry)) ⌝ }
-{
-    let n = run.len();
-    if n < 16 {
-        lay_over(out, start, run);
-        return;
-    }
-    if out.len() <= start {
-        return;
-    }
-    if out.len() - start < n {
-        lay_over(out, start, run);
-        return;
-    }
-    let mut i = 0;
-    while 16 <= n - i {
-        let e = i + 16;
-        let b = start + i;
-        let m = b + 16;
-        let mut fresh = [0u8; 16];
-        bytes::copy(&run[i..e], &mut fresh);
-        bytes::copy(&fresh, &mut out[b..m]);
-        i = e;
-    }
-    let q = n - 16;
-    let b = start + q;
-    let m = b + 16;
-    let mut last = [0u8; 16];
-    bytes::copy(&run[q..n], &mut last);
-    bytes::copy(&last, &mut out[b..m]);
-}
-
-// A text's first bytes over the buffer, by blocks of 16.
-fn lay_front(out: &mut [u8], start: usize, s: &[u8], n: usize)
-    ensures { λ _. ⌜ now (out .exit) ≡ over (now (out .entry)) start (take n (now (s .entry))) ⌝ }
-{
-    if out.len() <= start {
-        return;
-    }
-    if n <= 16 {
-        lay_block(out, start, s, n);
-    } else {
-        lay_long(out, start, parts::part(s, 0, n));
     }
 }
 
@@ -190,7 +88,7 @@ pub fn put_front(w: Window, out: &mut [u8], s: &[u8], n: usize) -> Window
     if (usize::MAX - at < n) | ((s.len() < n) | (at < w.from)) {
         return put_run(w, out, parts::part(s, 0, n));
     }
-    lay_front(out, at - w.from, s, n);
+    lay::lay_front(out, at - w.from, s, n);
     Window {
         at: at + n,
         from: w.from,

@@ -1,5 +1,5 @@
 use native.Mathlib.Omega.{arith}
-use Rattle.window.proofs.Block.{front-within, front-count, front-run, front-laid}
+use Rattle.window.proofs.Front.{front-within, front-count, front-run, front-laid}
 use borrow.Author.Needs.{needs}
 use Rattle.window.proofs.put_front.Statement.{statement}
 use Rattle.window.proofs.put_front.Tie as tie

@@ -1,9 +1,9 @@
 use mathlib.Core.Path.{sym}
-use Rattle.window.proofs.Paint.{over-past}
-use Rattle.window.proofs.Block.{over-same}
+use Rattle.lay.proofs.Over.{over-past}
+use Rattle.lay.proofs.Block.{over-same}
 use borrow.Author.Needs.{needs}
-use Rattle.window.proofs.lay_front.Statement.{statement}
-use Rattle.window.proofs.lay_front.Tie as tie
+use Rattle.lay.proofs.lay_front.Statement.{statement}
+use Rattle.lay.proofs.lay_front.Tie as tie
 
 returns : tie.Need-returns
 returns c = sym (over-past _ _ _ (c .if1 .taken))

@@ -2,10 +2,10 @@ use Prim.Native.Nat.{_-_, _≤_}
 use mathlib.Core.Path.{sym}
 use native.Mathlib.Omega.{arith}
 use borrow.Author.Needs.{needs}
-use Rattle.window.proofs.Paint.{over-past}
-use Rattle.window.proofs.Block.{long-start, long-turn, long-end, LaidTo}
-use Rattle.window.proofs.lay_long.Statement.{statement}
-use Rattle.window.proofs.lay_long.Tie as tie
+use Rattle.lay.proofs.Over.{over-past}
+use Rattle.lay.proofs.Block.{long-start, long-turn, long-end, LaidTo}
+use Rattle.lay.proofs.lay_long.Statement.{statement}
+use Rattle.lay.proofs.lay_long.Tie as tie
 
 abbrev Inv-loop : tie.InvT-loop
 Inv-loop out₀ start run n i₀ out i = (i ≤ n) × LaidTo out₀ start run i out

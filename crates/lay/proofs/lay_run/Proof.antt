@@ -1,7 +1,7 @@
-use Rattle.window.proofs.Run.{laid-within, laid-across, laid-before}
+use Rattle.lay.proofs.Copied.{laid-within, laid-across, laid-before}
 use borrow.Author.Needs.{needs}
-use Rattle.window.proofs.lay_run.Statement.{statement}
-use Rattle.window.proofs.lay_run.Tie as tie
+use Rattle.lay.proofs.lay_run.Statement.{statement}
+use Rattle.lay.proofs.lay_run.Tie as tie
 
 lay-over-requires : tie.Need-lay-over-requires
 lay-over-requires c κs = search needs

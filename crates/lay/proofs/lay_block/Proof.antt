@@ -1,8 +1,8 @@
-use Rattle.window.proofs.Block.{block-count, block-fits, block-laid, over-same}
+use Rattle.lay.proofs.Block.{block-count, block-fits, block-laid, over-same}
 use native.Mathlib.Omega.{arith}
 use borrow.Author.Needs.{needs}
-use Rattle.window.proofs.lay_block.Statement.{statement}
-use Rattle.window.proofs.lay_block.Tie as tie
+use Rattle.lay.proofs.lay_block.Statement.{statement}
+use Rattle.lay.proofs.lay_block.Tie as tie
 
 sub-if4 : tie.Need-sub-if4
 sub-if4 c = search needs

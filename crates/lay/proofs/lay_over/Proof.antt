@@ -1,10 +1,10 @@
 use Rattle.parts.proofs.Laws.{part-count}
-use Rattle.window.proofs.Paint.{over-past}
+use Rattle.lay.proofs.Over.{over-past}
 use mathlib.Core.Path.{sym}
-use Rattle.window.proofs.Run.{copied-whole, copied-cut, cut-fits}
+use Rattle.lay.proofs.Copied.{copied-whole, copied-cut, cut-fits}
 use borrow.Author.Needs.{needs}
-use Rattle.window.proofs.lay_over.Statement.{statement}
-use Rattle.window.proofs.lay_over.Tie as tie
+use Rattle.lay.proofs.lay_over.Statement.{statement}
+use Rattle.lay.proofs.lay_over.Tie as tie
 
 sub-room : tie.Need-sub-room
 sub-room c = search needs
