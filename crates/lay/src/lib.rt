@@ -1,7 +1,7 @@
 // Runs of bytes laid over a lent buffer, as far as it reaches.
 ghost use mathlib.Core.Path.{_≡_};
 ghost use lib.ListN.{take};
-ghost use Rattle.lay.specs.Lay.{lay, over};
+ghost use Rattle.parts.specs.Over.{lay, over};
 
 // A run over the buffer from a place on, as far as the buffer reaches.
 fn lay_over(out: &mut [u8], start: usize, run: &[u8])

@@ -1,3 +1,6 @@
 pub mod Laws
 pub mod Places
 pub mod Pairs
+pub mod Over
+pub mod Copied
+pub mod Block

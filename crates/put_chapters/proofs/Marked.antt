@@ -31,7 +31,7 @@ use Rattle.events.specs.Emit.{Desk, emit}
 use Rattle.desk.specs.Desk.{chapterIn, verseIn, stateIn, marksOf, profileOf, Kept, deskOf, putOn, ended}
 use Rattle.desk.specs.Stroke.{Stroke, opens, key, piece, endValue, ends, shuts, closes, words as said, strokesOfAttr, strokesOfAttrs, strokesOf, strokesOfAll, strokes, Drew}
 use Rattle.desk.proofs.Strokes.{drew-two, attrs-append, ink-items}
-use Rattle.put_chapters.proofs.Idents.{drew-as, drew-three}
+use Rattle.put_ids.proofs.Idents.{drew-as, drew-three}
 
 -- ---- parts of tags
 

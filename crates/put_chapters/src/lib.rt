@@ -16,9 +16,6 @@ ghost use Rattle.events.specs.Pairing.{chapterId, verseId, chapterAttrs, verseA
 ghost use Rattle.events.specs.Emit.{emit};
 ghost use Rattle.desk.specs.Desk.{stateIn, deskOf, ended};
 ghost use Rattle.desk.specs.Stroke.{opens, key as keyStroke, piece as pieceStroke, endValue, ends, shuts, closes, words as wordsStroke, strokesOfAttrs, strokesOf, strokesOfAll, Drew};
-
-mod ident;
-
 use desk::Element;
 use desk::Numbers;
 use desk::attr;
@@ -33,11 +30,11 @@ use desk::open_verse;
 use desk::shut_tag;
 use desk::shut_value;
 use desk::text_joined;
-use ident::chapter_id;
-use ident::end_chapter;
-use ident::end_verse;
-use ident::verse_id;
 use put_attrs::put_numbered;
+use put_ids::chapter_id;
+use put_ids::end_chapter;
+use put_ids::end_verse;
+use put_ids::verse_id;
 use tape::Cursor;
 use tape::Sections;
 use tape::Step;

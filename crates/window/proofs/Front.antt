@@ -9,8 +9,8 @@ use lib.Dec.{ltb}
 use borrow.Author.Tests.{ltb-false}
 use Rattle.parts.specs.Bytes.{Bytes}
 use Rattle.parts.proofs.Laws.{or-both}
-use Rattle.lay.specs.Lay.{over}
-use Rattle.lay.proofs.Copied.{laid-within}
+use Rattle.parts.specs.Over.{over}
+use Rattle.parts.proofs.Copied.{laid-within}
 use Rattle.window.specs.Page.{Page, paint}
 use Rattle.window.proofs.Run.{laid}
 

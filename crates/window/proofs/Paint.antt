@@ -11,8 +11,8 @@ use lib.Dec.{leb}
 use borrow.Author.Tests.{leb-true, leb-false}
 use Rattle.parts.specs.Bytes.{Bytes}
 use Rattle.window.specs.Page.{Page, stamp, dab, paint}
-use Rattle.lay.specs.Lay.{over, lay}
-use Rattle.lay.proofs.Over.{clipped, over-sets, over-none, lay-within, lay-across, lay-before}
+use Rattle.parts.specs.Over.{over, lay}
+use Rattle.parts.proofs.Over.{clipped, over-sets, over-none, lay-within, lay-across, lay-before}
 
 -- ---- any page
 

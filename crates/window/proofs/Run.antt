@@ -8,7 +8,7 @@ use lib.Seq.{take-all, take-length, drop-drop}
 use Rattle.parts.specs.Bytes.{Bytes}
 use Rattle.parts.proofs.Laws.{drop-part, drop-at}
 use Rattle.window.specs.Page.{Page, paint}
-use Rattle.lay.specs.Lay.{lay}
+use Rattle.parts.specs.Over.{lay}
 use Rattle.window.proofs.Paint.{paint-lay}
 
 -- ---- byte by byte

@@ -1,4 +1,4 @@
-use Rattle.lay.proofs.Block.{block-count, block-fits, block-laid, over-same}
+use Rattle.parts.proofs.Block.{block-count, block-fits, block-laid, over-same}
 use native.Mathlib.Omega.{arith}
 use borrow.Author.Needs.{needs}
 use Rattle.lay.proofs.lay_block.Statement.{statement}

@@ -1,6 +1,6 @@
 use mathlib.Core.Path.{sym}
-use Rattle.lay.proofs.Over.{over-past}
-use Rattle.lay.proofs.Block.{over-same}
+use Rattle.parts.proofs.Over.{over-past}
+use Rattle.parts.proofs.Block.{over-same}
 use borrow.Author.Needs.{needs}
 use Rattle.lay.proofs.lay_front.Statement.{statement}
 use Rattle.lay.proofs.lay_front.Tie as tie

@@ -2,8 +2,8 @@ use Prim.Native.Nat.{_-_, _≤_}
 use mathlib.Core.Path.{sym}
 use native.Mathlib.Omega.{arith}
 use borrow.Author.Needs.{needs}
-use Rattle.lay.proofs.Over.{over-past}
-use Rattle.lay.proofs.Block.{long-start, long-turn, long-end, LaidTo}
+use Rattle.parts.proofs.Over.{over-past}
+use Rattle.parts.proofs.Block.{long-start, long-turn, long-end, LaidTo}
 use Rattle.lay.proofs.lay_long.Statement.{statement}
 use Rattle.lay.proofs.lay_long.Tie as tie
 

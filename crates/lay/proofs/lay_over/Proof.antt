@@ -1,7 +1,7 @@
 use Rattle.parts.proofs.Laws.{part-count}
-use Rattle.lay.proofs.Over.{over-past}
+use Rattle.parts.proofs.Over.{over-past}
 use mathlib.Core.Path.{sym}
-use Rattle.lay.proofs.Copied.{copied-whole, copied-cut, cut-fits}
+use Rattle.parts.proofs.Copied.{copied-whole, copied-cut, cut-fits}
 use borrow.Author.Needs.{needs}
 use Rattle.lay.proofs.lay_over.Statement.{statement}
 use Rattle.lay.proofs.lay_over.Tie as tie

@@ -1,4 +1,4 @@
-use Rattle.lay.proofs.Copied.{laid-within, laid-across, laid-before}
+use Rattle.parts.proofs.Copied.{laid-within, laid-across, laid-before}
 use borrow.Author.Needs.{needs}
 use Rattle.lay.proofs.lay_run.Statement.{statement}
 use Rattle.lay.proofs.lay_run.Tie as tie

@@ -8,8 +8,8 @@ use lib.ListN.{length, take, drop, set, length-set, drop-of-length-le, length-ta
 use lib.Seq.{set-out, sets, sets-eq, length-sets, take-all, take-nil}
 use lib.Dec.{leb}
 use borrow.Author.Tests.{leb-true, leb-false}
 use Rattle.parts.specs.Bytes.{Bytes}
-use Rattle.lay.specs.Lay.{over, lay}
+use Rattle.parts.specs.Over.{over, lay}
 
 -- ---- a run over a buffer
 

@@ -1,7 +1,7 @@
-use Rattle.put_chapters.proofs.Idents.{end-opened}
+use Rattle.put_ids.proofs.Idents.{end-opened}
 use borrow.Author.Needs.{needs}
-use Rattle.put_chapters.proofs.ident.open_chapter_end.Statement.{statement}
-use Rattle.put_chapters.proofs.ident.open_chapter_end.Tie as tie
+use Rattle.put_ids.proofs.open_chapter_end.Statement.{statement}
+use Rattle.put_ids.proofs.open_chapter_end.Tie as tie
 
 open-tag-requires : tie.Need-open-tag-requires
 open-tag-requires c κs = search needs

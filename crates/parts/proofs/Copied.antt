@@ -5,10 +5,10 @@ use Prim.Native.Nat.{ℕ, _+_, _-_, _≤_, _<_}
 use native.Mathlib.Omega.{arith}
 use lib.ListN.{length, take, drop, drop-of-length-le, length-drop, length-take}
 use lib.Seq.{take-all, take-length, drop-drop}
 use Rattle.parts.specs.Bytes.{Bytes}
 use Rattle.parts.proofs.Laws.{drop-part}
-use Rattle.lay.specs.Lay.{over, lay}
-use Rattle.lay.proofs.Over.{clipped, lay-within, lay-across, lay-before}
+use Rattle.parts.specs.Over.{over, lay}
+use Rattle.parts.proofs.Over.{clipped, lay-within, lay-across, lay-before}
 
 -- a part of the buffer, given back with a run copied into it
 pub copied : (buf : Bytes) (d : ℕ) (s src : Bytes) {last : Bytes} → d < length buf → src ≡ take (length buf - d) s

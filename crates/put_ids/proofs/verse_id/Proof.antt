@@ -1,7 +1,7 @@
-use Rattle.put_chapters.proofs.Idents.{verse-id}
+use Rattle.put_ids.proofs.Idents.{verse-id}
 use borrow.Author.Needs.{needs}
-use Rattle.put_chapters.proofs.ident.verse_id.Statement.{statement}
-use Rattle.put_chapters.proofs.ident.verse_id.Tie as tie
+use Rattle.put_ids.proofs.verse_id.Statement.{statement}
+use Rattle.put_ids.proofs.verse_id.Tie as tie
 
 chapter-id-requires : tie.Need-chapter-id-requires
 chapter-id-requires c κs = search needs

@@ -1,7 +1,7 @@
-use Rattle.put_chapters.proofs.Idents.{verse-shut, verse-ended}
+use Rattle.put_ids.proofs.Idents.{verse-shut, verse-ended}
 use borrow.Author.Needs.{needs}
-use Rattle.put_chapters.proofs.ident.end_verse.Statement.{statement}
-use Rattle.put_chapters.proofs.ident.end_verse.Tie as tie
+use Rattle.put_ids.proofs.end_verse.Statement.{statement}
+use Rattle.put_ids.proofs.end_verse.Tie as tie
 
 enum-told : tie.Need-enum-told
 enum-told c = search needs

@@ -1,7 +1,7 @@
-use Rattle.put_chapters.proofs.Idents.{chapter-shut, chapter-ended}
+use Rattle.put_ids.proofs.Idents.{chapter-shut, chapter-ended}
 use borrow.Author.Needs.{needs}
-use Rattle.put_chapters.proofs.ident.end_chapter.Statement.{statement}
-use Rattle.put_chapters.proofs.ident.end_chapter.Tie as tie
+use Rattle.put_ids.proofs.end_chapter.Statement.{statement}
+use Rattle.put_ids.proofs.end_chapter.Tie as tie
 
 enum-told : tie.Need-enum-told
 enum-told c = search needs

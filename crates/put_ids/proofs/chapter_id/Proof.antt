@@ -1,7 +1,7 @@
-use Rattle.put_chapters.proofs.Idents.{chapter-id}
+use Rattle.put_ids.proofs.Idents.{chapter-id}
 use borrow.Author.Needs.{needs}
-use Rattle.put_chapters.proofs.ident.chapter_id.Statement.{statement}
-use Rattle.put_chapters.proofs.ident.chapter_id.Tie as tie
+use Rattle.put_ids.proofs.chapter_id.Statement.{statement}
+use Rattle.put_ids.proofs.chapter_id.Tie as tie
 
 piece-requires : tie.Need-piece-requires
 piece-requires c κs = search needs

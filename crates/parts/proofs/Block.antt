@@ -5,9 +5,9 @@ use Prim.Native.Nat.{ℕ, _+_, _-_, _≤_, _<_}
 use native.Mathlib.Omega.{arith}
 use lib.ListN.{length, take, drop, drop-of-length-le, take-append-drop, length-append, length-drop, length-take}
 use lib.Seq.{take-length, length-take-le, drop-drop, take-take, take-add, take-append-le, take-append-add, drop-append-add}
 use Rattle.parts.specs.Bytes.{Bytes}
-use Rattle.lay.specs.Lay.{over}
-use Rattle.lay.proofs.Over.{over-whole, over-none, over-length}
+use Rattle.parts.specs.Over.{over}
+use Rattle.parts.proofs.Over.{over-whole, over-none, over-length}
 
 -- ---- a block
 
