@@ -15,7 +15,7 @@ use Rattle.usx_state.specs.declared.OpenVerse.the-variants.{NoVerse, Verse}
 use Rattle.events.specs.Event.{rawly}
 use Rattle.events.specs.Pairing.{chapterId, verseId, endOf}
 use Rattle.desk.specs.Desk.{chapterIn, verseIn}
-use Rattle.desk.specs.Stroke.{Stroke, opens, key, piece, endValue, shuts, strokesOfAttr, strokesOfAttrs, strokesOf, strokesOfAll, strokes, Drew}
+use Rattle.desk.specs.Stroke.{Stroke, opens, key, piece, endValue, shuts, strokesOfAttr, strokesOfAttrs, strokesOf, strokesOfAll, Drew}
 use Rattle.desk.proofs.Strokes.{drew-none, drew-two, drew-pieces}
 
 -- ---- in a row

@@ -1,12 +1,11 @@
 -- What the code that writes a run leaves on the page.
-use mathlib.Core.Path.{_≡_, refl, sym, ap, _∙_}
-use mathlib.Core.List.{[], _∷_, _++_, append-nil}
+use mathlib.Core.Path.{_≡_, sym, ap, _∙_}
+use mathlib.Core.List.{[], _∷_}
 use Prim.Native.Nat.{ℕ, _+_, _-_, _≤_, _<_, _^_}
 use native.Mathlib.Omega.{arith}
-use lib.ListN.{length, getD, take, drop, drop-of-length-le, length-drop, length-take}
-use lib.Seq.{take-all, take-length, drop-drop}
+use lib.ListN.{length, getD, drop, drop-of-length-le}
 use Rattle.parts.specs.Bytes.{Bytes}
-use Rattle.parts.proofs.Laws.{drop-part, drop-at}
+use Rattle.parts.proofs.Laws.{drop-at}
 use Rattle.window.specs.Page.{Page, paint}
 use Rattle.parts.specs.Over.{lay}
 use Rattle.window.proofs.Paint.{paint-lay}
