@@ -1,7 +1,7 @@
 /*
  * Andelura: the USX text of a tape file, windows of it, a checker of finished text, the names of a tape, and a writer of tapes. For x86-64 Linux.
  *
- * Each function is proved to meet its contract in crates/api (in the words of crates/told/specs/Told.antt and crates/steps/specs/Numbers.antt), for every content of what it is lent. None allocates,
+ * Each function is proved to meet its contract in crates/api (in the words of specs/Told.antt in crates/told and crates/told_texts, and crates/steps/specs/Numbers.antt), for every content of what it is lent. None allocates,
  * none keeps a pointer, none reads or writes anything but what it is lent, and each may be called by several threads at once on slices of their own.
  *
  * What the caller sees to, since no proof can:

@@ -1,7 +1,8 @@
 // The text of a tape, a window of it, a finished text, the names of a tape, for C: over a lent buffer and lent numbers.
 ghost use Rattle.events.specs.Text.{outcome};
 ghost use Rattle.usx.specs.Shown.{view};
-ghost use Rattle.told.specs.Told.{Wrote, Showed, Checked, Named};
+ghost use Rattle.told.specs.Told.{Checked, Named};
+ghost use Rattle.told_texts.specs.Told.{Wrote, Showed};
 
 // Writes the USX text of a tape file at the front of a buffer. Gives document 01's number, 0 where it is written; of the numbers 0 becomes the text's
 // length, also where 8 says that it is more than there is room for, and 0 where the file is refused.
@@ -9,7 +10,7 @@ ghost use Rattle.told.specs.Told.{Wrote, Showed, Checked, Named};
 pub extern "C" fn andelura_serialize(file: &[u8], out: &mut [u8], numbers: &mut [u64]) -> u32
     ensures { λ r. ⌜ Wrote (outcome (now (file .entry)) (now (out .entry))) (now (numbers .entry)) r (now (numbers .exit)) (now (out .exit)) ⌝ }
 {
-    told::serialize(file, out, numbers)
+    told_texts::serialize(file, out, numbers)
 }
 
 // Shows the bytes of a tape file's text from one on, as many as the buffer has room for. Gives document 01's number, 0 where they are shown; of the numbers
@@ -23,7 +24,7 @@ pub extern "C" fn andelura_window(
 ) -> u32
     ensures { λ r. ⌜ Showed (view (now (file .entry)) from (now (out .entry))) (now (numbers .entry)) r (now (numbers .exit)) (now (out .exit)) ⌝ }
 {
-    told::window(file, from, out, numbers)
+    told_texts::window(file, from, out, numbers)
 }
 
 // Checks a finished text. Gives document 01's number, 0 where it is accepted; of the numbers 0 becomes how many chapters start and 1 how many verses, both 0

@@ -1,3 +1,2 @@
-pub mod Shows
 pub mod Reviews
 pub mod One

@@ -1,4 +1,4 @@
--- What the calls about a text leave, beside what stands in a lent buffer: numbers at fixed places, as far as the lent slice reaches. The contracts.
+-- What the calls about a finished text and about names leave: numbers at fixed places, as far as the lent slice reaches. The contracts.
 use mathlib.Core.Path.{_≡_}
 use mathlib.Core.List.{List}
 use Prim.Native.Nat.{ℕ}
@@ -6,8 +6,6 @@ use lib.ListN.{set}
 use Rattle.parts.specs.Bytes.{Bytes}
 use Rattle.words.specs.declared.Part.{Part}
 use Rattle.tape.specs.File.{tapeOf}
-use Rattle.events.specs.Text.{Outcome}
-use Rattle.usx.specs.Shown.{View}
 use Rattle.checker.specs.declared.Verdict.{Verdict}
 use Rattle.checker.specs.declared.Verdict.the-variants.{Accepted, NotTags, TooHigh, NoTree, BadMarks}
 use Rattle.checker.specs.Answer.{answerOf}
@@ -18,20 +16,6 @@ use Rattle.names.specs.declared.What.the-variants.{Code, Label, Marker, Key}
 use Rattle.names.specs.declared.Found.{Found}
 use Rattle.names.specs.declared.Found.the-variants.{Refused, Kept, Broken}
 use Rattle.names.specs.Finding.{Finds}
-
--- ---- the text of a tape
-
--- the outcome's number; of the lent numbers 0 is the length that the outcome gives; its buffer
-pub record Wrote (o : Outcome) (before : List ℕ) (number : ℕ) (after : List ℕ) (last : Bytes) : Type 0 where
-  pub answer : number ≡ o .number
-  pub told : after ≡ set before 0 (o .given)
-  pub buffer : last ≡ o .buffer
-
--- the view's number; of the lent numbers 0 is how many bytes are given and 1 how long the whole text is; the view's buffer
-pub record Showed (v : View) (before : List ℕ) (number : ℕ) (after : List ℕ) (last : Bytes) : Type 0 where
-  pub answer : number ≡ v .number
-  pub lengths : after ≡ set (set before 0 (v .given)) 1 (v .whole)
-  pub buffer : last ≡ v .buffer
 
 -- ---- a finished text
 
