@@ -1,2 +1,4 @@
 pub mod Tags
 pub mod Finds
+pub mod TableTags
+pub mod Frame

@@ -1,4 +1,7 @@
-// The tags of sidebars and periphs, and whether they have blocks to hold.
+// The tags of what holds others: the whole text, tables with rows and cells, sidebars and periphs; whether the last two have blocks to hold.
+mod cells;
+mod whole;
+
 ghost use mathlib.Core.Path.{_≡_};
 ghost use mathlib.Core.Bool.{true, false};
 ghost use mathlib.Core.List.{[], _∷_};
@@ -13,6 +16,13 @@ ghost use Rattle.desk.specs.Desk.{deskOf};
 ghost use Rattle.desk.specs.Stroke.{opens, strokesOfAttrs, Drew};
 ghost use Rattle.lists.specs.Span.{nodesIn};
 ghost use Rattle.holders.specs.Holders.{isBlockOrRow, sidebarAttrs, periphAttrs, attrsOf, elementNo};
+pub use cells::close_row;
+pub use cells::close_table;
+pub use cells::empty_cell;
+pub use cells::is_cell;
+pub use cells::open_cell;
+pub use cells::open_row;
+pub use cells::open_table;
 use desk::Element;
 use desk::Numbers;
 use desk::close_tag;
@@ -33,6 +43,8 @@ use put_markers::put_unclosed;
 use tape::Cursor;
 use tape::Sections;
 use tape::Step;
+pub use whole::close_usx;
+pub use whole::open_usx;
 use words::Set;
 
 // Whether a node is a block or a row.

@@ -29,7 +29,8 @@ use Rattle.desk.specs.Desk.{deskOf}
 use Rattle.desk.specs.Stroke.{closes, strokesOf, Drew}
 use Rattle.desk.proofs.Strokes.{drew-item}
 use Rattle.roles.specs.Roles.{mannerBy}
-use Rattle.tables.specs.Rows.{isNoRow, rowOpens, rowCloses, tableOpens, tableCloses}
+use Rattle.holders.specs.Rows.{rowOpens, rowCloses, tableOpens, tableCloses}
+use Rattle.tables.specs.Rows.{isNoRow}
 use Rattle.tables.proofs.Spans.{up-row, up-other, up-none}
 
 -- ---- a cell

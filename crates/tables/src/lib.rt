@@ -1,35 +1,36 @@
-// Tables of rows of cells.
+// Tables of rows of cells: cells with what stands in them, rows of cells, tables of rows.
 ghost use mathlib.Core.Path.{_≡_};
+ghost use mathlib.Core.Bool.{false};
 ghost use mathlib.Core.List.{[], _∷_};
-ghost use Rattle.parts.specs.Bytes.{Bytes, b};
+ghost use Rattle.parts.specs.Bytes.{b};
 ghost use Rattle.tape.specs.File.{tapeIn};
 ghost use Rattle.tape.specs.Name.{markerName};
+ghost use Rattle.tape.specs.Tree.{upTo, walkFrom};
+ghost use Rattle.leading_white.specs.Lean.{Solids};
 ghost use Rattle.render.specs.Note.{cellAlign, alignWord};
-ghost use Rattle.tags.specs.Items.{start, empty};
-ghost use Rattle.events.specs.Event.{item, rawly, escaped};
-ghost use Rattle.events.specs.Walk.{isKnown, isCell, style};
-ghost use Rattle.events.specs.Emit.{emit, emitAll};
+ghost use Rattle.events.specs.Event.{escaped, element};
+ghost use Rattle.events.specs.Walk.{asInline, inside as insideOf, style, cellIn, cellsAlong, cells as cellsOf, rowE, rowsE, tableE};
+ghost use Rattle.events.specs.Emit.{emitAll};
 ghost use Rattle.desk.specs.Desk.{deskOf};
-ghost use Rattle.desk.specs.Stroke.{opens, strokesOfAttr, strokesOfAttrs, Drew};
-ghost use Rattle.tables.specs.Rows.{depthAt, rowOpens, rowCloses, tableOpens, tableCloses};
-
-mod full;
-
+ghost use Rattle.lists.specs.Span.{nodesIn};
+ghost use Rattle.tables.specs.Rows.{depthAt, isNoRow};
 use desk::Element;
 use desk::Numbers;
-use desk::attr;
 use desk::close_tag;
-use desk::end_tag;
 use desk::line;
-use desk::open_styled;
-use desk::open_tag;
-use desk::shut_tag;
-pub use full::table;
-use render::Align;
+use holders::close_row;
+use holders::close_table;
+use holders::empty_cell;
+use holders::is_cell;
+use holders::open_cell;
+use holders::open_row;
+use holders::open_table;
+use lists::Member;
+use lists::Span;
+use lists::member_of;
 use tape::Cursor;
-use tape::Info;
-use tape::Kind;
 use tape::Sections;
+use tape::Step;
 
 // The level at which no container may be entered any more: 64 may be entered in each other, and the blocks of Root stand at level 1.
 const DEEPEST: u8 = 65;
@@ -45,105 +46,192 @@ pub fn depth_at(level: u8) -> usize
     }
 }
 
-fn is_known(known: Info) -> bool
-    ensures { λ r. ⌜ r ≡ isKnown known ⌝ }
-{
-    match known {
-        Info::Known(_) => true,
-        Info::Unknown => false,
-    }
-}
-
-// Cells are known markers.
-fn is_cell(file: &[u8], tape: Sections, c: Cursor) -> bool
-    ensures { λ r. ⌜ r ≡ isCell (tapeIn tape (now (file .entry))) (c .at) ⌝ }
-{
-    let kind = c.kind(file, tape);
-    if kind.code == Kind::MARKER_OPEN {
-        return is_known(c.marker_info(file, tape));
-    }
-    false
-}
-
-// The alignment of a cell.
-fn put_align(at: usize, desk: &mut Numbers, out: &mut [u8], align: Align) -> usize
-    ensures { λ r. ⌜ Drew at (now (desk .entry)) (now (out .entry)) (strokesOfAttr (escaped (b "align") (alignWord align))) r (now (desk .exit)) (now (out .exit)) ⌝ }
-{
-    match align {
-        Align::Start => attr(at, desk, out, b"align", b"start", false),
-        Align::Center => attr(at, desk, out, b"align", b"center", false),
-        Align::End => attr(at, desk, out, b"align", b"end", false),
-    }
-}
-
-// A cell's tag up to its end: style and alignment.
-fn put_cell(at: usize, desk: &mut Numbers, out: &mut [u8], name: &[u8]) -> usize
-    ensures { λ r. ⌜ Drew at (now (desk .entry)) (now (out .entry)) (opens 12 ∷ strokesOfAttrs (rawly (b "style") (now (name .entry)) ∷ escaped (b "align") (alignWord (cellAlign (now (name .entry)))) ∷ [])) r (now (desk .exit)) (now (out .exit)) ⌝ }
-{
-    let a = open_styled(at, desk, out, Element::Cell, name);
-    put_align(a, desk, out, render::cell_align(name))
-}
-
-// A cell's tag, where something stands in it.
-fn open_cell(
+// A cell with what stands in it.
+fn full_cell(
     file: &[u8],
     tape: Sections,
+    solids: &[u32],
     c: Cursor,
+    depth: usize,
     at: usize,
     desk: &mut Numbers,
     out: &mut [u8],
 ) -> usize
-    ensures { λ r. ⌜ deskOf (tapeIn tape (now (file .entry)) .source) r (now (desk .exit)) (now (out .exit)) ≡ emit (deskOf (tapeIn tape (now (file .entry)) .source) at (now (desk .entry)) (now (out .entry))) (item (start 12 (style (tapeIn tape (now (file .entry))) (c .at) ∷ escaped (b "align") (alignWord (cellAlign (markerName (tapeIn tape (now (file .entry))) (c .at)))) ∷ []))) ⌝ }
+    requires { ⌜ Solids (tapeIn tape (now file)) (now solids) ⌝ }
+    ensures { λ r. ⌜ deskOf (tapeIn tape (now (file .entry)) .source) r (now (desk .exit)) (now (out .exit)) ≡ emitAll (deskOf (tapeIn tape (now (file .entry)) .source) at (now (desk .entry)) (now (out .entry))) (element 12 (style (tapeIn tape (now (file .entry))) (c .at) ∷ escaped (b "align") (alignWord (cellAlign (markerName (tapeIn tape (now (file .entry))) (c .at)))) ∷ []) (insideOf (tapeIn tape (now (file .entry))) depth asInline (c .at) false)) ⌝ }
 {
-    let a = put_cell(at, desk, out, c.marker_name(file, tape));
-    end_tag(a, desk, out)
+    let a = open_cell(file, tape, c, at, desk, out);
+    let z = inline::inside(file, tape, solids, c, depth, false, false, a, desk, out);
+    close_tag(z, desk, out, Element::Cell)
 }
 
-// A cell with nothing in it.
-fn empty_cell(
+// A cell on its line.
+fn cell(
     file: &[u8],
     tape: Sections,
+    solids: &[u32],
     c: Cursor,
+    level: usize,
+    depth: usize,
     at: usize,
     desk: &mut Numbers,
     out: &mut [u8],
 ) -> usize
-    ensures { λ r. ⌜ deskOf (tapeIn tape (now (file .entry)) .source) r (now (desk .exit)) (now (out .exit)) ≡ emit (deskOf (tapeIn tape (now (file .entry)) .source) at (now (desk .entry)) (now (out .entry))) (item (empty 12 (style (tapeIn tape (now (file .entry))) (c .at) ∷ escaped (b "align") (alignWord (cellAlign (markerName (tapeIn tape (now (file .entry))) (c .at)))) ∷ []))) ⌝ }
+    requires { ⌜ Solids (tapeIn tape (now file)) (now solids) ⌝ }
+    ensures { λ r. ⌜ deskOf (tapeIn tape (now (file .entry)) .source) r (now (desk .exit)) (now (out .exit)) ≡ emitAll (deskOf (tapeIn tape (now (file .entry)) .source) at (now (desk .entry)) (now (out .entry))) (cellIn (insideOf (tapeIn tape (now (file .entry))) depth) (tapeIn tape (now (file .entry))) level (c .at)) ⌝ }
 {
-    let a = put_cell(at, desk, out, c.marker_name(file, tape));
-    shut_tag(a, desk, out)
+    let s = line(at, desk, out, level);
+    if render::has_content(file, tape, solids, c) {
+        full_cell(file, tape, solids, c, depth, s, desk, out)
+    } else {
+        empty_cell(file, tape, c, s, desk, out)
+    }
 }
 
-// The start of a row on its line.
-fn open_row(level: usize, at: usize, desk: &mut Numbers, out: &mut [u8]) -> usize
-    ensures { λ r. ⌜ ((source : Bytes) → deskOf source r (now (desk .exit)) (now (out .exit)) ≡ emitAll (deskOf source at (now (desk .entry)) (now (out .entry))) (rowOpens level)) ⌝ }
+// The cells among a row's children.
+fn cells_along(
+    file: &[u8],
+    tape: Sections,
+    solids: &[u32],
+    first: Step,
+    level: usize,
+    depth: usize,
+    at: usize,
+    desk: &mut Numbers,
+    out: &mut [u8],
+) -> usize
+    requires { ⌜ Solids (tapeIn tape (now file)) (now solids) ⌝ }
+    ensures { λ r. ⌜ deskOf (tapeIn tape (now (file .entry)) .source) r (now (desk .exit)) (now (out .exit)) ≡ emitAll (deskOf (tapeIn tape (now (file .entry)) .source) at (now (desk .entry)) (now (out .entry))) (cellsAlong (insideOf (tapeIn tape (now (file .entry))) depth) (tapeIn tape (now (file .entry))) level (walkFrom (tapeIn tape (now (file .entry))) first)) ⌝ }
 {
-    let a = line(at, desk, out, level);
-    let z = open_styled(a, desk, out, Element::Row, b"tr");
-    end_tag(z, desk, out)
+    let mut s = at;
+    let mut step = first;
+    loop {
+        match step {
+            Step::Done => return s,
+            Step::At(c) => {
+                step = c.next_sibling(file, tape);
+                if is_cell(file, tape, c) {
+                    s = cell(file, tape, solids, c, level, depth, s, desk, out);
+                }
+            }
+        }
+    }
 }
 
-// The end of a row on its line.
-fn close_row(level: usize, at: usize, desk: &mut Numbers, out: &mut [u8]) -> usize
-    ensures { λ r. ⌜ ((source : Bytes) → deskOf source r (now (desk .exit)) (now (out .exit)) ≡ emitAll (deskOf source at (now (desk .entry)) (now (out .entry))) (rowCloses level)) ⌝ }
+fn cells(
+    file: &[u8],
+    tape: Sections,
+    solids: &[u32],
+    row: Cursor,
+    level: usize,
+    depth: usize,
+    at: usize,
+    desk: &mut Numbers,
+    out: &mut [u8],
+) -> usize
+    requires { ⌜ Solids (tapeIn tape (now file)) (now solids) ⌝ }
+    ensures { λ r. ⌜ deskOf (tapeIn tape (now (file .entry)) .source) r (now (desk .exit)) (now (out .exit)) ≡ emitAll (deskOf (tapeIn tape (now (file .entry)) .source) at (now (desk .entry)) (now (out .entry))) (cellsOf (tapeIn tape (now (file .entry))) depth level (row .at)) ⌝ }
 {
-    let a = line(at, desk, out, level);
-    close_tag(a, desk, out, Element::Row)
+    if depth == 0 {
+        return at;
+    }
+    cells_along(
+        file,
+        tape,
+        solids,
+        row.first_child(file, tape),
+        level,
+        depth - 1,
+        at,
+        desk,
+        out,
+    )
 }
 
-// The start of a table on its line.
-fn open_table(level: usize, at: usize, desk: &mut Numbers, out: &mut [u8]) -> usize
-    ensures { λ r. ⌜ ((source : Bytes) → deskOf source r (now (desk .exit)) (now (out .exit)) ≡ emitAll (deskOf source at (now (desk .entry)) (now (out .entry))) (tableOpens level)) ⌝ }
+fn row(
+    file: &[u8],
+    tape: Sections,
+    solids: &[u32],
+    c: Cursor,
+    level: u8,
+    at: usize,
+    desk: &mut Numbers,
+    out: &mut [u8],
+) -> usize
+    requires { ⌜ Solids (tapeIn tape (now file)) (now solids) ⌝ }
+    ensures { λ r. ⌜ deskOf (tapeIn tape (now (file .entry)) .source) r (now (desk .exit)) (now (out .exit)) ≡ emitAll (deskOf (tapeIn tape (now (file .entry)) .source) at (now (desk .entry)) (now (out .entry))) (rowE (tapeIn tape (now (file .entry))) (depthAt level) level (c .at)) ⌝ }
 {
-    let a = line(at, desk, out, level);
-    let z = open_tag(a, desk, out, Element::Table);
-    end_tag(z, desk, out)
+    let wide = level as usize;
+    let a = open_row(wide + 1, at, desk, out);
+    let z = cells(
+        file,
+        tape,
+        solids,
+        c,
+        wide + 2,
+        depth_at(level),
+        a,
+        desk,
+        out,
+    );
+    close_row(wide + 1, z, desk, out)
 }
 
-// The end of a table on its line.
-fn close_table(level: usize, at: usize, desk: &mut Numbers, out: &mut [u8]) -> usize
-    ensures { λ r. ⌜ ((source : Bytes) → deskOf source r (now (desk .exit)) (now (out .exit)) ≡ emitAll (deskOf source at (now (desk .entry)) (now (out .entry))) (tableCloses level)) ⌝ }
+// The rows that stand together from a step on.
+fn rows(
+    file: &[u8],
+    tape: Sections,
+    solids: &[u32],
+    span: Span,
+    first: Step,
+    level: u8,
+    at: usize,
+    desk: &mut Numbers,
+    out: &mut [u8],
+) -> usize
+    requires { ⌜ Solids (tapeIn tape (now file)) (now solids) ⌝ }
+    ensures { λ r. ⌜ deskOf (tapeIn tape (now (file .entry)) .source) r (now (desk .exit)) (now (out .exit)) ≡ emitAll (deskOf (tapeIn tape (now (file .entry)) .source) at (now (desk .entry)) (now (out .entry))) (rowsE (tapeIn tape (now (file .entry))) (depthAt level) level (upTo (isNoRow (tapeIn tape (now (file .entry)))) (nodesIn (tapeIn tape (now (file .entry))) span first))) ⌝ }
 {
-    let a = line(at, desk, out, level);
-    close_tag(a, desk, out, Element::Table)
+    let mut s = at;
+    let mut step = first;
+    loop {
+        match step {
+            Step::Done => return s,
+            Step::At(c) => match member_of(file, tape, span, c) {
+                Member::End => return s,
+                Member::Skipped => {
+                    step = c.next_sibling(file, tape);
+                }
+                Member::Listed => {
+                    if render::is_row(file, tape, c) {
+                        s = row(file, tape, solids, c, level, s, desk, out);
+                        step = c.next_sibling(file, tape);
+                    } else {
+                        return s;
+                    }
+                }
+            },
+        }
+    }
+}
+
+// A table of the rows that stand together from a step on.
+pub fn table(
+    file: &[u8],
+    tape: Sections,
+    solids: &[u32],
+    span: Span,
+    first: Step,
+    level: u8,
+    at: usize,
+    desk: &mut Numbers,
+    out: &mut [u8],
+) -> usize
+    requires { ⌜ Solids (tapeIn tape (now file)) (now solids) ⌝ }
+    ensures { λ r. ⌜ deskOf (tapeIn tape (now (file .entry)) .source) r (now (desk .exit)) (now (out .exit)) ≡ emitAll (deskOf (tapeIn tape (now (file .entry)) .source) at (now (desk .entry)) (now (out .entry))) (tableE (tapeIn tape (now (file .entry))) (depthAt level) level (upTo (isNoRow (tapeIn tape (now (file .entry)))) (nodesIn (tapeIn tape (now (file .entry))) span first))) ⌝ }
+{
+    let wide = level as usize;
+    let a = open_table(wide, at, desk, out);
+    let z = rows(file, tape, solids, span, first, level, a, desk, out);
+    close_table(wide, z, desk, out)
 }

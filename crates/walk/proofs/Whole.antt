@@ -27,18 +27,17 @@ use Rattle.tags.specs.Names.{nameOf}
 use Rattle.tags.proofs.Rendered.{render-append}
 use Rattle.lists.specs.Span.{filtered, cutBy, nodesIn}
 use Rattle.lists.specs.declared.Span.{Span}
-use Rattle.events.specs.Event.{Event, item, escaped}
-use Rattle.events.specs.Pairing.{State, lastEnds, paired, itemsOf, after}
+use Rattle.events.specs.Event.{Event, escaped}
+use Rattle.events.specs.Pairing.{State, lastEnds, paired}
 use Rattle.events.specs.Walk.{blocksE, eventsWithin, eventsOf}
 use Rattle.events.specs.Text.{anyChapter, firstState, itemsOfTape, textOf, fitting}
 use Rattle.events.specs.Profile.{Profile, rust, renderAs}
-use Rattle.events.specs.Emit.{Desk, lay, emit, emitAll, emitted, afterAll}
-use Rattle.events.proofs.Emits.{one-profile, as-append, paired-emitted, emit-page, emit-state, emit-profile}
+use Rattle.events.specs.Emit.{Desk, lay, emitAll, emitted, afterAll}
+use Rattle.events.proofs.Emits.{one-profile, paired-emitted, emit-page, emit-state, emit-profile}
 use Rattle.usx_state.specs.Mark.{newMarks}
 use Rattle.usx_state.specs.declared.Marks.{Marks}
 use Rattle.desk.specs.Desk.{chapterIn, verseIn, stateIn, marksOf, profileOf, deskOf, putOn, ended}
-use Rattle.desk.specs.Stroke.{opens as openStroke, key, piece, endValue, ends as endStroke, closes as closeStroke, strokesOf, strokesOfAttrs, strokesOfAttr, ink, inkAll, strokes, Drew}
-use Rattle.desk.proofs.Strokes.{drew-two, strokes-item}
+use Rattle.desk.specs.Stroke.{strokesOf, strokesOfAttrs, strokesOfAttr, ink, inkAll, strokes, Drew}
 use Rattle.walk.specs.Asked.{wholeIn, left, Walked}
 use Rattle.walk.specs.Shows.{windowOf, showing}
 use Rattle.walk.specs.declared.Asked.{Asked}
@@ -110,21 +109,6 @@ text-some t = rw (text-parts t) (omega arith)
 -- the desk that a walk starts with
 abbrev atFirst : Tape → ℕ → Bytes → Desk
 atFirst t from out = record { page = record { at = 0; from = from; buf = out }; state = firstState t; profile = rust }
-
--- the tag around the whole text
-pub usx-opened : {at a d r : ℕ} (n n₁ n₂ n₃ : List ℕ) {out o₁ o₂ last : Bytes} → Drew at n out (openStroke 1 ∷ []) a n₁ o₁ → Drew a n₁ o₁ (key (b "version") ∷ piece false (b "3.0") ∷ endValue ∷ []) d n₂ o₂
-    → Drew d n₂ o₂ (endStroke ∷ []) r n₃ last → Drew at n out (strokesOf (start 1 (escaped (b "version") (b "3.0") ∷ []))) r n₃ last
-unfolding strokesOf strokesOfAttrs strokesOfAttr escaped
-usx-opened n n₁ n₂ n₃ e₁ e₂ e₃ = drew-two n n₁ n₃ e₁ (drew-two n₁ n₂ n₃ e₂ e₃)
-
--- the last new line, and its end
-pub usx-closed : (w : Desk) {a r : Desk} → a ≡ emit w (item (line 0)) → r ≡ strokes a (closeStroke 1 ∷ []) → r ≡ lay w (line 0 ∷ close 1 ∷ [])
-unfolding strokesOf emit lay itemsOf after
-usx-closed w {a} ea er =
-    let x : Bytes = renderAs (w .profile) (line 0 ∷ []) in
-    let y : Bytes = renderAs (w .profile) (close 1 ∷ []) in
-    er ∙ strokes-item a (close 1) ∙ ap (λ (z : Desk). emit z (item (close 1))) ea
-    ∙ ap (λ (p : Page). record { page = p; state = w .state; profile = w .profile }) (paint-append (w .page) x y ∙ ap (paint (w .page)) (sym (as-append (w .profile) (line 0 ∷ []) (close 1 ∷ []))))
 
 opened-bytes : (w : Desk) → strokes w (strokesOf (start 1 (escaped (b "version") (b "3.0") ∷ []))) ≡ putOn w opens
 unfolding strokes inkAll ink strokesOf strokesOfAttrs strokesOfAttr escaped nameOf escape escapedByte

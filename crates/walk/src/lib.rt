@@ -1,29 +1,18 @@
 // The walk over an admitted tape: the whole text, if there is room for it, or a window of it.
 ghost use mathlib.Core.Path.{_≡_};
-ghost use mathlib.Core.List.{[], _∷_};
-ghost use Rattle.parts.specs.Bytes.{Bytes, b};
-ghost use Rattle.tags.specs.Element.{usx};
-ghost use Rattle.tags.specs.Items.{start, close, line as lineItem};
-ghost use Rattle.events.specs.Event.{escaped};
-ghost use Rattle.events.specs.Emit.{lay};
-ghost use Rattle.desk.specs.Stroke.{strokesOf, Drew};
 ghost use Prim.Native.Nat.{_+_, _/_, _≤_, min};
 ghost use Rattle.tape.specs.File.{tapeIn};
 ghost use Rattle.leading_white.specs.Lean.{Solids};
 ghost use Rattle.usx_state.specs.Mark.{newMarks};
 ghost use Rattle.events.specs.Text.{firstState};
-ghost use Rattle.desk.specs.Desk.{marksOf, deskOf};
+ghost use Rattle.desk.specs.Desk.{marksOf};
 ghost use lib.ListN.{getD};
 ghost use Rattle.walk.specs.Asked.{wholeIn, Walked};
 ghost use Rattle.walk.specs.declared.Asked.the-variants.{Whole};
 use blocks::blocks;
-use desk::Element;
 use desk::Numbers;
-use desk::attr;
-use desk::close_tag;
-use desk::end_tag;
-use desk::line;
-use desk::open_tag;
+use holders::close_usx;
+use holders::open_usx;
 use tape::Cursor;
 use tape::Kind;
 use tape::Sections;
@@ -50,23 +39,6 @@ fn first_number(file: &[u8], tape: Sections) -> u32
         i += 1;
     }
     1
-}
-
-// The tag around the whole text.
-fn open_usx(at: usize, desk: &mut Numbers, out: &mut [u8]) -> usize
-    ensures { λ r. ⌜ Drew at (now (desk .entry)) (now (out .entry)) (strokesOf (start usx (escaped (b "version") (b "3.0") ∷ []))) r (now (desk .exit)) (now (out .exit)) ⌝ }
-{
-    let a = open_tag(at, desk, out, Element::Usx);
-    let d = attr(a, desk, out, b"version", b"3.0", false);
-    end_tag(d, desk, out)
-}
-
-// The last new line, and the end of the whole text.
-fn close_usx(at: usize, desk: &mut Numbers, out: &mut [u8]) -> usize
-    ensures { λ r. ⌜ ((source : Bytes) → deskOf source r (now (desk .exit)) (now (out .exit)) ≡ lay (deskOf source at (now (desk .entry)) (now (out .entry))) (lineItem 0 ∷ close usx ∷ [])) ⌝ }
-{
-    let a = line(at, desk, out, 0);
-    close_tag(a, desk, out, Element::Usx)
 }
 
 // The whole text on a desk on which nothing is open; its length.
