@@ -14,14 +14,15 @@ use Rattle.render.specs.Note.{cellAlign, alignWord}
 use Rattle.render.specs.declared.note.Align.{Align}
 use Rattle.render.specs.declared.note.Align.the-variants.{Start, Center, End}
 use Rattle.render.proofs.Shapes.{kind-is, kind-not}
-use Rattle.tags.specs.Items.{Item, start, empty, close, line}
+use Rattle.tags.specs.Items.{start, empty, close, line}
 use Rattle.events.specs.Event.{item, rawly, escaped}
 use Rattle.events.specs.Walk.{isKnown, isCell, style, styled}
 use Rattle.events.specs.Emit.{Desk, emit, emitAll}
 use Rattle.desk.specs.Desk.{deskOf}
 use Rattle.desk.specs.Stroke.{opens, key, piece, endValue, ends, shuts, closes, strokesOfAttr, strokesOfAttrs, strokesOf, Drew}
-use Rattle.desk.proofs.Strokes.{drew-two, drew-item}
-use Rattle.holders.specs.Rows.{rowOpens, rowCloses, tableOpens, tableCloses}
+use Rattle.desk.proofs.Strokes.{drew-two}
+use Rattle.holders.specs.Rows.{cellAttrs, rowOpens, rowCloses, tableOpens, tableCloses}
+use Rattle.holders.proofs.Tags.{tag-started, tag-emptied, on-line}
 
 -- ---- which children are cells
 
@@ -67,36 +68,32 @@ module _ {at a r : ℕ} (d d₁ d₂ : List ℕ) {out mid last : Bytes} where
   module _ (t : Tape) (k : ℕ) {name : Bytes} (en : name ≡ markerName t k)
       (e : Drew at d out (opens 12 ∷ strokesOfAttrs (rawly (b "style") name ∷ escaped (b "align") (alignWord (cellAlign name)) ∷ [])) a d₁ mid) where
     pub cell-opened : Drew a d₁ mid (ends ∷ []) r d₂ last
-        → deskOf (t .source) r d₂ last ≡ emit (deskOf (t .source) at d out) (item (start 12 (style t k ∷ escaped (b "align") (alignWord (cellAlign (markerName t k))) ∷ [])))
-    unfolding style strokesOf
-    cell-opened f = drew-item d d₂ (start 12 _) (drew-two d d₁ d₂ (rw en at e) f) (t .source)
+        → deskOf (t .source) r d₂ last ≡ emit (deskOf (t .source) at d out) (item (start 12 (cellAttrs t k)))
+    unfolding style
+    cell-opened f = tag-started (t .source) 12 _ d d₁ d₂ (rw en at e) f
 
     pub cell-emptied : Drew a d₁ mid (shuts ∷ []) r d₂ last
-        → deskOf (t .source) r d₂ last ≡ emit (deskOf (t .source) at d out) (item (empty 12 (style t k ∷ escaped (b "align") (alignWord (cellAlign (markerName t k))) ∷ [])))
-    unfolding style strokesOf
-    cell-emptied f = drew-item d d₂ (empty 12 _) (drew-two d d₁ d₂ (rw en at e) f) (t .source)
+        → deskOf (t .source) r d₂ last ≡ emit (deskOf (t .source) at d out) (item (empty 12 (cellAttrs t k)))
+    unfolding style
+    cell-emptied f = tag-emptied (t .source) 12 _ d d₁ d₂ (rw en at e) f
 
 -- ---- tags on lines of their own
 
 module _ (source : Bytes) (level : ℕ) (w : Desk) {a r : ℕ} (d₁ d₂ : List ℕ) {mid last : Bytes} (ea : deskOf source a d₁ mid ≡ emit w (item (line level))) where
-  line-item : (i : Item) → Drew a d₁ mid (strokesOf i) r d₂ last → deskOf source r d₂ last ≡ emitAll w (item (line level) ∷ item i ∷ [])
-  unfolding emitAll
-  line-item i e = drew-item d₁ d₂ i e source ∙ ap (λ (v : Desk). emit v (item i)) ea
-
   pub row-closed : Drew a d₁ mid (closes 11 ∷ []) r d₂ last → deskOf source r d₂ last ≡ emitAll w (rowCloses level)
   unfolding rowCloses strokesOf
-  row-closed e = line-item (close 11) e
+  row-closed e = on-line level w ea (close 11) (e .on source)
 
   pub table-closed : Drew a d₁ mid (closes 10 ∷ []) r d₂ last → deskOf source r d₂ last ≡ emitAll w (tableCloses level)
   unfolding tableCloses strokesOf
-  table-closed e = line-item (close 10) e
+  table-closed e = on-line level w ea (close 10) (e .on source)
 
   module _ {z : ℕ} (d₃ : List ℕ) {now : Bytes} where
     pub row-opened : Drew a d₁ mid (opens 11 ∷ key (b "style") ∷ piece true (b "tr") ∷ endValue ∷ []) z d₃ now → Drew z d₃ now (ends ∷ []) r d₂ last
         → deskOf source r d₂ last ≡ emitAll w (rowOpens level)
     unfolding rowOpens styled rawly strokesOf strokesOfAttrs strokesOfAttr
-    row-opened e f = line-item (start 11 (styled (b "tr"))) (drew-two d₁ d₃ d₂ e f)
+    row-opened e f = on-line level w ea (start 11 (styled (b "tr"))) (drew-two d₁ d₃ d₂ e f .on source)
 
     pub table-opened : Drew a d₁ mid (opens 10 ∷ []) z d₃ now → Drew z d₃ now (ends ∷ []) r d₂ last → deskOf source r d₂ last ≡ emitAll w (tableOpens level)
     unfolding tableOpens strokesOf strokesOfAttrs
-    table-opened e f = line-item (start 10 []) (drew-two d₁ d₃ d₂ e f)
+    table-opened e f = on-line level w ea (start 10 []) (drew-two d₁ d₃ d₂ e f .on source)

@@ -17,7 +17,7 @@ use Rattle.render.specs.Shape.{isRow, isTopLevelBlock}
 use Rattle.render.specs.Children.{firstText}
 use Rattle.render.specs.Note.{writtenCategory, stepText, firstWords, unlessEmpty, periphAlt}
 use Rattle.attrs.specs.Attr.{attributesOf}
-use Rattle.tags.specs.Items.{Attr, start, empty, close, line}
+use Rattle.tags.specs.Items.{Attr, Item, start, empty, close, line}
 use Rattle.events.specs.Event.{item, rawly, escaped, perhaps, collected}
 use Rattle.events.specs.Walk.{style, unclosed}
 use Rattle.events.specs.Emit.{Desk, emit, emitAll}
@@ -104,16 +104,16 @@ module _ (source : Bytes) (n : ℕ) (qs : List Attr) {at a r : ℕ} (d d₁ last
   unfolding strokesOf
   tag-emptied f = drew-item d last-d (empty n qs) (drew-two d d₁ last-d e f) source
 
--- an end on its line
+-- a tag on a line of its own
 module _ (level : ℕ) (d : Desk) {m e : Desk} (em : m ≡ emit d (item (line level))) where
-  closed : (n : ℕ) → e ≡ strokes m (closes n ∷ []) → e ≡ emitAll d (item (line level) ∷ item (close n) ∷ [])
-  unfolding strokesOf emitAll
-  closed n ee = ee ∙ strokes-item m (close n) ∙ ap (λ (z : Desk). emit z (item (close n))) em
+  pub on-line : (i : Item) → e ≡ strokes m (strokesOf i) → e ≡ emitAll d (item (line level) ∷ item i ∷ [])
+  unfolding emitAll
+  on-line i ee = ee ∙ strokes-item m i ∙ ap (λ (z : Desk). emit z (item i)) em
 
   pub side-closed : {sidebar : Bool} → sidebar ≡ true → e ≡ strokes m (closes 13 ∷ []) → e ≡ emitAll d (item (line level) ∷ item (close (elementNo sidebar)) ∷ [])
-  unfolding elementNo
-  side-closed h ee = rw h (closed 13 ee)
+  unfolding elementNo strokesOf
+  side-closed h ee = rw h (on-line (close 13) ee)
 
   pub peri-closed : {sidebar : Bool} → sidebar ≡ false → e ≡ strokes m (closes 14 ∷ []) → e ≡ emitAll d (item (line level) ∷ item (close (elementNo sidebar)) ∷ [])
-  unfolding elementNo
-  peri-closed h ee = rw h (closed 14 ee)
+  unfolding elementNo strokesOf
+  peri-closed h ee = rw h (on-line (close 14) ee)

@@ -3,15 +3,15 @@ ghost use mathlib.Core.Path.{_≡_};
 ghost use mathlib.Core.List.{[], _∷_};
 ghost use Rattle.parts.specs.Bytes.{Bytes, b};
 ghost use Rattle.tape.specs.File.{tapeIn};
-ghost use Rattle.tape.specs.Name.{markerName};
 ghost use Rattle.render.specs.Note.{cellAlign, alignWord};
+ghost use Rattle.tags.specs.Element.{cell};
 ghost use Rattle.tags.specs.Items.{start, empty};
 ghost use Rattle.events.specs.Event.{item, rawly, escaped};
-ghost use Rattle.events.specs.Walk.{isKnown, isCell, style};
+ghost use Rattle.events.specs.Walk.{isKnown, isCell};
 ghost use Rattle.events.specs.Emit.{emit, emitAll};
 ghost use Rattle.desk.specs.Desk.{deskOf};
 ghost use Rattle.desk.specs.Stroke.{opens, strokesOfAttr, strokesOfAttrs, Drew};
-ghost use Rattle.holders.specs.Rows.{rowOpens, rowCloses, tableOpens, tableCloses};
+ghost use Rattle.holders.specs.Rows.{cellAttrs, rowOpens, rowCloses, tableOpens, tableCloses};
 use desk::Element;
 use desk::Numbers;
 use desk::attr;
@@ -60,7 +60,7 @@ fn put_align(at: usize, desk: &mut Numbers, out: &mut [u8], align: Align) -> usi
 
 // A cell's tag up to its end: style and alignment.
 fn put_cell(at: usize, desk: &mut Numbers, out: &mut [u8], name: &[u8]) -> usize
-    ensures { λ r. ⌜ Drew at (now (desk .entry)) (now (out .entry)) (opens 12 ∷ strokesOfAttrs (rawly (b "style") (now (name .entry)) ∷ escaped (b "align") (alignWord (cellAlign (now (name .entry)))) ∷ [])) r (now (desk .exit)) (now (out .exit)) ⌝ }
+    ensures { λ r. ⌜ Drew at (now (desk .entry)) (now (out .entry)) (opens cell ∷ strokesOfAttrs (rawly (b "style") (now (name .entry)) ∷ escaped (b "align") (alignWord (cellAlign (now (name .entry)))) ∷ [])) r (now (desk .exit)) (now (out .exit)) ⌝ }
 {
     let a = open_styled(at, desk, out, Element::Cell, name);
     put_align(a, desk, out, render::cell_align(name))
@@ -75,7 +75,7 @@ pub fn open_cell(
     desk: &mut Numbers,
     out: &mut [u8],
 ) -> usize
-    ensures { λ r. ⌜ deskOf (tapeIn tape (now (file .entry)) .source) r (now (desk .exit)) (now (out .exit)) ≡ emit (deskOf (tapeIn tape (now (file .entry)) .source) at (now (desk .entry)) (now (out .entry))) (item (start 12 (style (tapeIn tape (now (file .entry))) (c .at) ∷ escaped (b "align") (alignWord (cellAlign (markerName (tapeIn tape (now (file .entry))) (c .at)))) ∷ []))) ⌝ }
+    ensures { λ r. ⌜ deskOf (tapeIn tape (now (file .entry)) .source) r (now (desk .exit)) (now (out .exit)) ≡ emit (deskOf (tapeIn tape (now (file .entry)) .source) at (now (desk .entry)) (now (out .entry))) (item (start cell (cellAttrs (tapeIn tape (now (file .entry))) (c .at)))) ⌝ }
 {
     let a = put_cell(at, desk, out, c.marker_name(file, tape));
     end_tag(a, desk, out)
@@ -90,7 +90,7 @@ pub fn empty_cell(
     desk: &mut Numbers,
     out: &mut [u8],
 ) -> usize
-    ensures { λ r. ⌜ deskOf (tapeIn tape (now (file .entry)) .source) r (now (desk .exit)) (now (out .exit)) ≡ emit (deskOf (tapeIn tape (now (file .entry)) .source) at (now (desk .entry)) (now (out .entry))) (item (empty 12 (style (tapeIn tape (now (file .entry))) (c .at) ∷ escaped (b "align") (alignWord (cellAlign (markerName (tapeIn tape (now (file .entry))) (c .at)))) ∷ []))) ⌝ }
+    ensures { λ r. ⌜ deskOf (tapeIn tape (now (file .entry)) .source) r (now (desk .exit)) (now (out .exit)) ≡ emit (deskOf (tapeIn tape (now (file .entry)) .source) at (now (desk .entry)) (now (out .entry))) (item (empty cell (cellAttrs (tapeIn tape (now (file .entry))) (c .at)))) ⌝ }
 {
     let a = put_cell(at, desk, out, c.marker_name(file, tape));
     shut_tag(a, desk, out)

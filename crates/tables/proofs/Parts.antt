@@ -4,20 +4,18 @@ use mathlib.Core.Bool.{Bool, true, false, cond}
 use mathlib.Core.List.{List, [], _∷_, _++_}
 use Prim.Native.Nat.{ℕ, zero, suc, _+_, _-_}
 use native.Mathlib.Omega.{arith}
-use Rattle.parts.specs.Bytes.{Bytes, b}
+use Rattle.parts.specs.Bytes.{Bytes}
 use Rattle.tape.specs.File.{Tape}
 use Rattle.tape.specs.Tree.{firstChild, nextSibling, walkFrom, children, upTo}
-use Rattle.tape.specs.Name.{markerName}
 use Rattle.tape.specs.declared.Cursor.{Cursor}
 use Rattle.tape.specs.declared.Step.{Step}
 use Rattle.tape.specs.declared.Step.the-variants.{At, Done}
 use Rattle.tape.proofs.Walk.{walk-turn, walk-end}
 use Rattle.render.specs.Shape.{isRow}
 use Rattle.render.specs.Children.{hasContent}
-use Rattle.render.specs.Note.{cellAlign, alignWord}
-use Rattle.tags.specs.Items.{Attr, start, empty, close, line}
-use Rattle.events.specs.Event.{Event, item, escaped, element}
-use Rattle.events.specs.Walk.{asInline, inside, isCell, style, cellIn, cellsAlong, cells, rowE, rowsE, tableE}
+use Rattle.tags.specs.Items.{start, empty, close, line}
+use Rattle.events.specs.Event.{Event, item, element}
+use Rattle.events.specs.Walk.{asInline, inside, isCell, cellIn, cellsAlong, cells, rowE, rowsE, tableE}
 use Rattle.events.specs.Emit.{Desk, emit, emitAll}
 use Rattle.events.proofs.Emits.{emit-append, between}
 use Rattle.lists.specs.Span.{nodesIn, memberOf}
@@ -29,14 +27,11 @@ use Rattle.desk.specs.Desk.{deskOf}
 use Rattle.desk.specs.Stroke.{closes, strokesOf, Drew}
 use Rattle.desk.proofs.Strokes.{drew-item}
 use Rattle.roles.specs.Roles.{mannerBy}
-use Rattle.holders.specs.Rows.{rowOpens, rowCloses, tableOpens, tableCloses}
+use Rattle.holders.specs.Rows.{cellAttrs, rowOpens, rowCloses, tableOpens, tableCloses}
 use Rattle.tables.specs.Rows.{isNoRow}
 use Rattle.tables.proofs.Spans.{up-row, up-other, up-none}
 
 -- ---- a cell
-
-abbrev cellAttrs : Tape → ℕ → List Attr
-cellAttrs t k = style t k ∷ escaped (b "align") (alignWord (cellAlign (markerName t k))) ∷ []
 
 cell-around : (t : Tape) (k : ℕ) (d : Desk) {e f g : Desk} (ys : List Event) → e ≡ emit d (item (start 12 (cellAttrs t k))) → f ≡ emitAll e ys → g ≡ emit f (item (close 12))
     → g ≡ emitAll d (element 12 (cellAttrs t k) ys)
@@ -45,11 +40,11 @@ cell-around t k d ys ee ef eg = between d (item (start 12 (cellAttrs t k)) ∷ [
 
 -- the desk behind a cell with something in it
 pub cell-full : (t : Tape) (k depth : ℕ) (at a z r : ℕ) (d d₁ d₂ d₃ : List ℕ) (out mid now last : Bytes)
-    → deskOf (t .source) a d₁ mid ≡ emit (deskOf (t .source) at d out) (item (start 12 (style t k ∷ escaped (b "align") (alignWord (cellAlign (markerName t k))) ∷ [])))
+    → deskOf (t .source) a d₁ mid ≡ emit (deskOf (t .source) at d out) (item (start 12 (cellAttrs t k)))
     → deskOf (t .source) z d₂ now ≡ emitAll (deskOf (t .source) a d₁ mid) (inside t depth (mannerBy false) k false)
     → Drew z d₂ now (closes 12 ∷ []) r d₃ last
     → deskOf (t .source) r d₃ last
-    ≡ emitAll (deskOf (t .source) at d out) (element 12 (style t k ∷ escaped (b "align") (alignWord (cellAlign (markerName t k))) ∷ []) (inside t depth asInline k false))
+    ≡ emitAll (deskOf (t .source) at d out) (element 12 (cellAttrs t k) (inside t depth asInline k false))
 unfolding mannerBy strokesOf
 cell-full t k depth at a z r d d₁ d₂ d₃ out mid now last ea ez er =
     cell-around t k (deskOf (t .source) at d out) (inside t depth asInline k false) ea ez (drew-item d₂ d₃ (close 12) er (t .source))
@@ -57,14 +52,14 @@ cell-full t k depth at a z r d d₁ d₂ d₃ out mid now last ea ez er =
 module _ (t : Tape) (k depth level at a r : ℕ) (d d₁ d₂ : List ℕ) (out mid last : Bytes)
     (ea : (source : Bytes) → deskOf source a d₁ mid ≡ emit (deskOf source at d out) (item (line level))) {x : Bool} (ex : x ≡ hasContent t k) where
   pub cell-with : x ≡ true
-      → deskOf (t .source) r d₂ last ≡ emitAll (deskOf (t .source) a d₁ mid) (element 12 (style t k ∷ escaped (b "align") (alignWord (cellAlign (markerName t k))) ∷ []) (inside t depth asInline k false))
+      → deskOf (t .source) r d₂ last ≡ emitAll (deskOf (t .source) a d₁ mid) (element 12 (cellAttrs t k) (inside t depth asInline k false))
       → deskOf (t .source) r d₂ last ≡ emitAll (deskOf (t .source) at d out) (cellIn (inside t depth) t level k)
   unfolding cellIn emitAll
   cell-with hx er =
       rw (← ex, hx) (er ∙ ap (λ (w : Desk). emitAll w (element 12 (cellAttrs t k) (inside t depth asInline k false))) (ea (t .source)))
 
   pub cell-without : x ≡ false
-      → deskOf (t .source) r d₂ last ≡ emit (deskOf (t .source) a d₁ mid) (item (empty 12 (style t k ∷ escaped (b "align") (alignWord (cellAlign (markerName t k))) ∷ [])))
+      → deskOf (t .source) r d₂ last ≡ emit (deskOf (t .source) a d₁ mid) (item (empty 12 (cellAttrs t k)))
       → deskOf (t .source) r d₂ last ≡ emitAll (deskOf (t .source) at d out) (cellIn (inside t depth) t level k)
   unfolding cellIn emitAll
   cell-without hx er = rw (← ex, hx) (er ∙ ap (λ (w : Desk). emit w (item (empty 12 (cellAttrs t k)))) (ea (t .source)))

@@ -1,18 +1,16 @@
 // Tables of rows of cells: cells with what stands in them, rows of cells, tables of rows.
 ghost use mathlib.Core.Path.{_≡_};
 ghost use mathlib.Core.Bool.{false};
-ghost use mathlib.Core.List.{[], _∷_};
-ghost use Rattle.parts.specs.Bytes.{b};
 ghost use Rattle.tape.specs.File.{tapeIn};
-ghost use Rattle.tape.specs.Name.{markerName};
 ghost use Rattle.tape.specs.Tree.{upTo, walkFrom};
 ghost use Rattle.leading_white.specs.Lean.{Solids};
-ghost use Rattle.render.specs.Note.{cellAlign, alignWord};
-ghost use Rattle.events.specs.Event.{escaped, element};
-ghost use Rattle.events.specs.Walk.{asInline, inside as insideOf, style, cellIn, cellsAlong, cells as cellsOf, rowE, rowsE, tableE};
+ghost use Rattle.tags.specs.Element.{cell};
+ghost use Rattle.events.specs.Event.{element};
+ghost use Rattle.events.specs.Walk.{asInline, inside as insideOf, cellIn, cellsAlong, cells as cellsOf, rowE, rowsE, tableE};
 ghost use Rattle.events.specs.Emit.{emitAll};
 ghost use Rattle.desk.specs.Desk.{deskOf};
 ghost use Rattle.lists.specs.Span.{nodesIn};
+ghost use Rattle.holders.specs.Rows.{cellAttrs};
 ghost use Rattle.tables.specs.Rows.{depthAt, isNoRow};
 use desk::Element;
 use desk::Numbers;
@@ -58,7 +56,7 @@ fn full_cell(
     out: &mut [u8],
 ) -> usize
     requires { ⌜ Solids (tapeIn tape (now file)) (now solids) ⌝ }
-    ensures { λ r. ⌜ deskOf (tapeIn tape (now (file .entry)) .source) r (now (desk .exit)) (now (out .exit)) ≡ emitAll (deskOf (tapeIn tape (now (file .entry)) .source) at (now (desk .entry)) (now (out .entry))) (element 12 (style (tapeIn tape (now (file .entry))) (c .at) ∷ escaped (b "align") (alignWord (cellAlign (markerName (tapeIn tape (now (file .entry))) (c .at)))) ∷ []) (insideOf (tapeIn tape (now (file .entry))) depth asInline (c .at) false)) ⌝ }
+    ensures { λ r. ⌜ deskOf (tapeIn tape (now (file .entry)) .source) r (now (desk .exit)) (now (out .exit)) ≡ emitAll (deskOf (tapeIn tape (now (file .entry)) .source) at (now (desk .entry)) (now (out .entry))) (element cell (cellAttrs (tapeIn tape (now (file .entry))) (c .at)) (insideOf (tapeIn tape (now (file .entry))) depth asInline (c .at) false)) ⌝ }
 {
     let a = open_cell(file, tape, c, at, desk, out);
     let z = inline::inside(file, tape, solids, c, depth, false, false, a, desk, out);

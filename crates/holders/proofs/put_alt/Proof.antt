@@ -10,39 +10,30 @@ use Rattle.desk.proofs.piece_joined.Reads as piece-joined-reads
 use Rattle.render.proofs.leading_text.Reads as leading-text-reads
 use Rattle.words.proofs.is_blank.Reads as is-blank-reads
 
--- src/lib.rt:99:9
 leading-text-requires : tie.Need-leading-text-requires
 leading-text-requires c κs = search needs
 
--- src/lib.rt:100:8
 is-blank-requires : tie.Need-is-blank-requires
 is-blank-requires c κs = search needs
 
--- src/lib.rt:101:9
 returns : tie.Need-returns
 returns c = search alt-none
 
--- src/lib.rt:103:32
 slice-aggregate-key : tie.Need-slice-aggregate-key
 slice-aggregate-key c = search needs
 
--- src/lib.rt:103:9
 key-requires : tie.Need-key-requires
 key-requires c κs = search needs
 
--- src/lib.rt:104:9
 piece-joined-requires : tie.Need-piece-joined-requires
 piece-joined-requires c κs = search needs
 
--- src/lib.rt:105:5
 end-value-requires : tie.Need-end-value-requires
 end-value-requires c κs = search needs
 
--- src/lib.rt:89:1
 same-length : tie.Need-same-length
 same-length c = search needs
 
--- src/lib.rt:89:1
 returns-2 : tie.Need-returns-2
 returns-2 c = search alt-some
 
