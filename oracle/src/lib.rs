@@ -38,6 +38,7 @@ pub mod rendered;
 pub mod replay;
 pub mod steps;
 pub mod tapes;
+pub mod tidy;
 pub mod windows;
 pub mod writer;
 

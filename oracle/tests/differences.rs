@@ -1,4 +1,4 @@
-//! Every tape of docs/DIFFERENCES.md and docs/IDENTIFIERS.md gives the text that stands below it, and the checker accepts every text that is marked so.
+//! Every tape of docs/DIFFERENCES.md, docs/IDENTIFIERS.md and docs/SPACES.md gives the text that stands below it, and the checker accepts every text that is marked so.
 
 use oracle::answer::{Answer, answer};
 use oracle::check::{Verdict, check};
@@ -6,6 +6,7 @@ use oracle::notation;
 
 const PAPER: &str = include_str!("../../docs/DIFFERENCES.md");
 const IDENTIFIERS: &str = include_str!("../../docs/IDENTIFIERS.md");
+const SPACES: &str = include_str!("../../docs/SPACES.md");
 
 /// The lines of all blocks of a paper marked `tape`, each block ending in an empty line.
 fn tape_lines(paper: &'static str) -> Vec<&'static str> {
@@ -39,6 +40,11 @@ fn every_finding_is_what_the_rust_writes() {
 #[test]
 fn every_tape_on_identifiers_is_what_the_rust_writes() {
     holds(IDENTIFIERS, 8);
+}
+
+#[test]
+fn every_tape_on_spaces_is_what_the_rust_writes() {
+    holds(SPACES, 3);
 }
 
 /// The bytes of a text, `\x{80}` being one of them.

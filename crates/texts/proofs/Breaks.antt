@@ -1,24 +1,22 @@
--- A body holds `//` exactly where its text does; the body of a body.
+-- A body holds `//` exactly where its text does.
 use mathlib.Core.Path.{_≡_, refl, sym, ap, _∙_}
-use mathlib.Core.Bool.{Bool, true, false, cond, not, _&&_, _||_, and-true, or-assoc, or-false, and-false}
-use mathlib.Core.List.{List, [], _∷_, _++_, map}
+use mathlib.Core.Bool.{Bool, true, false, cond, _&&_, _||_, and-true, or-assoc, or-false, and-false}
+use mathlib.Core.List.{List, [], _∷_, _++_}
 use Prim.Native.Nat.{ℕ, suc}
 use native.Mathlib.Omega.{arith}
 use lib.ListN.{length, getD}
 use lib.Dec.{eqb, ltb}
 use borrow.Author.Tests.{eq-eqb, ne-eqb, eqb-true, eqb-false, ltb-true, ltb-false, lt-ltb, le-ltb}
 use Rattle.parts.specs.Bytes.{Bytes, b, begins, firstAt, find}
-use Rattle.parts.proofs.Laws.{and-true as both-hold}
 use Rattle.chars.specs.Range.{inAny, within}
 use Rattle.chars.specs.Space.{isAsciiWhite}
-use Rattle.chars.specs.Utf8.{every, cutAt}
-use Rattle.words.specs.Words.{charsOf, white, solid, onto, pieces, nonempty, words, joined}
+use Rattle.chars.specs.Utf8.{cutAt}
+use Rattle.words.specs.Words.{charsOf, white, onto, pieces, nonempty, words, joined}
 use Rattle.words.specs.declared.Set.the-variants.{Ascii}
 use Rattle.words.proofs.Bytes.{ascii-chars}
 use Rattle.words.proofs.Runs.{pieces-some}
-use Rattle.words.proofs.Joins.{IsWord, Each, words-are, words-joined}
 use Rattle.texts.specs.Text.{hardSpaces, bodyOf, hasBreak}
-use Rattle.texts.proofs.Texts.{hard-tilde, hard-other, by-tilde, hard-append, hard-space, hard-long}
+use Rattle.texts.proofs.Texts.{hard-tilde, hard-other, by-tilde}
 
 -- ---- `//`, byte by byte
 
@@ -169,44 +167,3 @@ break-body s = break-pair (hardSpaces (joined (words Ascii s))) ∙ pair-hard (j
 pub break-found : (s : Bytes) {n : ℕ} → n ≡ find (47 ∷ 47 ∷ []) s → ltb n (length s) ≡ hasBreak (bodyOf s)
 unfolding hasBreak
 break-found s en = sym (break-body s ∙ rw en)
-
--- ---- the body of a body
-
-hard-twice : (s : Bytes) → hardSpaces (hardSpaces s) ≡ hardSpaces s
-unfolding hardSpaces
-hard-twice [] = refl
-hard-twice (x ∷ s) =
-    by-tilde x
-    (λ h. rw (hard-tilde x s h) (hard-other 194 (160 ∷ hardSpaces s) (λ z. omega arith) ∙ ap (λ (a : Bytes). 194 ∷ a) (hard-other 160 (hardSpaces s) (λ z. omega arith) ∙ ap (λ (a : Bytes). 160 ∷ a) (hard-twice s))))
-    (λ h. rw (hard-other x s h) (hard-other x (hardSpaces s) h ∙ ap (λ (a : Bytes). x ∷ a) (hard-twice s)))
-
-hard-joined : (ws : List Bytes) → hardSpaces (joined ws) ≡ joined (map hardSpaces ws)
-unfolding joined hardSpaces
-hard-joined [] = refl
-hard-joined (w ∷ []) = refl
-hard-joined (w ∷ v ∷ ws) = hard-append w (32 ∷ joined (v ∷ ws)) ∙ rw (hard-space (joined (v ∷ ws)), hard-joined (v ∷ ws))
-
-every-step : (x : ℕ) (s : Bytes) → every (solid Ascii) (charsOf Ascii (x ∷ s)) ≡ not (isAsciiWhite x) && every (solid Ascii) (charsOf Ascii s)
-unfolding every solid white
-every-step x s = rw (ascii-chars x s)
-
-hard-solid : (w : Bytes) → every (solid Ascii) (charsOf Ascii w) ≡ true → every (solid Ascii) (charsOf Ascii (hardSpaces w)) ≡ true
-unfolding hardSpaces isAsciiWhite inAny within
-hard-solid [] e = e
-hard-solid (x ∷ w) e =
-    let h = both-hold (not (isAsciiWhite x)) (every (solid Ascii) (charsOf Ascii w)) (sym (every-step x w) ∙ e) in
-    by-tilde x
-    (λ z. rw (hard-tilde x w z, every-step 194 (160 ∷ hardSpaces w), every-step 160 (hardSpaces w)) (hard-solid w (h .1)))
-    (λ z. rw (hard-other x w z) (every-step x (hardSpaces w) ∙ rw (h .0) (hard-solid w (h .1))))
-
-hard-words : (ws : List Bytes) → Each (IsWord Ascii) ws → Each (IsWord Ascii) (map hardSpaces ws)
-hard-words [] is = tt
-hard-words (w ∷ ws) is = (record { some = omega (arith, is .0 .some, hard-long w); allSolid = hard-solid w (is .0 .allSolid) }, hard-words ws (is .1))
-
--- a body is written as it is
-pub body-twice : (s : Bytes) → bodyOf (bodyOf s) ≡ bodyOf s
-unfolding bodyOf
-body-twice s =
-    let ws : List Bytes = words Ascii s in
-    rw (hard-joined ws, words-joined Ascii (map hardSpaces ws) (hard-words ws (words-are Ascii s)))
-    (sym (ap hardSpaces (hard-joined ws)) ∙ hard-twice (joined ws) ∙ hard-joined ws)

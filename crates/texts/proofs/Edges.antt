@@ -21,9 +21,13 @@ pub blank-step : (x : ℕ) (s : Bytes) → blank Ascii (x ∷ s) ≡ isAsciiWhit
 unfolding blank every white
 blank-step x s = rw (ascii-chars x s)
 
-blank-nil : blank Ascii [] ≡ true
+pub blank-nil : blank Ascii [] ≡ true
 unfolding blank every charsOf cutAt
 blank-nil = refl
+
+pub blank-space : blank Ascii (32 ∷ []) ≡ true
+unfolding isAsciiWhite inAny within
+blank-space = blank-step 32 [] ∙ blank-nil
 
 -- no byte above the space is white space
 pub solid-above : (x : ℕ) → 32 < x → isAsciiWhite x ≡ false

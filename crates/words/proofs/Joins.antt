@@ -13,7 +13,7 @@ use Rattle.words.specs.Words.{stepOf, charsOf, white, solid, takeWhile, 
 use Rattle.words.specs.declared.Set.{Set}
 use Rattle.words.specs.declared.Part.{Part}
 use Rattle.words.proofs.Rows.{flatten-append, row-join}
-use Rattle.words.proofs.Runs.{every-take-while, words-run}
+use Rattle.words.proofs.Runs.{every-take-while, words-apart, words-run}
 use Rattle.words.proofs.Steps.{size-some, space-apart, space-size, space-white}
 use Rattle.words.proofs.Texts.{chars-flatten, chars-row, row-chars, run-chars}
 use Rattle.words.proofs.Places.{words-nil, endOf, word-in, next-from, next-len, next-start, next-fits, words-none, words-next}
@@ -41,6 +41,11 @@ module _ (set : Set) where
   unfolding charsOf
   space-chars t = cut-first (size-some set) (32 ∷ t) (omega arith) ∙ rw (space-size set t)
 
+  -- the words of two texts with a space between them
+  pub words-spaced : (s t : Bytes) → words set (s ++ 32 ∷ t) ≡ words set s ++ words set t
+  unfolding words
+  words-spaced s t = rw (chars-space s t, space-chars t) (words-apart (white set) (charsOf set s) (charsOf set t) (32 ∷ []) (space-white set))
+
   module _ {w : Bytes} (is : IsWord set w) where
     pub word-alone : words set w ≡ w ∷ []
     unfolding words solid takeWhile pieces nonempty
@@ -50,11 +55,7 @@ module _ (set : Set) where
         ∙ rw (chars-flatten set w) (word-in w [] (is .some))
 
     pub word-first : (t : Bytes) → words set (w ++ 32 ∷ t) ≡ w ∷ words set t
-    unfolding words solid takeWhile pieces nonempty
-    word-first t =
-        rw (chars-space w t, space-chars t)
-        (words-run (white set) (charsOf set w) ((32 ∷ []) ∷ charsOf set t) (is .allSolid) (rw (space-white set))
-        ∙ rw (chars-flatten set w, space-white set) (word-in w (nonempty (pieces (white set) (charsOf set t))) (is .some)))
+    word-first t = words-spaced w t ∙ rw word-alone
 
   pub words-joined : (ws : List Bytes) → Each (IsWord set) ws → words set (joined ws) ≡ ws
   unfolding joined

@@ -166,6 +166,20 @@ module _ (p : Bytes → Bool) where
       let (ws, h, k) = pieces-before cs ds e in
       rw h (nonempty-append (pieces p cs) ws ∙ rw k (append-nil (nonempty (pieces p cs))))
 
+  pieces-apart : (cs ds : List Bytes) (c : Bytes) → p c ≡ true → pieces p (cs ++ c ∷ ds) ≡ pieces p cs ++ pieces p ds
+  unfolding pieces
+  pieces-apart [] ds c e = rw e
+  pieces-apart (b ∷ cs) ds c e = go (p b) (pieces-apart cs ds c e)
+    where
+      go : (t : Bool) → pieces p (cs ++ c ∷ ds) ≡ pieces p cs ++ pieces p ds
+          → cond t ([] ∷ pieces p (cs ++ c ∷ ds)) (onto b (pieces p (cs ++ c ∷ ds))) ≡ cond t ([] ∷ pieces p cs) (onto b (pieces p cs)) ++ pieces p ds
+      go true h = rw h
+      go false h = rw h (onto-append b (pieces p cs) (pieces p ds) (pieces-some cs))
+
+  -- the words before one that passes the test, and those behind it
+  pub words-apart : (cs ds : List Bytes) (c : Bytes) → p c ≡ true → nonempty (pieces p (cs ++ c ∷ ds)) ≡ nonempty (pieces p cs) ++ nonempty (pieces p ds)
+  words-apart cs ds c e = rw (pieces-apart cs ds c e) (nonempty-append (pieces p cs) (pieces p ds))
+
 -- ---- a run of characters that fail the test
 
 abbrev pub fails : (Bytes → Bool) → Bytes → Bool

@@ -5,7 +5,8 @@ use std::process::ExitCode;
 
 use oracle::generate::Cuts;
 use oracle::{
-    answer, both_sides, check, check_cases, dump, export, names, notation, rebuild, rendered, replay, steps, windows,
+    answer, both_sides, check, check_cases, dump, export, names, notation, rebuild, rendered, replay, steps, tidy,
+    windows,
 };
 
 const USAGE: &str = "usage: oracle print   one tape on standard input, printed as the printing program prints it
@@ -26,6 +27,7 @@ const USAGE: &str = "usage: oracle print   one tape on standard input, printed a
        oracle steps   a stream of lists of steps to what the second tape writer answers
        oracle rebuild-check  a stream of tapes, each written anew by the second tape writer and compared
        oracle export-check  a stream of tapes, each exported from what the loader read and compared
+       oracle tidy SEED COUNT  so many texts, both laws of the normalized body tried on the Rust's
        oracle tape NOTATION  the tape of docs/DIFFERENCES.md's notation, on standard output";
 
 fn main() -> ExitCode {
@@ -48,6 +50,7 @@ fn main() -> ExitCode {
         ["steps"] => steps::stream(io::stdin().lock(), BufWriter::new(io::stdout().lock())),
         ["rebuild-check"] => rebuild::check(io::stdin().lock(), io::stdout().lock()),
         ["export-check"] => export::check(io::stdin().lock(), io::stdout().lock()),
+        ["tidy", seed, count] => tidy(seed, count),
         ["stream"] => answer::stream(io::stdin().lock(), BufWriter::new(io::stdout().lock())),
         _ => {
             eprintln!("{USAGE}");
@@ -68,6 +71,13 @@ fn print() -> io::Result<()> {
     let mut tape = Vec::new();
     io::stdin().lock().take(answer::PRINT_BYTES as u64 + 1).read_to_end(&mut tape)?;
     io::stdout().lock().write_all(&answer::print(&tape))
+}
+
+fn tidy(seed: &str, count: &str) -> io::Result<()> {
+    let (Ok(seed), Ok(count)) = (seed.parse(), count.parse()) else {
+        return Err(io::Error::other("SEED and COUNT are numbers"));
+    };
+    tidy::check(seed, count, io::stdout().lock())
 }
 
 fn cuts(kind: &[&str]) -> io::Result<()> {

@@ -1,4 +1,4 @@
-//! Generators of tape files, of lists of steps and of runs of windows. Each is determined by its mode, the seed and its number.
+//! Generators of tape files, of lists of steps, of runs of windows and of texts. Each is determined by its mode, the seed and its number.
 
 mod cuts;
 mod damaged;
@@ -15,6 +15,7 @@ mod small;
 mod steps;
 mod steps_edges;
 mod structured;
+mod text;
 
 pub use cuts::Cuts;
 pub use damaged::{Damaged, damaged};
@@ -29,3 +30,4 @@ pub use small::small;
 pub use steps::steps;
 pub use steps_edges::steps_edges;
 pub use structured::structured;
+pub use text::text;
