@@ -35,17 +35,17 @@ pub fn body_of_two(body: Body, first: &str, second: &str) -> Result<(), String> 
 }
 
 /// A text as it is written between neighbours that keep a space, or not.
-pub fn rust_tidied(text: &str, before: bool, behind: bool) -> String {
+pub fn rust_written(text: &str, before: bool, behind: bool) -> String {
     let space = |kept: bool| if kept { " " } else { "" };
     let text = normalize_text(text, || before, || behind);
     format!("{}{}{}", space(text.lead), text.body, space(text.trail))
 }
 
 /// A text that was written is written so again where the same edges are kept, and has the body of its text.
-pub fn tidied_twice(text: &str) -> Result<(), String> {
+pub fn written_twice(text: &str) -> Result<(), String> {
     for (before, behind) in [(false, false), (false, true), (true, false), (true, true)] {
-        let once = rust_tidied(text, before, behind);
-        let twice = rust_tidied(&once, before, behind);
+        let once = rust_written(text, before, behind);
+        let twice = rust_written(&once, before, behind);
         if twice != once || rust_body(&once) != rust_body(text) {
             return Err(format!("{text:?}, {before} before and {behind} behind, is {once:?}, and that {twice:?}"));
         }
@@ -103,7 +103,7 @@ pub fn tried(body: Body, seed: u64, count: u64) -> Result<Tried, String> {
 
 /// Says what was tried on the Rust; an exception is an error.
 pub fn check(seed: u64, count: u64, mut output: impl Write) -> io::Result<()> {
-    (0..count).try_for_each(|number| tidied_twice(&text(seed, number))).map_err(io::Error::other)?;
+    (0..count).try_for_each(|number| written_twice(&text(seed, number))).map_err(io::Error::other)?;
     let Tried { texts, edges, tildes, breaks, blanks, pairs, one_empty, both_empty } =
         tried(rust_body, seed, count).map_err(io::Error::other)?;
     writeln!(output, "{texts} texts, {pairs} pairs, no exception")?;

@@ -1,7 +1,7 @@
 //! Both laws of the normalized body hold for the Rust, and so does what docs/SPACES.md says; bodies that are not the Rust's break them.
 
 use oracle::generate::text;
-use oracle::tidy::{Body, body_of_body, body_of_two, rust_body, tidied_twice, tried};
+use oracle::tidy::{Body, body_of_body, body_of_two, rust_body, written_twice, tried};
 
 const PAPER: &str = include_str!("../../docs/SPACES.md");
 
@@ -36,7 +36,7 @@ fn both_laws_hold_for_100_000_texts() {
 fn written_texts_are_written_so_again() {
     let texts = (0..100_000).map(|number| text(1, number)).chain(short(4));
     for text in texts {
-        tidied_twice(&text).unwrap_or_else(|exception| panic!("{exception}"));
+        written_twice(&text).unwrap_or_else(|exception| panic!("{exception}"));
     }
 }
 

@@ -1,7 +1,7 @@
--- Bodies: a body has the words of its text, and those of two texts with a space between them; it neither begins nor ends with white space.
+-- The words of a body, whether there are any, and its edges: a body neither begins nor ends with white space.
 use mathlib.Core.Path.{_≡_, refl, sym, ap, _∙_}
 use mathlib.Core.Bool.{Bool, true, false, not, _&&_}
-use mathlib.Core.List.{List, [], _∷_, _++_, map, append-assoc, append-nil}
+use mathlib.Core.List.{List, [], _∷_, _++_, map, append-assoc}
 use Prim.Native.Nat.{ℕ, suc, _+_, _-_, _<_}
 use native.Mathlib.Omega.{arith}
 use lib.ListN.{length, length-append}
@@ -15,13 +15,13 @@ use Rattle.words.specs.Words.{charsOf, white, solid, words, joined, isBlank as 
 use Rattle.words.specs.declared.Set.the-variants.{Ascii}
 use Rattle.words.proofs.Bytes.{ascii-chars}
 use Rattle.words.proofs.Blank.{blank-words}
-use Rattle.words.proofs.Joins.{IsWord, Each, words-are, words-joined, words-spaced}
+use Rattle.words.proofs.Joins.{IsWord, Each, words-are, words-joined}
 use Rattle.texts.specs.Text.{hardSpaces, bodyOf, startsWhite, endsWhite}
 use Rattle.texts.proofs.Texts.{hard-tilde, hard-other, by-tilde, hard-append, hard-space, hard-long, body-blank, body-some}
 
 -- ---- words whose `~` have become U+00A0
 
-hard-twice : (s : Bytes) → hardSpaces (hardSpaces s) ≡ hardSpaces s
+pub hard-twice : (s : Bytes) → hardSpaces (hardSpaces s) ≡ hardSpaces s
 unfolding hardSpaces
 hard-twice [] = refl
 hard-twice (x ∷ s) =
@@ -52,58 +52,38 @@ hard-words : (ws : List Bytes) → Each (IsWord Ascii) ws → Each (IsWord Ascii
 hard-words [] is = tt
 hard-words (w ∷ ws) is = (record { some = omega (arith, is .0 .some, hard-long w); allSolid = hard-solid w (is .0 .allSolid) }, hard-words ws (is .1))
 
--- the words of a body, and the body they make
 pub body-words : (s : Bytes) → bodyOf s ≡ joined (map hardSpaces (words Ascii s))
 unfolding bodyOf
 body-words s = hard-joined (words Ascii s)
 
-pub again : (s : Bytes) → bodyOf (bodyOf s) ≡ bodyOf s
-unfolding bodyOf
-again s =
-    let ws : List Bytes = words Ascii s in
-    rw (hard-joined ws, words-joined Ascii (map hardSpaces ws) (hard-words ws (words-are Ascii s)))
-    (sym (ap hardSpaces (hard-joined ws)) ∙ hard-twice (joined ws) ∙ hard-joined ws)
+-- a body has the words of its text, their `~` become U+00A0
+pub words-of-body : (s : Bytes) → words Ascii (bodyOf s) ≡ map hardSpaces (words Ascii s)
+words-of-body s = rw (body-words s) (words-joined Ascii (map hardSpaces (words Ascii s)) (hard-words (words Ascii s) (words-are Ascii s)))
 
--- ---- two lists of words
+-- ---- where there are words
 
-two-joined : (v w : Bytes) (vs ws : List Bytes) → joined ((v ∷ vs) ++ (w ∷ ws)) ≡ joined (v ∷ vs) ++ 32 ∷ joined (w ∷ ws)
+pub two-joined : (v w : Bytes) (vs ws : List Bytes) → joined ((v ∷ vs) ++ (w ∷ ws)) ≡ joined (v ∷ vs) ++ 32 ∷ joined (w ∷ ws)
 unfolding joined
 two-joined v w [] ws = refl
 two-joined v w (u ∷ vs) ws = rw (two-joined u w vs ws) (sym (append-assoc v (32 ∷ joined (u ∷ vs)) (32 ∷ joined (w ∷ ws))))
 
--- a body is empty where there is no word, and only there
+-- a body is empty where its text is blank, and so without a word, and only there
+pub body-shows : (s : Bytes) → 0 < length (bodyOf s) → blank Ascii s ≡ false
+body-shows s h = go (blank Ascii s) refl
+  where
+    go : (y : Bool) → blank Ascii s ≡ y → y ≡ false
+    go true e = absurd (omega (arith, h, ap length (body-blank s e)))
+    go false e = refl
+
 pub no-word : (s : Bytes) → words Ascii s ≡ [] → bodyOf s ≡ []
 no-word s e = body-blank s (blank-words Ascii s .1 e)
 
-no-body : (s : Bytes) → bodyOf s ≡ [] → words Ascii s ≡ []
+pub no-body : (s : Bytes) → bodyOf s ≡ [] → words Ascii s ≡ []
 no-body s e = blank-words Ascii s .0 (go (blank Ascii s) refl)
   where
     go : (y : Bool) → blank Ascii s ≡ y → y ≡ true
     go true h = refl
     go false h = absurd (omega (arith, body-some s h, ap length e))
-
-module _ (s t : Bytes) where
-  body-spaced : bodyOf (s ++ 32 ∷ t) ≡ hardSpaces (joined (words Ascii s ++ words Ascii t))
-  unfolding bodyOf
-  body-spaced = rw (words-spaced Ascii s t)
-
-  pub both-some : (bodyOf s ≡ [] → ⊥) → (bodyOf t ≡ [] → ⊥) → bodyOf (s ++ 32 ∷ t) ≡ bodyOf s ++ 32 ∷ bodyOf t
-  unfolding bodyOf
-  both-some h k = body-spaced ∙ go (words Ascii s) refl (words Ascii t) refl
-    where
-      go : (vs : List Bytes) → words Ascii s ≡ vs → (ws : List Bytes) → words Ascii t ≡ ws
-          → hardSpaces (joined (vs ++ ws)) ≡ hardSpaces (joined vs) ++ 32 ∷ hardSpaces (joined ws)
-      go [] e ws f = absurd (h (no-word s e))
-      go (v ∷ vs) e [] f = absurd (k (no-word t f))
-      go (v ∷ vs) e (w ∷ ws) f = rw (two-joined v w vs ws) (hard-append (joined (v ∷ vs)) (32 ∷ joined (w ∷ ws)) ∙ rw (hard-space (joined (w ∷ ws))))
-
-  pub first-none : bodyOf s ≡ [] → bodyOf (s ++ 32 ∷ t) ≡ bodyOf t
-  unfolding bodyOf
-  first-none e = body-spaced ∙ rw (no-body s e)
-
-  pub second-none : bodyOf t ≡ [] → bodyOf (s ++ 32 ∷ t) ≡ bodyOf s
-  unfolding bodyOf
-  second-none e = body-spaced ∙ rw (no-body t e, append-nil (words Ascii s))
 
 -- ---- the edges of a body
 
