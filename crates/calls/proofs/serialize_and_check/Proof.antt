@@ -9,51 +9,39 @@ use Rattle.checker.proofs.check.Reads as check-reads
 use Rattle.parts.proofs.part.Reads as part-reads
 use Rattle.usx.proofs.serialize.Reads as serialize-reads
 
--- src/lib.rt:21:11
 serialize-requires : tie.Need-serialize-requires
 serialize-requires c κs = search needs
 
--- src/lib.rt:22:25
 enum-known-n : tie.Need-enum-known-n
 enum-known-n c = search needs
 
--- src/lib.rt:24:37
 part-requires : tie.Need-part-requires
 part-requires c κs = search needs
 
--- src/lib.rt:24:22
 check-requires : tie.Need-check-requires
 check-requires c κs = search needs
 
--- src/lib.rt:26:25
 enum-known-n-2 : tie.Need-enum-known-n-2
 enum-known-n-2 c = search needs
 
--- src/lib.rt:27:24
 enum-known-n-3 : tie.Need-enum-known-n-3
 enum-known-n-3 c = search needs
 
--- src/lib.rt:17:1
 same-length : tie.Need-same-length
 same-length c = search needs
 
--- src/lib.rt:17:1
 returns : tie.Need-returns
 returns c = search (text-checked, verdict-checked)
 
--- src/lib.rt:17:1
 same-length-2 : tie.Need-same-length-2
 same-length-2 c = search needs
 
--- src/lib.rt:17:1
 returns-2 : tie.Need-returns-2
 returns-2 c = search (text-refused, refused)
 
--- src/lib.rt:17:1
 same-length-3 : tie.Need-same-length-3
 same-length-3 c = search needs
 
--- src/lib.rt:17:1
 returns-3 : tie.Need-returns-3
 returns-3 c = search (text-no-room, no-room)
 

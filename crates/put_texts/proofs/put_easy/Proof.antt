@@ -6,19 +6,15 @@ use Rattle.put_texts.proofs.put_easy.Reads as reads
 use Rattle.put_texts.proofs.put_easy.Lts as lts
 use Rattle.desk.proofs.text_body.Reads as text-body-reads
 
--- src/lib.rt:32:9
 text-body-requires : tie.Need-text-body-requires
 text-body-requires c κs = search needs
 
--- src/lib.rt:28:1
 same-length : tie.Need-same-length
 same-length c = search needs
 
--- src/lib.rt:28:1
 returns : tie.Need-returns
 returns c = search easy-shows
 
--- src/lib.rt:28:1
 returns-2 : tie.Need-returns-2
 returns-2 c = search unbroken-hidden
 

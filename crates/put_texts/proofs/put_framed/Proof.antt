@@ -7,23 +7,18 @@ use Rattle.put_texts.proofs.put_framed.Lts as lts
 use Rattle.desk.proofs.text_body.Reads as text-body-reads
 use Rattle.parts.proofs.from.Reads as from-reads
 
--- src/lib.rt:61:34
 from-requires : tie.Need-from-requires
 from-requires c κs = search needs
 
--- src/lib.rt:61:9
 text-body-requires : tie.Need-text-body-requires
 text-body-requires c κs = search needs
 
--- src/lib.rt:49:1
 same-length : tie.Need-same-length
 same-length c = search needs
 
--- src/lib.rt:49:1
 returns : tie.Need-returns
 returns c = search framed-shows
 
--- src/lib.rt:49:1
 returns-2 : tie.Need-returns-2
 returns-2 c = search framed-hidden
 

@@ -6,15 +6,12 @@ use Rattle.put_texts.proofs.put_segment.Reads as reads
 use Rattle.put_texts.proofs.put_segment.Lts as lts
 use Rattle.desk.proofs.text_segment.Reads as text-segment-reads
 
--- src/lib.rt:76:5
 text-segment-requires : tie.Need-text-segment-requires
 text-segment-requires c κs = search needs
 
--- src/lib.rt:73:1
 same-length : tie.Need-same-length
 same-length c = search needs
 
--- src/lib.rt:73:1
 returns : tie.Need-returns
 returns c = search segment-put
 

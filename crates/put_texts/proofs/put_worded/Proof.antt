@@ -6,19 +6,15 @@ use Rattle.put_texts.proofs.put_worded.Reads as reads
 use Rattle.put_texts.proofs.put_worded.Lts as lts
 use Rattle.desk.proofs.text_words.Reads as text-words-reads
 
--- src/lib.rt:43:9
 text-words-requires : tie.Need-text-words-requires
 text-words-requires c κs = search needs
 
--- src/lib.rt:39:1
 same-length : tie.Need-same-length
 same-length c = search needs
 
--- src/lib.rt:39:1
 returns : tie.Need-returns
 returns c = search unbroken-shows
 
--- src/lib.rt:39:1
 returns-2 : tie.Need-returns-2
 returns-2 c = search unbroken-hidden
 

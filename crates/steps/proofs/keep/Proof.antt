@@ -5,67 +5,51 @@ use Rattle.steps.proofs.Calls.{kept-made}
 use Rattle.steps.proofs.keep.Statement.{statement}
 use Rattle.steps.proofs.keep.Tie as tie
 
--- src/lib.rt:76:16
 from-phase-requires : tie.Need-from-phase-requires
 from-phase-requires c κs = search needs
 
--- src/lib.rt:76:5
 slice-write-state : tie.Need-slice-write-state
 slice-write-state c = search needs
 
--- src/lib.rt:77:16
 from-count-requires : tie.Need-from-count-requires
 from-count-requires c κs = search needs
 
--- src/lib.rt:77:5
 slice-write-state-2 : tie.Need-slice-write-state-2
 slice-write-state-2 c = simp length-set (omega arith)
 
--- src/lib.rt:78:16
 from-count-requires-2 : tie.Need-from-count-requires-2
 from-count-requires-2 c κs = search needs
 
--- src/lib.rt:78:5
 slice-write-state-3 : tie.Need-slice-write-state-3
 slice-write-state-3 c = simp length-set (omega arith)
 
--- src/lib.rt:79:16
 from-count-requires-3 : tie.Need-from-count-requires-3
 from-count-requires-3 c κs = search needs
 
--- src/lib.rt:79:5
 slice-write-state-4 : tie.Need-slice-write-state-4
 slice-write-state-4 c = simp length-set (omega arith)
 
--- src/lib.rt:80:16
 from-count-requires-4 : tie.Need-from-count-requires-4
 from-count-requires-4 c κs = search needs
 
--- src/lib.rt:80:5
 slice-write-state-5 : tie.Need-slice-write-state-5
 slice-write-state-5 c = simp length-set (omega arith)
 
--- src/lib.rt:81:16
 from-count-requires-5 : tie.Need-from-count-requires-5
 from-count-requires-5 c κs = search needs
 
--- src/lib.rt:81:5
 slice-write-state-6 : tie.Need-slice-write-state-6
 slice-write-state-6 c = simp length-set (omega arith)
 
--- src/lib.rt:82:16
 from-count-requires-6 : tie.Need-from-count-requires-6
 from-count-requires-6 c κs = search needs
 
--- src/lib.rt:82:5
 slice-write-state-7 : tie.Need-slice-write-state-7
 slice-write-state-7 c = simp length-set (omega arith)
 
--- src/lib.rt:72:1
 same-length : tie.Need-same-length
 same-length c = search needs
 
--- src/lib.rt:72:1
 returns : tie.Need-returns
 returns c = cc (kept-made (c .before .before .before .before .before .before .before .before .args .state .now) (c .before .before .before .before .before .before .before .before .args .w) (c .before .before .before .before .before .before .before .before .pre))
 

@@ -3,39 +3,30 @@ use Rattle.steps.proofs.Calls.{stored-kept, stored-done}
 use Rattle.steps.proofs.store.Statement.{statement}
 use Rattle.steps.proofs.store.Tie as tie
 
--- src/lib.rt:91:9
 wide-requires : tie.Need-wide-requires
 wide-requires c κs = search needs
 
--- src/lib.rt:92:9
 from-count-requires : tie.Need-from-count-requires
 from-count-requires c κs = search needs
 
--- src/lib.rt:94:9
 slice-write-state : tie.Need-slice-write-state
 slice-write-state c = search needs
 
--- src/lib.rt:95:9
 same-length : tie.Need-same-length
 same-length c = search needs
 
--- src/lib.rt:95:9
 returns : tie.Need-returns
 returns c = (search needs, search stored-kept)
 
--- src/lib.rt:97:5
 keep-requires : tie.Need-keep-requires
 keep-requires c κs = search needs
 
--- src/lib.rt:98:5
 slice-write-state-2 : tie.Need-slice-write-state-2
 slice-write-state-2 c = search needs
 
--- src/lib.rt:86:1
 same-length-2 : tie.Need-same-length-2
 same-length-2 c = search needs
 
--- src/lib.rt:86:1
 returns-2 : tie.Need-returns-2
 returns-2 c = (search needs, search stored-done)
 

@@ -7,15 +7,12 @@ use Rattle.tape.proofs.entry_at.Lts as lts
 use Rattle.tape.proofs.Entry.of.Reads as of-reads
 use Rattle.tape.proofs.entry_bytes.Reads as entry-bytes-reads
 
--- src/lib.rt:219:15
 entry-bytes-requires : tie.Need-entry-bytes-requires
 entry-bytes-requires c κs = search needs
 
--- src/lib.rt:219:5
 of-requires : tie.Need-of-requires
 of-requires c κs = search needs
 
--- src/lib.rt:216:1
 returns : tie.Need-returns
 returns c = search entry-in
 

@@ -7,15 +7,12 @@ use Rattle.tape.proofs.node_at.Lts as lts
 use Rattle.tape.proofs.Node.of.Reads as of-reads
 use Rattle.tape.proofs.bytes_at.Reads as bytes-at-reads
 
--- src/lib.rt:198:14
 bytes-at-requires : tie.Need-bytes-at-requires
 bytes-at-requires c κs = search needs
 
--- src/lib.rt:198:5
 of-requires : tie.Need-of-requires
 of-requires c κs = search needs
 
--- src/lib.rt:195:1
 returns : tie.Need-returns
 returns c = search node-in
 

@@ -6,19 +6,15 @@ use Rattle.desk.proofs.text.text_body.Reads as reads
 use Rattle.desk.proofs.text.text_body.Lts as lts
 use Rattle.put_body.proofs.put_framed.Reads as put-framed-reads
 
--- src/text.rt:21:53
 element-copy-out-t10 : tie.Need-element-copy-out-t10
 element-copy-out-t10 c = search needs
 
--- src/text.rt:21:9
 put-framed-requires : tie.Need-put-framed-requires
 put-framed-requires c κs = search needs
 
--- src/text.rt:18:1
 same-length : tie.Need-same-length
 same-length c = search needs
 
--- src/text.rt:18:1
 returns : tie.Need-returns
 returns c = search drew-stands
 

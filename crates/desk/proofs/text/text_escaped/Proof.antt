@@ -6,19 +6,15 @@ use Rattle.desk.proofs.text.text_escaped.Reads as reads
 use Rattle.desk.proofs.text.text_escaped.Lts as lts
 use Rattle.window.proofs.escape_xml.Reads as escape-xml-reads
 
--- src/text.rt:53:43
 element-copy-out-t8 : tie.Need-element-copy-out-t8
 element-copy-out-t8 c = search needs
 
--- src/text.rt:53:9
 escape-xml-requires : tie.Need-escape-xml-requires
 escape-xml-requires c κs = search needs
 
--- src/text.rt:50:1
 same-length : tie.Need-same-length
 same-length c = search needs
 
--- src/text.rt:50:1
 returns : tie.Need-returns
 returns c = search drew-words
 

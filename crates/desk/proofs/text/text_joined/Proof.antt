@@ -6,19 +6,15 @@ use Rattle.desk.proofs.text.text_joined.Reads as reads
 use Rattle.desk.proofs.text.text_joined.Lts as lts
 use Rattle.put_body.proofs.put_words.Reads as put-words-reads
 
--- src/text.rt:61:52
 element-copy-out-t8 : tie.Need-element-copy-out-t8
 element-copy-out-t8 c = search needs
 
--- src/text.rt:61:9
 put-words-requires : tie.Need-put-words-requires
 put-words-requires c κs = search needs
 
--- src/text.rt:58:1
 same-length : tie.Need-same-length
 same-length c = search needs
 
--- src/text.rt:58:1
 returns : tie.Need-returns
 returns c = search drew-words
 

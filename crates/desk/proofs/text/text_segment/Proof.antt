@@ -6,19 +6,15 @@ use Rattle.desk.proofs.text.text_segment.Reads as reads
 use Rattle.desk.proofs.text.text_segment.Lts as lts
 use Rattle.put_body.proofs.put_segment.Reads as put-segment-reads
 
--- src/text.rt:37:54
 element-copy-out-t8 : tie.Need-element-copy-out-t8
 element-copy-out-t8 c = search needs
 
--- src/text.rt:37:9
 put-segment-requires : tie.Need-put-segment-requires
 put-segment-requires c κs = search needs
 
--- src/text.rt:34:1
 same-length : tie.Need-same-length
 same-length c = search needs
 
--- src/text.rt:34:1
 returns : tie.Need-returns
 returns c = search drew-words
 

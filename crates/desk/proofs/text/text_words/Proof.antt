@@ -6,19 +6,15 @@ use Rattle.desk.proofs.text.text_words.Reads as reads
 use Rattle.desk.proofs.text.text_words.Lts as lts
 use Rattle.put_body.proofs.put_written.Reads as put-written-reads
 
--- src/text.rt:29:54
 element-copy-out-t9 : tie.Need-element-copy-out-t9
 element-copy-out-t9 c = search needs
 
--- src/text.rt:29:9
 put-written-requires : tie.Need-put-written-requires
 put-written-requires c κs = search needs
 
--- src/text.rt:26:1
 same-length : tie.Need-same-length
 same-length c = search needs
 
--- src/text.rt:26:1
 returns : tie.Need-returns
 returns c = search drew-words
 

@@ -8,27 +8,21 @@ use Rattle.parts.proofs.byte_at.Reads as byte-at-reads
 use Rattle.parts.proofs.from.Reads as from-reads
 use Rattle.put_body.proofs.is_tight.Reads as is-tight-reads
 
--- src/frame.rt:58:20
 byte-at-requires : tie.Need-byte-at-requires
 byte-at-requires c κs = search needs
 
--- src/frame.rt:58:13
 returns : tie.Need-returns
 returns c = search found-space
 
--- src/frame.rt:60:9
 returns-2 : tie.Need-returns-2
 returns-2 c = search found-none
 
--- src/frame.rt:62:21
 from-requires : tie.Need-from-requires
 from-requires c κs = search needs
 
--- src/frame.rt:62:5
 is-tight-requires : tie.Need-is-tight-requires
 is-tight-requires c κs = search needs
 
--- src/frame.rt:53:1
 returns-3 : tie.Need-returns-3
 returns-3 c = search found-body
 

@@ -7,23 +7,18 @@ use Rattle.put_body.proofs.frame.put_framed.Lts as lts
 use Rattle.put_body.proofs.put_space.Reads as put-space-reads
 use Rattle.window.proofs.put_front.Reads as put-front-reads
 
--- src/frame.rt:97:9
 put-space-requires : tie.Need-put-space-requires
 put-space-requires c κs = search needs
 
--- src/frame.rt:98:9
 put-front-requires : tie.Need-put-front-requires
 put-front-requires c κs = search needs
 
--- src/frame.rt:99:5
 put-space-requires-2 : tie.Need-put-space-requires-2
 put-space-requires-2 c κs = search needs
 
--- src/frame.rt:94:1
 same-length : tie.Need-same-length
 same-length c = search needs
 
--- src/frame.rt:94:1
 returns : tie.Need-returns
 returns c = search edged-put
 

@@ -8,51 +8,39 @@ use Rattle.put_body.proofs.frame.white_back.Lts as lts
 use Rattle.chars.proofs.is_ascii_white.Reads as is-ascii-white-reads
 use Rattle.parts.proofs.byte_at.Reads as byte-at-reads
 
--- src/frame.rt:38:9
 returns : tie.Need-returns
 returns c = (search back-past, omega arith)
 
--- src/frame.rt:40:35
 sub-byte-at : tie.Need-sub-byte-at
 sub-byte-at c = search needs
 
--- src/frame.rt:40:24
 byte-at-requires : tie.Need-byte-at-requires
 byte-at-requires c κs = search needs
 
--- src/frame.rt:40:9
 is-ascii-white-requires : tie.Need-is-ascii-white-requires
 is-ascii-white-requires c κs = search needs
 
--- src/frame.rt:41:9
 returns-2 : tie.Need-returns-2
 returns-2 c = (search back-none, omega arith)
 
--- src/frame.rt:43:8
 sub-if3 : tie.Need-sub-if3
 sub-if3 c = search needs
 
--- src/frame.rt:44:9
 returns-3 : tie.Need-returns-3
 returns-3 c = (search back-single, omega arith)
 
--- src/frame.rt:46:35
 sub-byte-at-2 : tie.Need-sub-byte-at-2
 sub-byte-at-2 c = search needs
 
--- src/frame.rt:46:24
 byte-at-requires-2 : tie.Need-byte-at-requires-2
 byte-at-requires-2 c κs = search needs
 
--- src/frame.rt:46:9
 is-ascii-white-requires-2 : tie.Need-is-ascii-white-requires-2
 is-ascii-white-requires-2 c κs = search needs
 
--- src/frame.rt:47:9
 returns-4 : tie.Need-returns-4
 returns-4 c = (search back-one, omega arith)
 
--- src/frame.rt:33:1
 returns-5 : tie.Need-returns-5
 returns-5 c = (search back-two, omega arith)
 

@@ -8,35 +8,27 @@ use Rattle.put_body.proofs.frame.white_front.Lts as lts
 use Rattle.chars.proofs.is_ascii_white.Reads as is-ascii-white-reads
 use Rattle.parts.proofs.byte_at.Reads as byte-at-reads
 
--- src/frame.rt:21:9
 returns : tie.Need-returns
 returns c = (search front-short, omega arith)
 
--- src/frame.rt:23:24
 byte-at-requires : tie.Need-byte-at-requires
 byte-at-requires c κs = search needs
 
--- src/frame.rt:23:9
 is-ascii-white-requires : tie.Need-is-ascii-white-requires
 is-ascii-white-requires c κs = search needs
 
--- src/frame.rt:24:9
 returns-2 : tie.Need-returns-2
 returns-2 c = (search front-none, omega arith)
 
--- src/frame.rt:26:24
 byte-at-requires-2 : tie.Need-byte-at-requires-2
 byte-at-requires-2 c κs = search needs
 
--- src/frame.rt:26:9
 is-ascii-white-requires-2 : tie.Need-is-ascii-white-requires-2
 is-ascii-white-requires-2 c κs = search needs
 
--- src/frame.rt:27:9
 returns-3 : tie.Need-returns-3
 returns-3 c = (search front-one, omega arith)
 
--- src/frame.rt:16:1
 returns-4 : tie.Need-returns-4
 returns-4 c = (search front-two, omega arith)
 

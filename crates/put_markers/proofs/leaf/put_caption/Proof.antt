@@ -8,23 +8,18 @@ use Rattle.desk.proofs.close_tag.Reads as close-tag-reads
 use Rattle.desk.proofs.text_escaped.Reads as text-escaped-reads
 use Rattle.figure.proofs.field.Reads as field-reads
 
--- src/leaf.rt:91:41
 field-requires : tie.Need-field-requires
 field-requires c κs = search needs
 
--- src/leaf.rt:91:9
 text-escaped-requires : tie.Need-text-escaped-requires
 text-escaped-requires c κs = search needs
 
--- src/leaf.rt:92:5
 close-tag-requires : tie.Need-close-tag-requires
 close-tag-requires c κs = search needs
 
--- src/leaf.rt:81:1
 same-length : tie.Need-same-length
 same-length c = search needs
 
--- src/leaf.rt:81:1
 returns : tie.Need-returns
 returns c = search caption-drawn
 

@@ -9,67 +9,51 @@ use Rattle.tape.proofs.kinds.Element.new.Reads as kinds-Element-new-rea
 use Rattle.tape.proofs.number.pair.Reads as pair-reads
 use Rattle.tape.proofs.number.quad.Reads as quad-reads
 
--- src/lib.rt:158:37
 shared-slice-read-quad : tie.Need-shared-slice-read-quad
 shared-slice-read-quad c = search needs
 
--- src/lib.rt:158:43
 shared-slice-read-quad-2 : tie.Need-shared-slice-read-quad-2
 shared-slice-read-quad-2 c = search needs
 
--- src/lib.rt:158:49
 shared-slice-read-quad-3 : tie.Need-shared-slice-read-quad-3
 shared-slice-read-quad-3 c = search needs
 
--- src/lib.rt:158:55
 shared-slice-read-quad-4 : tie.Need-shared-slice-read-quad-4
 shared-slice-read-quad-4 c = search needs
 
--- src/lib.rt:158:24
 quad-requires : tie.Need-quad-requires
 quad-requires c κs = search needs
 
--- src/lib.rt:159:35
 shared-slice-read-pair : tie.Need-shared-slice-read-pair
 shared-slice-read-pair c = search needs
 
--- src/lib.rt:159:41
 shared-slice-read-pair-2 : tie.Need-shared-slice-read-pair-2
 shared-slice-read-pair-2 c = search needs
 
--- src/lib.rt:159:22
 pair-requires : tie.Need-pair-requires
 pair-requires c κs = search needs
 
--- src/lib.rt:160:41
 shared-slice-read-new : tie.Need-shared-slice-read-new
 shared-slice-read-new c = search needs
 
--- src/lib.rt:160:27
 new-requires : tie.Need-new-requires
 new-requires c κs = search needs
 
--- src/lib.rt:161:39
 shared-slice-read-new-2 : tie.Need-shared-slice-read-new-2
 shared-slice-read-new-2 c = search needs
 
--- src/lib.rt:161:26
 new-requires-2 : tie.Need-new-requires-2
 new-requires-2 c κs = search needs
 
--- src/lib.rt:157:13
 returns : tie.Need-returns
 returns c = search entry-read
 
--- src/lib.rt:167:23
 new-requires-3 : tie.Need-new-requires-3
 new-requires-3 c κs = search needs
 
--- src/lib.rt:168:22
 new-requires-4 : tie.Need-new-requires-4
 new-requires-4 c κs = search needs
 
--- src/lib.rt:153:5
 returns-2 : tie.Need-returns-2
 returns-2 c = search entry-short
 

@@ -9,107 +9,81 @@ use Rattle.tape.proofs.kinds.Kind.new.Reads as kinds-Kind-new-reads
 use Rattle.tape.proofs.number.pair.Reads as pair-reads
 use Rattle.tape.proofs.number.quad.Reads as quad-reads
 
--- src/lib.rt:132:33
 shared-slice-read-new : tie.Need-shared-slice-read-new
 shared-slice-read-new c = search needs
 
--- src/lib.rt:132:23
 new-requires : tie.Need-new-requires
 new-requires c κs = search needs
 
--- src/lib.rt:133:35
 shared-slice-read-new-2 : tie.Need-shared-slice-read-new-2
 shared-slice-read-new-2 c = search needs
 
--- src/lib.rt:133:24
 new-requires-2 : tie.Need-new-requires-2
 new-requires-2 c κs = search needs
 
--- src/lib.rt:134:38
 shared-slice-read-pair : tie.Need-shared-slice-read-pair
 shared-slice-read-pair c = search needs
 
--- src/lib.rt:134:44
 shared-slice-read-pair-2 : tie.Need-shared-slice-read-pair-2
 shared-slice-read-pair-2 c = search needs
 
--- src/lib.rt:134:25
 pair-requires : tie.Need-pair-requires
 pair-requires c κs = search needs
 
--- src/lib.rt:135:36
 shared-slice-read-quad : tie.Need-shared-slice-read-quad
 shared-slice-read-quad c = search needs
 
--- src/lib.rt:135:42
 shared-slice-read-quad-2 : tie.Need-shared-slice-read-quad-2
 shared-slice-read-quad-2 c = search needs
 
--- src/lib.rt:135:48
 shared-slice-read-quad-3 : tie.Need-shared-slice-read-quad-3
 shared-slice-read-quad-3 c = search needs
 
--- src/lib.rt:135:54
 shared-slice-read-quad-4 : tie.Need-shared-slice-read-quad-4
 shared-slice-read-quad-4 c = search needs
 
--- src/lib.rt:135:23
 quad-requires : tie.Need-quad-requires
 quad-requires c κs = search needs
 
--- src/lib.rt:136:37
 shared-slice-read-quad-5 : tie.Need-shared-slice-read-quad-5
 shared-slice-read-quad-5 c = search needs
 
--- src/lib.rt:136:43
 shared-slice-read-quad-6 : tie.Need-shared-slice-read-quad-6
 shared-slice-read-quad-6 c = search needs
 
--- src/lib.rt:136:49
 shared-slice-read-quad-7 : tie.Need-shared-slice-read-quad-7
 shared-slice-read-quad-7 c = search needs
 
--- src/lib.rt:136:56
 shared-slice-read-quad-8 : tie.Need-shared-slice-read-quad-8
 shared-slice-read-quad-8 c = search needs
 
--- src/lib.rt:136:24
 quad-requires-2 : tie.Need-quad-requires-2
 quad-requires-2 c κs = search needs
 
--- src/lib.rt:137:35
 shared-slice-read-quad-9 : tie.Need-shared-slice-read-quad-9
 shared-slice-read-quad-9 c = search needs
 
--- src/lib.rt:137:42
 shared-slice-read-quad-10 : tie.Need-shared-slice-read-quad-10
 shared-slice-read-quad-10 c = search needs
 
--- src/lib.rt:137:49
 shared-slice-read-quad-11 : tie.Need-shared-slice-read-quad-11
 shared-slice-read-quad-11 c = search needs
 
--- src/lib.rt:137:56
 shared-slice-read-quad-12 : tie.Need-shared-slice-read-quad-12
 shared-slice-read-quad-12 c = search needs
 
--- src/lib.rt:137:22
 quad-requires-3 : tie.Need-quad-requires-3
 quad-requires-3 c κs = search needs
 
--- src/lib.rt:131:13
 returns : tie.Need-returns
 returns c = search node-read
 
--- src/lib.rt:141:19
 new-requires-3 : tie.Need-new-requires-3
 new-requires-3 c κs = search needs
 
--- src/lib.rt:142:20
 new-requires-4 : tie.Need-new-requires-4
 new-requires-4 c κs = search needs
 
--- src/lib.rt:127:5
 returns-2 : tie.Need-returns-2
 returns-2 c = search node-short
 

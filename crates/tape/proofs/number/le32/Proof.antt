@@ -7,27 +7,21 @@ use Rattle.tape.proofs.number.le32.Lts as lts
 use Rattle.parts.proofs.byte_at.Reads as byte-at-reads
 use Rattle.tape.proofs.number.quad.Reads as quad-reads
 
--- src/number.rt:47:9
 byte-at-requires : tie.Need-byte-at-requires
 byte-at-requires c κs = search needs
 
--- src/number.rt:48:9
 byte-at-requires-2 : tie.Need-byte-at-requires-2
 byte-at-requires-2 c κs = search needs
 
--- src/number.rt:49:9
 byte-at-requires-3 : tie.Need-byte-at-requires-3
 byte-at-requires-3 c κs = search needs
 
--- src/number.rt:50:9
 byte-at-requires-4 : tie.Need-byte-at-requires-4
 byte-at-requires-4 c κs = search needs
 
--- src/number.rt:46:5
 quad-requires : tie.Need-quad-requires
 quad-requires c κs = search needs
 
--- src/number.rt:43:1
 returns : tie.Need-returns
 returns c = search le32-read
 
