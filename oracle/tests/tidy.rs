@@ -1,7 +1,7 @@
 //! Both laws of the normalized body hold for the Rust, and so does what docs/SPACES.md says; bodies that are not the Rust's break them.
 
 use oracle::generate::text;
-use oracle::tidy::{Body, body_of_body, body_of_two, rust_body, written_twice, tried};
+use oracle::tidy::{Body, body_of_body, body_of_two, rust_body, tried, written_twice};
 
 const PAPER: &str = include_str!("../../docs/SPACES.md");
 
