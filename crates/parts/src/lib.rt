@@ -1,23 +1,20 @@
 // Parts of a lent slice, and what stands in one.
-ghost use mathlib.Core.Path.{_≡_};
-ghost use mathlib.Core.List.{[], _∷_};
-ghost use Prim.Native.Nat.{_-_};
-ghost use lib.ListN.{length, getD, drop};
-ghost use Rattle·parts·specs.specs.Bytes.{part as part_of_of, same as is_same, begins, find};
-ghost use Rattle·parts·specs.specs.Place.{VeryPart};
-ghost use Rattle·parts·specs.specs.Pair.{any_pair, is_both, NoPairTo};
+ghost use Rattle.std.specs.Prelude.{◌≡◌, [], ◌∷◌, ◌-◌, length, get_or, drop};
+ghost use Rattle.parts.specs.Bytes.{part as part_of, same as is_same, begins, find};
+ghost use Rattle.parts.specs.Place.{VeryPart};
+ghost use Rattle.parts.specs.Pair.{any_pair, is_both, NoPairTo};
 
 // The byte at a place, and 0 past the end.
 pub fn byte_at(s: &[u8], i: usize) -> u8
-    ensures { λ r. ⌜ r ≡ getD (now (s .entry)) i 0 ⌝ }
+    ensures { result ≡ get_or s.now i 0 }
 {
     if i < s.len() { s[i] } else { 0 }
 }
 
 // What stands from a place on.
 pub fn from(s: &[u8], at: usize) -> &[u8]
-    ensures bytes { λ r. ⌜ now r ≡ drop at (now (s .entry)) ⌝ }
-    ensures place { λ r. ⌜ VeryPart (s .entry) r at (length (now (s .entry)) - at) ⌝ }
+    ensures bytes { result.now ≡ drop at s.now }
+    ensures place { VeryPart s.entry result at (length s.now - at) }
 {
     let n = s.len();
     if at < n { &s[at..] } else { &s[n..] }
@@ -25,15 +22,15 @@ pub fn from(s: &[u8], at: usize) -> &[u8]
 
 // The part that starts at a place and is so long, as far as the slice reaches.
 pub fn part(s: &[u8], start: usize, len: usize) -> &[u8]
-    ensures bytes { λ r. ⌜ now r ≡ part_of_of (now (s .entry)) start len ⌝ }
-    ensures place { λ r. ⌜ VeryPart (s .entry) r start len ⌝ }
+    ensures bytes { result.now ≡ part_of s.now start len }
+    ensures place { VeryPart s.entry result start len }
 {
     let r = from(s, start);
     if len < r.len() { &r[..len] } else { r }
 }
 
 pub fn begins_with(s: &[u8], word: &[u8]) -> bool
-    ensures { λ r. ⌜ r ≡ begins (now (word .entry)) (now (s .entry)) ⌝ }
+    ensures { result ≡ begins word.now s.now }
 {
     if s.len() < word.len() {
         return false;
@@ -50,7 +47,7 @@ pub fn begins_with(s: &[u8], word: &[u8]) -> bool
 
 // Whether two slices hold the same bytes.
 pub fn same(a: &[u8], z: &[u8]) -> bool
-    ensures { λ r. ⌜ r ≡ is_same (now (a .entry)) (now (z .entry)) ⌝ }
+    ensures { result ≡ is_same a.now z.now }
 {
     if a.len() != z.len() {
         return false;
@@ -60,7 +57,7 @@ pub fn same(a: &[u8], z: &[u8]) -> bool
 
 // Where a byte first stands, or the length where it does not.
 pub fn find_byte(s: &[u8], x: u8) -> usize
-    ensures { λ r. ⌜ r ≡ find (x ∷ []) (now (s .entry)) ⌝ }
+    ensures { result ≡ find (x ∷ []) s.now }
 {
     let mut i = 0;
     while i < s.len() {
@@ -74,7 +71,7 @@ pub fn find_byte(s: &[u8], x: u8) -> usize
 
 // Whether a byte stands twice in a row; with no branch, so that the bytes of a block are tested at once.
 fn has_pair(s: &[u8], x: u8) -> bool
-    ensures { λ r. ⌜ r ≡ any_pair (is_both x) (now (s .entry)) ⌝ }
+    ensures { result ≡ any_pair (is_both x) s.now }
 {
     let mut found = false;
     let mut i = 1;
@@ -87,7 +84,7 @@ fn has_pair(s: &[u8], x: u8) -> bool
 
 // Where the whole blocks end in which it does not.
 fn pairless_blocks(s: &[u8], x: u8) -> usize
-    ensures { λ r. ⌜ NoPairTo x (now (s .entry)) r ⌝ }
+    ensures { NoPairTo x s.now result }
 {
     let mut i = 0;
     while 17 <= s.len() - i {
@@ -102,7 +99,7 @@ fn pairless_blocks(s: &[u8], x: u8) -> usize
 
 // Where a byte first stands twice in a row, one by one.
 fn pair_each(s: &[u8], x: u8) -> usize
-    ensures { λ r. ⌜ r ≡ find (x ∷ x ∷ []) (now (s .entry)) ⌝ }
+    ensures { result ≡ find (x ∷ x ∷ []) s.now }
 {
     let mut i = 0;
     while i < s.len() {
@@ -116,7 +113,7 @@ fn pair_each(s: &[u8], x: u8) -> usize
 
 // Where a byte first stands twice in a row, as in `//`, or the length where it does not.
 pub fn find_pair(s: &[u8], x: u8) -> usize
-    ensures { λ r. ⌜ r ≡ find (x ∷ x ∷ []) (now (s .entry)) ⌝ }
+    ensures { result ≡ find (x ∷ x ∷ []) s.now }
 {
     let i = pairless_blocks(s, x);
     i + pair_each(&s[i..], x)
