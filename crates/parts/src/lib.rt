@@ -1,3 +1,4 @@
+#![tactic(auto)]
 // Parts of a lent slice, and what stands in one.
 ghost use Rattle.std.specs.Prelude.{◌≡◌, [], ◌∷◌, ◌-◌, length, get_or, drop};
 ghost use Rattle.parts.specs.Bytes.{part as part_of, same as is_same, begins, find};
