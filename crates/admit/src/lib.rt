@@ -1,3 +1,4 @@
+#![tactic(auto)]
 // Which tape files are admitted, and why the others are not: refusals 1 to 7, the lowest first.
 mod header;
 mod labels;
@@ -10,7 +11,7 @@ ghost use Rattle.admit.specs.Refusal.{Refusal, refusal_number, answer_with};
 use tape::Sections;
 
 // The sections of an admitted file, or the number of its refusal.
-#[derive(Drop)]
+#[derive(Clone, Copy)]
 pub enum Admitted {
     Tape(Sections),
     Refused(u8),

@@ -1,3 +1,4 @@
+#![tactic(auto)]
 // For C, by the names that C knows: a tape's text, a window of it, the check of a finished text, a tape's names, and the steps of writing a tape. A slice passes as pointer and length.
 mod text;
 mod writing;

@@ -1,3 +1,4 @@
+#![tactic(auto)]
 // The attributes of a node.
 mod barred;
 
@@ -19,7 +20,7 @@ use words::{Part, Set};
 pub const FIXED_KEYS: [u8; 42] = *b"lemmaglosshrefloclink-hrefidwhodefaultfile";
 
 // A value at the front of a text: its part, whether it is quoted, and where what follows it starts.
-#[derive(Drop)]
+#[derive(Clone, Copy)]
 struct Taken {
     start: usize,
     len: usize,
@@ -28,7 +29,7 @@ struct Taken {
 }
 
 // A raw value, as a part of the source; where it is quoted, `\"` in it stands for `"`.
-#[derive(Drop)]
+#[derive(Clone, Copy)]
 pub struct Value {
     pub start: usize,
     pub len: usize,
@@ -36,48 +37,48 @@ pub struct Value {
 }
 
 // A part of the source, or of the text of fixed keys.
-#[derive(Drop)]
+#[derive(Clone, Copy)]
 pub enum Key {
     Own(Part),
     Fixed(Part),
 }
 
 // The pair at the front of a text, by parts of it.
-#[derive(Drop)]
+#[derive(Clone, Copy)]
 enum First {
     Pair { key: Part, value: Taken },
     Nothing,
 }
 
 // The first pair of a part of the source that has a key, and what follows it.
-#[derive(Drop)]
+#[derive(Clone, Copy)]
 enum Item {
     Pair { key: Part, value: Value, rest: Part },
     Nothing,
 }
 
 // The first pair of a body with the key that its marker gives, and what follows it.
-#[derive(Drop)]
+#[derive(Clone, Copy)]
 enum Got {
     Pair { key: Key, value: Value, rest: Part },
     Nothing,
 }
 
 // A walk over the attributes of a node: the rest of a body, and the next child to look at.
-#[derive(Drop)]
+#[derive(Clone, Copy)]
 pub struct Attrs {
     pub rest: Part,
     pub next: Step,
 }
 
 // The next attribute and those behind it.
-#[derive(Drop)]
+#[derive(Clone, Copy)]
 pub enum Next {
     Pair { key: Key, value: Value, left: Attrs },
     Done,
 }
 
-#[derive(Drop)]
+#[derive(Clone, Copy)]
 pub enum Sought {
     At(Value),
     Nowhere,

@@ -1,3 +1,4 @@
+#![tactic(auto)]
 // What a Rust program measures of the parts of the serializer: each function takes slices and numbers and gives a number.
 ghost use Rattle.std.specs.Prelude.{◌≡◌, true, false, cond};
 ghost use Rattle.chars.specs.Utf8.{is_utf8};

@@ -1,3 +1,4 @@
+#![tactic(auto)]
 // What a Rust program measures of words and trims, by Unicode white space.
 ghost use Rattle.std.specs.Prelude.{◌≡◌, length};
 ghost use Rattle.words.specs.Words.{words, trim, last_of};

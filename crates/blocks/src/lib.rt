@@ -1,3 +1,4 @@
+#![tactic(auto)]
 // Lists of blocks, and the sidebars and periphs that hold them.
 ghost use Rattle.std.specs.Prelude.{◌≡◌, false, List, [], ◌∷◌, ◌++◌, ℕ, ◌<◌};
 ghost use Rattle.parts.specs.Bytes.{Bytes};
@@ -25,7 +26,7 @@ use tables::depth_at;
 use tape::{Cursor, Element, Kind, Sections, Step};
 
 // What a node holds blocks as.
-#[derive(Drop)]
+#[derive(Clone, Copy)]
 pub enum Holder {
     Sidebar,
     Periph,
@@ -33,7 +34,7 @@ pub enum Holder {
 }
 
 // Where a walk along blocks stands.
-#[derive(Drop)]
+#[derive(Clone, Copy)]
 pub struct Going {
     pub at: usize,
     pub next: Step,

@@ -1,3 +1,4 @@
+#![tactic(auto)]
 // The serializer, and the checker on what it wrote: what one writes the other accepts, where the file keeps the proviso.
 ghost use Rattle.std.specs.Prelude.{◌≡◌};
 ghost use Rattle.events.specs.Text.{outcome};
@@ -8,7 +9,7 @@ use checker::Verdict;
 use usx::Answer;
 
 // Written with its length, and the checker's answer to the text; refused by document 01's number; no room for a text of this length.
-#[derive(Drop)]
+#[derive(Clone, Copy)]
 pub enum Called {
     Written { length: usize, verdict: Verdict },
     Refused(u8),

@@ -1,3 +1,4 @@
+#![tactic(auto)]
 // Characters: UTF-8 and white space.
 ghost use Rattle.std.specs.Prelude.{◌≡◌, false, cond, [], ◌∷◌, ◌-◌, ◌≤◌, ◌<◌, min, length, drop};
 ghost use Rattle.chars.specs.Range.{◌to◌, within};
@@ -8,7 +9,7 @@ ghost use Rattle.chars.specs.Space.{is_white, is_ascii_white, searched};
 use parts::{byte_at, from};
 
 // A character: its code point, and how many bytes it takes.
-#[derive(Drop)]
+#[derive(Clone, Copy)]
 pub struct Char {
     pub code: u32,
     pub width: usize,

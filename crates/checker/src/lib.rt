@@ -1,3 +1,4 @@
+#![tactic(auto)]
 // The checker of finished text: one pass over the bytes, a state folded over the tokens, no heap.
 ghost use Rattle.std.specs.Prelude.{◌≡◌, ℕ, ◌+◌, ◌-◌, ◌≤◌, ◌<◌, ◌^◌, List, false, ◌||◌, length, drop, pos, ◌+ℤ◌, ◌-ℤ◌};
 ghost use Rattle.std.specs.Int.Signed.{mag, lt_z};
@@ -22,14 +23,14 @@ const HIGHEST: i64 = 160;
 const ROOM: usize = 160;
 
 // A part of the text.
-#[derive(Drop)]
+#[derive(Clone, Copy)]
 struct Part {
     start: usize,
     len: usize,
 }
 
 // The keys that make a tag a start or an end, and any other.
-#[derive(Drop)]
+#[derive(Clone, Copy)]
 enum IdKey {
     Eid,
     Sid,
@@ -37,7 +38,7 @@ enum IdKey {
 }
 
 // What the attributes of a chapter or verse tag make it.
-#[derive(Drop)]
+#[derive(Clone, Copy)]
 enum Form {
     Bare,
     Plain,
@@ -47,13 +48,13 @@ enum Form {
 }
 
 // The attributes of a tag, and where they end.
-#[derive(Drop)]
+#[derive(Clone, Copy)]
 struct Attrs {
     form: Form,
     end: usize,
 }
 
-#[derive(Drop)]
+#[derive(Clone, Copy)]
 enum Tag {
     Words,
     Opened(u8),
@@ -62,14 +63,14 @@ enum Tag {
 }
 
 // The next token, and where it ends.
-#[derive(Drop)]
+#[derive(Clone, Copy)]
 enum Next {
     Bad,
     Token(Tag, usize),
 }
 
 // The elements still open stand in a stack beside it, as many as depth.
-#[derive(Drop)]
+#[derive(Clone, Copy)]
 struct Tree {
     depth: usize,
     seen: bool,
@@ -77,20 +78,20 @@ struct Tree {
     broken: bool,
 }
 
-#[derive(Drop)]
+#[derive(Clone, Copy)]
 enum Open {
     At(Part),
     Shut,
 }
 
-#[derive(Drop)]
+#[derive(Clone, Copy)]
 enum Turn {
     Begun(Part),
     Ended,
     Wrong,
 }
 
-#[derive(Drop)]
+#[derive(Clone, Copy)]
 struct Marks {
     chapter: Open,
     verse: Open,
@@ -99,7 +100,7 @@ struct Marks {
     wrong: bool,
 }
 
-#[derive(Drop)]
+#[derive(Clone, Copy)]
 struct State {
     height: i64,
     high: bool,
@@ -108,7 +109,7 @@ struct State {
 }
 
 // The answer to a text: document 01's 0 with both counts, 11, 12, 13, 14.
-#[derive(Drop)]
+#[derive(Clone, Copy)]
 pub enum Verdict {
     Accepted { chapters: usize, verses: usize },
     NotTags,

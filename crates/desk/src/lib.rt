@@ -1,3 +1,4 @@
+#![tactic(auto)]
 // The desk: how much of the text is written goes in and out as a number, and all else stands in lent numbers.
 mod group;
 mod held;

@@ -14,7 +14,7 @@ use crate::held::Numbers;
 use window::{Window, escape_xml_attr, put_number, put_run};
 
 // The sixteen elements.
-#[derive(Drop)]
+#[derive(Clone, Copy)]
 pub enum Element {
     Usx,
     Book,

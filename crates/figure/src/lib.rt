@@ -1,3 +1,4 @@
+#![tactic(auto)]
 // Figures of old, whose attributes stand in a row of fields.
 ghost use Rattle.std.specs.Prelude.{◌≡◌, [], get_or};
 ghost use Rattle.tape.specs.File.{tape_in};

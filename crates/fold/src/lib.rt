@@ -1,3 +1,4 @@
+#![tactic(auto)]
 // Alternate and published numbers behind a chapter or verse.
 ghost use Rattle.std.specs.Prelude.{◌≡◌, ◌&&◌, ◌||◌, ◌++◌};
 ghost use Rattle.parts.specs.Bytes.{Bytes};
@@ -11,7 +12,7 @@ use tape::{Cursor, Kind, Sections, Step, long};
 use words::{Part, Set};
 
 // What a node behind an anchor is: nothing, a number that folds, or the end of the fold.
-#[derive(Drop)]
+#[derive(Clone, Copy)]
 pub enum Claim {
     Blank,
     Alt,
@@ -89,7 +90,7 @@ pub fn claims(
 // ---- the number of a marker that folds
 
 // A walk over a number: the rest of a text, the next child to look at, and what stands in front.
-#[derive(Drop)]
+#[derive(Clone, Copy)]
 pub struct Number {
     pub rest: Part,
     pub next: Step,
@@ -98,7 +99,7 @@ pub struct Number {
 }
 
 // A piece of a number, whether a space stands in front of it, and what comes behind it.
-#[derive(Drop)]
+#[derive(Clone, Copy)]
 pub enum Piece {
     Some {
         part: Part,
@@ -109,7 +110,7 @@ pub enum Piece {
 }
 
 // The first word of a part, or white space alone.
-#[derive(Drop)]
+#[derive(Clone, Copy)]
 enum Run {
     Word { part: Part, space: bool, rest: Part },
     White(bool),

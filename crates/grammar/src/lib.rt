@@ -1,1 +1,2 @@
+#![tactic(auto)]
 // The grammar of the events of the walk. It holds no code.

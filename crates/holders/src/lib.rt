@@ -1,3 +1,4 @@
+#![tactic(auto)]
 // The tags of what holds others: the whole text, tables with rows and cells, sidebars and periphs; whether the last two have blocks to hold.
 mod cells;
 mod whole;

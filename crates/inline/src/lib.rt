@@ -1,3 +1,4 @@
+#![tactic(auto)]
 // Inline content: single nodes, what stands inside them, and lists of children call each other, and the remaining depth falls.
 ghost use Rattle.std.specs.Prelude.{◌≡◌, true, ◌+◌};
 ghost use Rattle.tape.specs.File.{tape_in};

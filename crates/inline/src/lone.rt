@@ -16,7 +16,7 @@ use tape::{Cursor, Kind, Sections, Step, is_at};
 use texts::Normalized;
 
 // What may have been written: nothing, or the text up to a count.
-#[derive(Drop)]
+#[derive(Clone, Copy)]
 pub enum Put {
     Nothing,
     Written(usize),

@@ -1,3 +1,4 @@
+#![tactic(auto)]
 // Turns along a list of inline children that enter no marker: texts, verses, and what is passed over.
 ghost use Rattle.std.specs.Prelude.{◌≡◌, Bool, true, not, ◌&&◌, List, ℕ, ◌+◌, ◌<◌, eqb};
 ghost use Rattle.parts.specs.Bytes.{Bytes};
@@ -22,7 +23,7 @@ use tape::{Cursor, Kind, Sections, Step};
 use texts::Normalized;
 
 // A child that no marker is entered for: left out, a verse, a text, or passed over.
-#[derive(Drop)]
+#[derive(Clone, Copy)]
 pub enum Child {
     Skipped,
     Anchor,
@@ -31,7 +32,7 @@ pub enum Child {
 }
 
 // What a child is to its list: the list ends, a marker is entered, or none is.
-#[derive(Drop)]
+#[derive(Clone, Copy)]
 pub enum Sort {
     End,
     Enter,
@@ -39,7 +40,7 @@ pub enum Sort {
 }
 
 // Whether inline content follows the parent of a list: asked where it is needed, and kept for the list.
-#[derive(Drop)]
+#[derive(Clone, Copy)]
 pub enum Behind {
     Unasked,
     Follows,
@@ -47,7 +48,7 @@ pub enum Behind {
 }
 
 // Where a walk along a list stands: how much is written, whether a text loses its leading space, what is known of the parent, the solid sibling that was kept, the next node.
-#[derive(Drop)]
+#[derive(Clone, Copy)]
 pub struct Going {
     pub at: usize,
     pub trim: bool,
@@ -57,7 +58,7 @@ pub struct Going {
 }
 
 // What stands behind a text: whether inline content follows it, what is known of the parent, and the solid sibling to keep.
-#[derive(Drop)]
+#[derive(Clone, Copy)]
 struct Waited {
     follows: bool,
     behind: Behind,
@@ -65,7 +66,7 @@ struct Waited {
 }
 
 // A text as it is normalized, what is known of the parent, and the solid sibling to keep.
-#[derive(Drop)]
+#[derive(Clone, Copy)]
 struct Looked {
     text: Normalized,
     behind: Behind,

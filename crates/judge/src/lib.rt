@@ -1,3 +1,4 @@
+#![tactic(auto)]
 // The refusals of steps: 16 first, then the lowest of document 01's that the step would cause.
 mod tests;
 

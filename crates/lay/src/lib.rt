@@ -1,6 +1,15 @@
+#![tactic(auto)]
 // Runs of bytes laid over a lent buffer, as far as it reaches.
-ghost use Rattle.std.specs.Prelude.{◌≡◌, take};
+ghost use Rattle.std.specs.Prelude.{◌≡◌, ◌≤◌, ◌++◌, length, take, drop};
 ghost use Rattle.parts.specs.Over.{lay, over};
+
+// A run over the front of a part that is no shorter.
+pub fn copy(run: &[u8], part: &mut [u8])
+    requires { length run.now ≤ length part.old }
+    ensures { part.new ≡ take (length run.now) run.now ++ drop (length run.now) part.old }
+{
+    part[..run.len()].copy_from_slice(run);
+}
 
 // A run over the buffer from a place on, as far as the buffer reaches.
 fn lay_over(out: &mut [u8], start: usize, run: &[u8])
@@ -9,9 +18,9 @@ fn lay_over(out: &mut [u8], start: usize, run: &[u8])
     if start < out.len() {
         let room = out.len() - start;
         if run.len() <= room {
-            bytes::copy(run, &mut out[start..]);
+            copy(run, &mut out[start..]);
         } else {
-            bytes::copy(&run[..room], &mut out[start..]);
+            copy(&run[..room], &mut out[start..]);
         }
     }
 }
@@ -43,10 +52,10 @@ fn lay_block(out: &mut [u8], start: usize, s: &[u8], n: usize)
                     let b = start + n;
                     let e = b + 16;
                     let m = start + 16;
-                    bytes::copy(&s[..16], &mut fresh);
-                    bytes::copy(&out[b..e], &mut saved);
-                    bytes::copy(&fresh, &mut out[start..m]);
-                    bytes::copy(&saved, &mut out[b..e]);
+                    copy(&s[..16], &mut fresh);
+                    copy(&out[b..e], &mut saved);
+                    copy(&fresh, &mut out[start..m]);
+                    copy(&saved, &mut out[b..e]);
                     return;
                 }
             }
@@ -77,16 +86,16 @@ fn lay_long(out: &mut [u8], start: usize, run: &[u8])
         let b = start + i;
         let m = b + 16;
         let mut fresh = [0u8; 16];
-        bytes::copy(&run[i..e], &mut fresh);
-        bytes::copy(&fresh, &mut out[b..m]);
+        copy(&run[i..e], &mut fresh);
+        copy(&fresh, &mut out[b..m]);
         i = e;
     }
     let q = n - 16;
     let b = start + q;
     let m = b + 16;
     let mut last = [0u8; 16];
-    bytes::copy(&run[q..n], &mut last);
-    bytes::copy(&last, &mut out[b..m]);
+    copy(&run[q..n], &mut last);
+    copy(&last, &mut out[b..m]);
 }
 
 // A text's first bytes over the buffer, by blocks of 16.

@@ -1,3 +1,4 @@
+#![tactic(auto)]
 // Where a tape that is written step by step stands in a lent buffer: header and Root, the source, free bytes, the nodes turned around, the entries, the names.
 ghost use Rattle.std.specs.Prelude.{◌≡◌, [], ◌++◌, ◌+◌, ◌-◌, ◌*◌, ◌≤◌, ◌<◌, min as least, length, take, drop, replicate};
 ghost use Rattle.bytes.specs.Bytes.{rev};
@@ -10,7 +11,7 @@ ghost use Rattle.layout.specs.Steps.{push, pour, enter, link, outer};
 use tape::{Entry, Node};
 
 // A state of writing: the phase, the counts of what is added so far, the innermost open container (0 for none) and how many are open.
-#[derive(Drop)]
+#[derive(Clone, Copy)]
 pub struct Writer {
     pub phase: u8,
     pub nodes: usize,

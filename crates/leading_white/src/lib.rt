@@ -1,3 +1,4 @@
+#![tactic(auto)]
 // A text without all but the last of the white bytes that it begins with, found through a table: however long that white space is.
 ghost use Rattle.std.specs.Prelude.{◌≡◌, ◌+◌, ◌-◌, ◌≤◌, ◌<◌, min, length};
 ghost use Rattle.parts.specs.Bytes.{part};

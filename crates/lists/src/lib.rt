@@ -1,3 +1,4 @@
+#![tactic(auto)]
 // Lists of siblings that may be cut at the next block or go without category markers.
 ghost use Rattle.std.specs.Prelude.{◌≡◌, ◌&&◌, ◌≤◌};
 ghost use Rattle.render.specs.Shape.{is_category_marker_of, is_top_level_block_of};
@@ -11,14 +12,14 @@ use fold::Claim;
 use tape::{Cursor, Kind, Sections, Step, is_at};
 
 // Which siblings a list has: up to the next block, or all; without category markers, or with them.
-#[derive(Drop)]
+#[derive(Clone, Copy)]
 pub struct Span {
     pub cut: bool,
     pub sifted: bool,
 }
 
 // What a sibling is to its list.
-#[derive(Drop)]
+#[derive(Clone, Copy)]
 pub enum Member {
     End,
     Skipped,
@@ -26,14 +27,14 @@ pub enum Member {
 }
 
 // What a run of siblings ends at.
-#[derive(Drop)]
+#[derive(Clone, Copy)]
 pub enum Stop {
     Block,
     NoRow,
 }
 
 // The markers that folded, and where the siblings go on.
-#[derive(Drop)]
+#[derive(Clone, Copy)]
 pub struct Folds {
     pub alt: Step,
     pub published: Step,

@@ -1,3 +1,4 @@
+#![tactic(auto)]
 // The first name of a tape that breaks the proviso: a book code, a label, a marker name or a key that holds & < > or a double quote.
 ghost use Rattle.std.specs.Prelude.{◌≡◌, true, ◌++◌};
 ghost use Rattle.parts.specs.Bytes.{Bytes};
@@ -23,7 +24,7 @@ use tape::{Cursor, Kind, Sections, long};
 use words::Part;
 
 // What a name is.
-#[derive(Drop)]
+#[derive(Clone, Copy)]
 pub enum What {
     Code,
     Label,
@@ -32,7 +33,7 @@ pub enum What {
 }
 
 // Refused by document 01's number; every name kept; or the first broken one: its node, what it is, and the part of the source that it is.
-#[derive(Drop)]
+#[derive(Clone, Copy)]
 pub enum Found {
     Refused(u8),
     Kept,
@@ -40,7 +41,7 @@ pub enum Found {
 }
 
 // A broken name of a node.
-#[derive(Drop)]
+#[derive(Clone, Copy)]
 enum Hit {
     At { what: What, place: Part },
     Nowhere,

@@ -1,3 +1,4 @@
+#![tactic(auto)]
 // Refusals 6 and 7: whether a tape is too deep, and whether it nests.
 ghost use Rattle.std.specs.Prelude.{◌≡◌, true, ◌↔◌};
 ghost use Rattle.tape.specs.File.{tape_in};
@@ -10,7 +11,7 @@ use tape::{Cursor, Kind, Sections};
 const MOST_OPEN: usize = 64;
 
 // What a node does to the nesting; a container opens up to its link.
-#[derive(Drop)]
+#[derive(Clone, Copy)]
 pub enum Part {
     Opens(u32),
     Closes,

@@ -1,3 +1,4 @@
+#![tactic(auto)]
 // Attributes written by strokes, without a copy.
 ghost use Rattle.std.specs.Prelude.{◌≡◌, false, List, [], ◌∷◌, ◌++◌, drop};
 ghost use Rattle.parts.specs.Bytes.{Bytes, b};

@@ -1,3 +1,4 @@
+#![tactic(auto)]
 // Normalized text written through the window, without a copy of it.
 ghost use Rattle.std.specs.Prelude.{◌≡◌, false, min, length, get_or, take, drop};
 ghost use Rattle.parts.specs.Pair.{any_pair};
@@ -17,7 +18,7 @@ use window::Window;
 use words::Set;
 
 // What is written for white space or `~`.
-#[derive(Drop)]
+#[derive(Clone, Copy)]
 enum Mark {
     Nothing,
     Space,
@@ -25,14 +26,14 @@ enum Mark {
 }
 
 // A mark, and how many bytes of the text it stands for.
-#[derive(Drop)]
+#[derive(Clone, Copy)]
 struct Gap {
     mark: Mark,
     len: usize,
 }
 
 // A character: how many bytes it takes, and whether it is white space in a body.
-#[derive(Drop)]
+#[derive(Clone, Copy)]
 struct Front {
     width: usize,
     soft: bool,

@@ -1,3 +1,4 @@
+#![tactic(auto)]
 // Chapters, verses and books: the marks go on with the text.
 ghost use Rattle.std.specs.Prelude.{◌≡◌, true, false, [], ◌∷◌, ◌++◌};
 ghost use Rattle.parts.specs.Bytes.{b};

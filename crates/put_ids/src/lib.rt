@@ -1,3 +1,4 @@
+#![tactic(auto)]
 // Identifiers of chapters and verses, and the ends of those that are open.
 ghost use Rattle.std.specs.Prelude.{true, [], ◌∷◌};
 ghost use Rattle.parts.specs.Bytes.{b};

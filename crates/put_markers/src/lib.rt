@@ -1,3 +1,4 @@
+#![tactic(auto)]
 // Markers as events: what opens a marker, what closes it, and leaves.
 mod close;
 mod leaf;

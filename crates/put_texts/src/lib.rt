@@ -1,3 +1,4 @@
+#![tactic(auto)]
 // Normalized text, whole or broken at `//`.
 ghost use Rattle.std.specs.Prelude.{◌≡◌, Bool, true, [], ℕ, ◌<◌, length, take};
 ghost use Rattle.parts.specs.Bytes.{Bytes};
@@ -83,7 +84,7 @@ fn put_break(at: usize, desk: &mut Numbers, out: &mut [u8]) -> usize
 }
 
 // Where the walk along segments stands: how much is written, and the place of the next `//`.
-#[derive(Drop)]
+#[derive(Clone, Copy)]
 struct Passed {
     at: usize,
     place: usize,

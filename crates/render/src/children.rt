@@ -11,7 +11,7 @@ use crate::shape::{is_category_marker, is_content};
 use tape::{Cursor, Kind, Sections, Step, is_at};
 
 // A test of a node.
-#[derive(Drop)]
+#[derive(Clone, Copy)]
 pub enum Test {
     Text,
     Attribute,
@@ -20,7 +20,7 @@ pub enum Test {
 }
 
 // A test of a node that blank texts do not pass.
-#[derive(Drop)]
+#[derive(Clone, Copy)]
 pub enum Seen {
     Content,
     Solid,

@@ -1,3 +1,4 @@
+#![tactic(auto)]
 // What a node is, what stands in it and what follows it: the rules that every form of the text shares.
 mod children;
 mod follow;

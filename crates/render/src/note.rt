@@ -12,7 +12,7 @@ use tape::{Cursor, Kind, Sections, Step};
 use words::{Part, Set};
 
 // How a cell's content is aligned.
-#[derive(Drop)]
+#[derive(Clone, Copy)]
 pub enum Align {
     Start,
     Center,

@@ -9,7 +9,7 @@ use tape::{Category, Cursor, Element, Info, Kind, Sections};
 use words::Set;
 
 // How an unknown marker is closed; Other for what is no unknown marker.
-#[derive(Drop)]
+#[derive(Clone, Copy)]
 pub enum Shape {
     Block,
     Inline,

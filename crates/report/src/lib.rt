@@ -1,3 +1,4 @@
+#![tactic(auto)]
 // What is said of a finished text on standard output: `accepted` with both counts, or `refused` and document 01's number, then the place for people.
 use checker::Verdict;
 use libc::STDOUT_FILENO;

@@ -1,3 +1,4 @@
+#![tactic(auto)]
 // What is said of a tape's names on standard output: `kept`; `found` with what broke the proviso and its node, then its place; or `refused` and document 01's number.
 use libc::STDOUT_FILENO;
 use names::{Found, What};

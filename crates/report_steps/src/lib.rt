@@ -1,3 +1,4 @@
+#![tactic(auto)]
 // What a step of the tape writer answered, and every byte of the buffer that it changed, as lines on standard output; their form stands in oracle/README.md,
 // under `oracle steps`.
 ghost use Rattle.std.specs.Prelude.{◌≡◌, min};

@@ -1,3 +1,4 @@
+#![tactic(auto)]
 // The roles of MarkerOpens, and what is linked.
 ghost use Rattle.std.specs.Prelude.{◌≡◌, true};
 ghost use Rattle.parts.specs.Bytes.{b, same};
@@ -17,7 +18,7 @@ use render::Shape;
 use tape::{Category, Cursor, Entry, Info, Kind, Sections, Step, is_at, short};
 
 // What a MarkerOpen is written as.
-#[derive(Drop)]
+#[derive(Clone, Copy)]
 pub enum Role {
     UnknownBlock,
     UnknownInline,

@@ -1,3 +1,4 @@
+#![tactic(auto)]
 // Places of a text that pass a test, asked through tables: whatever the text, an answer costs at most a block of 64 bytes.
 ghost use Rattle.std.specs.Prelude.{◌≡◌, false, cond, ◌+◌, ◌≤◌, ◌<◌, ◌^◌, length, drop, ltb};
 ghost use Rattle.chars.specs.Utf8.{step, characters};
@@ -7,7 +8,7 @@ ghost use Rattle.source_index.specs.Seek.{ends_at, solid_at, gap_at, solid_byte,
 use tape::long;
 
 // What is looked for: a character that ends a name, white space that a word follows at once, or a byte that is no ASCII white space.
-#[derive(Drop)]
+#[derive(Clone, Copy)]
 pub enum Test {
     Ender,
     Gap,

@@ -1,3 +1,4 @@
+#![tactic(auto)]
 // The steps of writing a tape over a lent buffer and lent numbers, which keep the state.
 ghost use Rattle.std.specs.Prelude.{◌≡◌, ◌≤◌, length, eqb};
 ghost use Rattle.draft.specs.Draft.{piece as piece_act, entry as entry_act, plain, leaf, opens, closes};

@@ -1,3 +1,4 @@
+#![tactic(auto)]
 // Tables of rows of cells: cells with what stands in them, rows of cells, tables of rows.
 ghost use Rattle.std.specs.Prelude.{◌≡◌, false};
 ghost use Rattle.tape.specs.File.{tape_in};

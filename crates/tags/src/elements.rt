@@ -2,7 +2,7 @@
 ghost use Rattle.std.specs.Prelude.{◌≡◌};
 
 // An element of the text.
-#[derive(Drop)]
+#[derive(Clone, Copy)]
 pub struct Element {
     pub code: u8,
 }

@@ -1,3 +1,4 @@
+#![tactic(auto)]
 // The tag form: what stands at the front of a text, by lengths, where no byte is copied.
 mod elements;
 
@@ -9,7 +10,7 @@ pub use elements::Element;
 use parts::{begins_with, from};
 
 // What a run of bytes may hold.
-#[derive(Drop)]
+#[derive(Clone, Copy)]
 pub enum Class {
     Text,
     Value,
@@ -17,14 +18,14 @@ pub enum Class {
 }
 
 // An element: its number, and the length of its name.
-#[derive(Drop)]
+#[derive(Clone, Copy)]
 pub enum Named {
     Name(u8, usize),
     Unnamed,
 }
 
 // What a token begins with: a text of so many bytes, a whole closing tag, `<` and a name; with the length.
-#[derive(Drop)]
+#[derive(Clone, Copy)]
 pub enum Head {
     Bad,
     Words(usize),
@@ -33,14 +34,14 @@ pub enum Head {
 }
 
 // The lengths of an attribute's key and of its value.
-#[derive(Drop)]
+#[derive(Clone, Copy)]
 pub enum Found {
     Got(usize, usize),
     Nothing,
 }
 
 // How a tag ends behind its attributes.
-#[derive(Drop)]
+#[derive(Clone, Copy)]
 pub enum Tail {
     Open,
     Empty,

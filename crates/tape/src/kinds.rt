@@ -2,7 +2,7 @@
 ghost use Rattle.std.specs.Prelude.{◌≡◌};
 
 // What a node is.
-#[derive(Drop)]
+#[derive(Clone, Copy)]
 pub struct Kind {
     pub code: u8,
 }
@@ -34,7 +34,7 @@ impl Kind {
 }
 
 // Bits of a node.
-#[derive(Drop)]
+#[derive(Clone, Copy)]
 pub struct Flags {
     pub bits: u8,
 }
@@ -54,7 +54,7 @@ impl Flags {
 }
 
 // The family of a marker.
-#[derive(Drop)]
+#[derive(Clone, Copy)]
 pub struct Category {
     pub code: u8,
 }
@@ -84,7 +84,7 @@ impl Category {
 }
 
 // The element that a marker stands for, where its category does not say.
-#[derive(Drop)]
+#[derive(Clone, Copy)]
 pub struct Element {
     pub code: u8,
 }

@@ -1,3 +1,4 @@
+#![tactic(auto)]
 // The tape file: its sections, its nodes and entries, and a cursor on a node.
 mod kinds;
 mod name;
@@ -15,7 +16,7 @@ pub use name::{bare, ends_name, name_in};
 pub use number::{long, short};
 
 // A node of the tape.
-#[derive(Drop)]
+#[derive(Clone, Copy)]
 pub struct Node {
     pub kind: Kind,
     pub flags: Flags,
@@ -26,7 +27,7 @@ pub struct Node {
 }
 
 // What the tape says of a marker: where its name stands, its category and its element.
-#[derive(Drop)]
+#[derive(Clone, Copy)]
 pub struct Entry {
     pub start: u32,
     pub len: u16,
@@ -35,7 +36,7 @@ pub struct Entry {
 }
 
 // The length of the header, and the counts of nodes, entries, name bytes and source bytes.
-#[derive(Drop)]
+#[derive(Clone, Copy)]
 pub struct Sections {
     pub head: u32,
     pub nodes: u32,
@@ -45,19 +46,19 @@ pub struct Sections {
 }
 
 // A node of the tape, by its index.
-#[derive(Drop)]
+#[derive(Clone, Copy)]
 pub struct Cursor {
     pub at: u32,
 }
 
 // What is known of a node's marker.
-#[derive(Drop)]
+#[derive(Clone, Copy)]
 pub enum Info {
     Known(Entry),
     Unknown,
 }
 
-#[derive(Drop)]
+#[derive(Clone, Copy)]
 pub enum Step {
     At(Cursor),
     Done,

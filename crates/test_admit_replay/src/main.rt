@@ -1,3 +1,4 @@
+#![tactic(auto)]
 // Writes the number that each tape of a stream is given, 0 where it is admitted, a line a tape.
 //
 // Standard input is a stream (crate `test_stream`) of tapes of at most 65,536 bytes.

@@ -1,3 +1,4 @@
+#![tactic(auto)]
 // Runs the checker over a stream of texts and writes of each what usx_check writes.
 //
 // Standard input is a stream (crate `test_stream`) of texts of at most 65,536 bytes.

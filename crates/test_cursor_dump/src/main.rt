@@ -1,3 +1,4 @@
+#![tactic(auto)]
 // Writes what the cursor says of every node of a stream of tapes, a line a node and an empty line behind each tape.
 //
 // Standard input is a stream (crate `test_stream`) of admitted tapes of at most 65,536 bytes.

@@ -1,3 +1,4 @@
+#![tactic(auto)]
 // Buffers of marks: how many bytes a call left alone is told by counting the marks behind it.
 ghost use Rattle.std.specs.Prelude.{◌≡◌, cond, length, replicate, eqb};
 ghost use Rattle.test_marks.specs.Left.{marks_in};

@@ -1,3 +1,4 @@
+#![tactic(auto)]
 // Runs the search for broken names, the serializer and the checker over a stream of tapes, and writes of each what usx_names writes, then what the
 // checker says of the text: `accepted` with both counts, `refused` and document 01's number, or `unwritten` where there is no text.
 //

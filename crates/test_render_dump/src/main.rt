@@ -1,3 +1,4 @@
+#![tactic(auto)]
 // Writes what the helpers of rendering say of every node of a stream of tapes, a line an answer and an empty line behind each tape.
 //
 // Standard input is a stream (crate `test_stream`) of admitted tapes of at most 65,536 bytes.

@@ -1,3 +1,4 @@
+#![tactic(auto)]
 // Runs the serializer over a stream of tapes, each with buffers of several lengths, and writes what each call gave and what it left in the buffer.
 //
 // Standard input is a stream (crate `test_stream`) of tapes of at most 65,536 bytes. The buffers have no byte, one byte less than the text, just as many, and

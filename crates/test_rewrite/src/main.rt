@@ -1,3 +1,4 @@
+#![tactic(auto)]
 // Writes a tape anew by the steps of the tape writer: reads it from standard input and writes the file that the steps give, or `refused` and the number of the
 // tape or of the step that was not done.
 //

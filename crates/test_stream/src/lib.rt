@@ -1,3 +1,4 @@
+#![tactic(auto)]
 // A stream on standard input: for each item its length as a u32, little-endian, then its bytes.
 ghost use Rattle.std.specs.Prelude.{◌≤◌, ◌≡◌, true, length};
 ghost use Rattle.test_stream.specs.Size.{size_of};
@@ -5,7 +6,7 @@ ghost use Rattle.test_stream.specs.Size.{size_of};
 use libc::{STDIN_FILENO, STDOUT_FILENO};
 
 // An item of so many bytes, held at the front of a buffer; or the end.
-#[derive(Drop)]
+#[derive(Clone, Copy)]
 pub enum Item {
     Held(usize),
     End,

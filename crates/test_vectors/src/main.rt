@@ -1,3 +1,4 @@
+#![tactic(auto)]
 // Runs the leaf crates on outside vectors from standard input, and says how many answers agree.
 //
 // A record: operation, set (0 ASCII, 1 Unicode), a number, the lengths of input and answer (u16 each,
@@ -9,7 +10,7 @@ use test_stream::read_some;
 use words::Set;
 
 // How many answers agree, by operation, how many differ, and whether the list is at its end.
-#[derive(Drop)]
+#[derive(Clone, Copy)]
 struct Tally {
     agree: [u64; 22],
     differ: u64,

@@ -1,3 +1,4 @@
+#![tactic(auto)]
 // Goes through the texts of tapes in windows that follow one another, and writes what the windows show, joined, and what the calls left in their buffers.
 //
 // Standard input is a stream (crate `test_stream`) of tapes of at most 3 MiB, each with its runs behind it, at most 65,536 bytes. How a run is gone through stands in
@@ -13,7 +14,7 @@ use usx::Shown;
 
 // What the calls of a run gave so far: where the next window starts, number and whole length by the last call, how many calls, how many bytes they gave, how many bytes of
 // their buffers are still the mark, and whether the last call ends the run.
-#[derive(Drop)]
+#[derive(Clone, Copy)]
 struct Tally {
     at: usize,
     number: u8,

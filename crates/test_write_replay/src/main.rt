@@ -1,3 +1,4 @@
+#![tactic(auto)]
 // Replays lists of steps of the tape writer, and writes what each step answers and every byte of the buffer that it changes.
 //
 // Standard input is a stream (crate `test_stream`) of lists of at most 65,536 bytes; their form, and that of the lines, stands in oracle/README.md, under

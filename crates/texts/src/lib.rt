@@ -1,3 +1,4 @@
+#![tactic(auto)]
 // Normalized text.
 ghost use Rattle.std.specs.Prelude.{◌≡◌, ◌&&◌};
 ghost use Rattle.texts.specs.Text.{body_of, starts_white, ends_white, normalize_text, has_break};
@@ -5,7 +6,7 @@ ghost use Rattle.texts.specs.Text.{body_of, starts_white, ends_white, normalize_
 use words::Set;
 
 // One space before a body, one behind it, and whether anything is written.
-#[derive(Drop)]
+#[derive(Clone, Copy)]
 pub struct Normalized {
     pub lead: bool,
     pub trail: bool,

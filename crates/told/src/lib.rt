@@ -1,3 +1,4 @@
+#![tactic(auto)]
 // What is told of a finished text and of a tape's names: document 01's number, and further numbers at fixed places of a lent slice, as far as it reaches.
 ghost use Rattle.std.specs.Prelude.{◌≡◌, set};
 ghost use Rattle.checker.specs.Answer.{answer_of};

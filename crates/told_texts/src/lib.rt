@@ -1,3 +1,4 @@
+#![tactic(auto)]
 // What is told of the text of a tape and of a window of it: document 01's number, and lengths at fixed places of a lent slice, as far as it reaches.
 ghost use Rattle.events.specs.Text.{outcome};
 ghost use Rattle.usx.specs.Shown.{view};

@@ -1,3 +1,4 @@
+#![tactic(auto)]
 // The USX text of a tape file: admission, then walks that write it whole, or one that shows a window of it.
 ghost use Rattle.std.specs.Prelude.{◌≡◌, ◌-◌, min};
 ghost use Rattle.events.specs.Text.{outcome};
@@ -8,7 +9,7 @@ use admit::Admitted;
 use walk::{Asked, write_tape};
 
 // Written with its length; refused by document 01's number; no room for a text of this length.
-#[derive(Drop)]
+#[derive(Clone, Copy)]
 pub enum Answer {
     Written(usize),
     Refused(u8),
@@ -16,7 +17,7 @@ pub enum Answer {
 }
 
 // A window: so many bytes are given of a text of this whole length; or refused by document 01's number.
-#[derive(Drop)]
+#[derive(Clone, Copy)]
 pub enum Shown {
     Given { bytes: usize, whole: usize },
     Refused(u8),

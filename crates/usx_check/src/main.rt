@@ -1,3 +1,4 @@
+#![tactic(auto)]
 // Checks a finished text: reads it from standard input and writes `accepted` with both counts, or `refused` and document 01's number, then
 // the place where the first rule broke.
 use libc::{STDIN_FILENO, STDOUT_FILENO};

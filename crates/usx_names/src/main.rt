@@ -1,3 +1,4 @@
+#![tactic(auto)]
 // Looks over the names of a tape: reads it from standard input and writes `kept`, or the first book code, label, marker name or key that holds & < > or
 // a double quote and where it stands, or `refused` and document 01's number.
 use libc::{STDIN_FILENO, STDOUT_FILENO};

@@ -1,3 +1,4 @@
+#![tactic(auto)]
 // The printing program: reads one tape file from standard input and writes its USX text, or `refused`, document 01's number and the length given.
 use libc::{STDIN_FILENO, STDOUT_FILENO};
 use usx::Answer;

@@ -1,3 +1,4 @@
+#![tactic(auto)]
 // The record of the open chapter and verse: steps by value, the same steps on a record that is lent, and what callers use.
 ghost use Rattle.std.specs.Prelude.{◌≡◌};
 ghost use Rattle.usx_state.specs.Mark.{new_marks, named_book, opened_chapter, closed_chapter, opened_verse, closed_verse, next_verse, next_chapter, all_closed};
@@ -5,20 +6,20 @@ ghost use Rattle.usx_state.specs.Mark.{new_marks, named_book, opened_chapter, cl
 use words::Part;
 
 // A chapter that awaits its end, by its book and number.
-#[derive(Drop)]
+#[derive(Clone, Copy)]
 pub enum OpenChapter {
     NoChapter,
     Chapter(Part, u32),
 }
 
 // A verse that awaits its end, by its book, chapter and label.
-#[derive(Drop)]
+#[derive(Clone, Copy)]
 pub enum OpenVerse {
     NoVerse,
     Verse(Part, u32, Part),
 }
 
-#[derive(Drop)]
+#[derive(Clone, Copy)]
 pub struct Marks {
     pub book: Part,
     pub number: u32,

@@ -1,3 +1,4 @@
+#![tactic(auto)]
 // The walk over an admitted tape: the whole text, if there is room for it, or a window of it.
 ghost use Rattle.std.specs.Prelude.{◌≡◌, ◌+◌, ◌/◌, ◌≤◌, min, get_or};
 ghost use Rattle.tape.specs.File.{tape_in};
@@ -15,7 +16,7 @@ use tape::{Cursor, Kind, Sections, long};
 use window::{Window, put_run};
 
 // What a walk is asked to leave in the buffer: the whole text, if there is room for it; the bytes of the text from one on, as many as there is room for.
-#[derive(Drop)]
+#[derive(Clone, Copy)]
 pub enum Asked {
     Whole,
     From(usize),

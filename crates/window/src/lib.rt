@@ -1,3 +1,4 @@
+#![tactic(auto)]
 // Text written through a window: runs of bytes, XML escapes, decimal numbers.
 ghost use Rattle.std.specs.Prelude.{◌≡◌, true, false, cond, [], ◌∷◌, ◌+◌, ◌-◌, ◌^◌, ◌<◌, min, take, drop};
 ghost use Rattle.chars.specs.Escape.{special as is_special, escape};
@@ -6,14 +7,14 @@ ghost use Rattle.window.specs.Page.{page_of, paint, stamp as stamp_of};
 ghost use Rattle.window.specs.Plain.{any_special, plain_len, PlainTo, RunTo, entity_start, entity_end, entity_of};
 
 // How many bytes of the text are written, and which byte of it the buffer starts with.
-#[derive(Drop)]
+#[derive(Clone, Copy)]
 pub struct Window {
     pub at: usize,
     pub from: usize,
 }
 
 // The digits of a number: those of bytes from start on.
-#[derive(Drop)]
+#[derive(Clone, Copy)]
 pub struct Digits {
     pub bytes: [u8; 10],
     pub start: usize,

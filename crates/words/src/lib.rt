@@ -1,24 +1,25 @@
+#![tactic(auto)]
 // Words and trims of a text, by ASCII or by Unicode white space.
 ghost use Rattle.std.specs.Prelude.{◌≡◌, [], zero, length, get_or, drop};
 ghost use Rattle.words.specs.Words.{words, trim_start, trim_end, trim as trim_of, is_blank_of, white_len, word_len, after_word, last_of, next_word, nth_word};
 ghost use Rattle.words.specs.First.{front_of_of, run_of, visible, ends_visible};
 
 // Which white space: the 5 bytes of ASCII, or Unicode's 25 code points.
-#[derive(Drop)]
+#[derive(Clone, Copy)]
 pub enum Set {
     Ascii,
     Unicode,
 }
 
 // A part of a text.
-#[derive(Drop)]
+#[derive(Clone, Copy)]
 pub struct Part {
     pub start: usize,
     pub len: usize,
 }
 
 // The first character of a text: how many bytes it takes, and whether it is white space.
-#[derive(Drop)]
+#[derive(Clone, Copy)]
 struct FirstChar {
     width: usize,
     white: bool,

@@ -1,3 +1,4 @@
+#![tactic(auto)]
 // A tape written step by step into a lent buffer.
 ghost use Rattle.std.specs.Prelude.{◌≡◌, ◌&&◌, ◌+◌, ◌-◌, ◌^◌, ◌<◌, min as least, length, take, ltb};
 ghost use Rattle.draft.specs.Draft.{empty, piece as piece_act, entry as entry_act, plain, leaf as leaf_act, opens, closes};
@@ -20,7 +21,7 @@ use tape::{Entry, Flags, Kind, Node};
 const NO_MARKER: u16 = 65535;
 
 // What a step answers: its number, 0 where it is done; the length of the file with it, where it is done or would need room (8), else 0; the state behind it.
-#[derive(Drop)]
+#[derive(Clone, Copy)]
 pub struct Answer {
     pub number: u8,
     pub length: usize,
