@@ -7,4 +7,4 @@ returns-then-runs_at c = record { follows_value = search glance_text; kept_at = 
 pub returns : goal.returns
 returns c =
     let e = c.wait.ensures in
-record { follows_value = λ en. e.0; kept_at = e.1.0; kept_value = λ en. e.1.1.0; behind_value = λ en. e.1.1.1 }
+    record { follows_value = λ en. e.follows_value; kept_at = e.kept_at; kept_value = λ en. e.kept_value; behind_value = λ en. e.behind_value }
