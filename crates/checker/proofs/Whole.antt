@@ -87,8 +87,8 @@ alike_verdict {p} {q} a = go q.high refl
 
 alike_fold : {p q : Run} → Alike p q → (ts : List Token) → verdict_of (fold_on p ts) ≡ verdict_of (fold_on q ts)
 unfolding fold_on
-alike_fold a [] = alike_verdict a
-alike_fold a (t ∷ ts) = alike_fold (alike_step a (view t)) ts
+alike_fold {p = p} {q = q} a [] = alike_verdict a
+alike_fold {p = p} {q = q} a (t ∷ ts) = alike_fold {p = step_on p (view t)} {q = step_on q (view t)} (alike_step a (view t)) ts
 
 alike_settle : {p q : Run} → Alike p q → (o : Option (List Token)) → settle p o ≡ settle q o
 unfolding settle

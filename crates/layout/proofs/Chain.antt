@@ -6,8 +6,8 @@ use native.Mathlib.Omega.{arith}
 use lib.ListN.{length, get_or, take, drop, length-append, length-drop, take-append-drop, get_or-append}
 use lib.Seq.{drop-drop, take-append-le, drop-append-le, take-append-add, drop-append-add, get_or_at, get_or-take, get_or-drop}
 use Rattle.parts.specs.Bytes.{Bytes, part}
-use Rattle.bytes.specs.Bytes.{rev}
-use Rattle.bytes.proofs.Laws.{rev-rev, rev-append}
+use Rattle.std.specs.Prelude.{reverse}
+use Rattle.std.proofs.lemmas.List.{reverse-append, reverse-reverse}
 use Rattle.tape.specs.File.{le16, le32}
 use Rattle.layout.specs.declared.Writer.{Writer}
 use Rattle.admit.specs.Encode.{four}
@@ -33,22 +33,22 @@ unfolding over
 over_is xs j ys = refl
 
 -- a run over a list that is turned around
-pub over_rev : (xs ys : Bytes) (k j : ℕ) → j + length ys + k ≡ length xs → over (rev xs) k (rev ys) ≡ rev (over xs j ys)
+pub over_rev : (xs ys : Bytes) (k j : ℕ) → j + length ys + k ≡ length xs → over (reverse xs) k (reverse ys) ≡ reverse (over xs j ys)
 over_rev xs ys k j e =
     let a : Bytes = take j xs in
     let b : Bytes = part xs j (length ys) in
     let c : Bytes = drop (j + length ys) xs in
     let parts : xs ≡ a ++ (b ++ c) = sym (take-append-drop j xs) ∙ ap (λ (l : Bytes). a ++ l) (cut xs j (length ys) refl) in
     let lb : length b ≡ length ys = part_length xs j (length ys) (omega arith) in
-    let lc : length (rev c) ≡ k = length_rev c ∙ length-drop (j + length ys) xs ∙ omega arith in
-    let turn : (q : Bytes) → rev (a ++ (q ++ c)) ≡ rev c ++ (rev q ++ rev a) =
-    λ q. rev-append a (q ++ c) ∙ ap (λ (l : Bytes). l ++ rev a) (rev-append q c) ∙ append_assoc (rev c) (rev q) (rev a) in
-    ap (λ (l : Bytes). over l k (rev ys)) (ap rev parts ∙ turn b)
-    ∙ over-mid (rev c) (rev b) (rev a) (rev ys) lc (length_rev b ∙ lb ∙ sym (length_rev ys))
-    ∙ sym (turn ys) ∙ ap rev (over_is xs j ys)
+    let lc : length (reverse c) ≡ k = length_rev c ∙ length-drop (j + length ys) xs ∙ omega arith in
+    let turn : (q : Bytes) → reverse (a ++ (q ++ c)) ≡ reverse c ++ (reverse q ++ reverse a) =
+    λ q. reverse-append a (q ++ c) ∙ ap (λ (l : Bytes). l ++ reverse a) (reverse-append q c) ∙ append_assoc (reverse c) (reverse q) (reverse a) in
+    ap (λ (l : Bytes). over l k (reverse ys)) (ap reverse parts ∙ turn b)
+    ∙ over-mid (reverse c) (reverse b) (reverse a) (reverse ys) lc (length_rev b ∙ lb ∙ sym (length_rev ys))
+    ∙ sym (turn ys) ∙ ap reverse (over_is xs j ys)
 
 -- the link of the innermost open container set
-pub link-laid : (w : Writer) (buf : Bytes) (to : ℕ) {p : ℕ} {run last : Bytes} → Fits w (length buf) → 0 < w.inner → run ≡ rev (four to) → p ≡ entries_at w (length buf) - (link_at w.inner + 4)
+pub link-laid : (w : Writer) (buf : Bytes) (to : ℕ) {p : ℕ} {run last : Bytes} → Fits w (length buf) → 0 < w.inner → run ≡ reverse (four to) → p ≡ entries_at w (length buf) - (link_at w.inner + 4)
     → last ≡ over buf p run → last ≡ laid (head_of buf) (link (held_in w buf) w.inner to) (free_of w buf)
 unfolding laid link held_in
 link-laid w buf to {p} {run} {last} f pos er ep el =
@@ -60,29 +60,29 @@ link-laid w buf to {p} {run} {last} f pos er ep el =
     let sl : length d.source ≡ w.source = source-length w buf f in
     let hl : length (head_of buf) ≡ 52 = head_length w buf f in
     let nl : length d.nodes ≡ 16 * w.nodes = nodes-length w buf f in
-    let rl : length (rev d.nodes) ≡ length d.nodes = length_rev d.nodes in
+    let rl : length (reverse d.nodes) ≡ length d.nodes = length_rev d.nodes in
     let k : ℕ = 16 * w.nodes - (link_at w.inner + 4) in
     let q : Bytes = head_of buf ++ (d.source ++ z) in
     let ql : length q + k ≡ p = ap (λ (n : ℕ). n + k) (length-append (head_of buf) (d.source ++ z) ∙ ap (λ (n : ℕ). length (head_of buf) + n) (length-append d.source z)) ∙ omega arith in
-    let run4 : length (rev (four to)) ≡ 4 = length_rev (four to) in
+    let run4 : length (reverse (four to)) ≡ 4 = length_rev (four to) in
     el ∙ ap (λ (s : Bytes). over buf p s) er
-    ∙ ap (λ (s : Bytes). over s p (rev (four to))) (split w buf f ∙ regroup (head_of buf) d.source z (rev d.nodes) (d.entries ++ d.names))
-    ∙ over-inside q (rev d.nodes) (d.entries ++ d.names) (rev (four to)) p k ql (omega arith)
+    ∙ ap (λ (s : Bytes). over s p (reverse (four to))) (split w buf f ∙ regroup (head_of buf) d.source z (reverse d.nodes) (d.entries ++ d.names))
+    ∙ over-inside q (reverse d.nodes) (d.entries ++ d.names) (reverse (four to)) p k ql (omega arith)
     ∙ ap (λ (s : Bytes). q ++ (s ++ (d.entries ++ d.names))) (over_rev d.nodes (four to) k (link_at w.inner) (omega arith))
-    ∙ sym (regroup (head_of buf) d.source z (rev (over d.nodes (link_at w.inner) (four to))) (d.entries ++ d.names))
+    ∙ sym (regroup (head_of buf) d.source z (reverse (over d.nodes (link_at w.inner) (four to))) (d.entries ++ d.names))
   where
     regroup : (h s x n t : Bytes) → h ++ (s ++ (x ++ (n ++ t))) ≡ (h ++ (s ++ x)) ++ (n ++ t)
     regroup h s x n t = simp append_assoc
 
 -- ---- reading
 
-pub get_d_rev : (xs : Bytes) (i j : ℕ) → i + suc j ≡ length xs → get_or (rev xs) i 0 ≡ get_or xs j 0
-unfolding rev
+pub get_d_rev : (xs : Bytes) (i j : ℕ) → i + suc j ≡ length xs → get_or (reverse xs) i 0 ≡ get_or xs j 0
+unfolding reverse
 get_d_rev [] i j e = absurd (omega arith)
 get_d_rev (x ∷ xs) i zero e =
-    ap (λ (l : Bytes). get_or l i 0) (reverse-cons x xs) ∙ get_or_at (rev xs) x [] 0 i (length_rev xs ∙ omega arith)
+    ap (λ (l : Bytes). get_or l i 0) (reverse-cons x xs) ∙ get_or_at (reverse xs) x [] 0 i (length_rev xs ∙ omega arith)
 get_d_rev (x ∷ xs) i (suc j) e =
-    ap (λ (l : Bytes). get_or l i 0) (reverse-cons x xs) ∙ get_or-append (rev xs) (x ∷ []) 0 i (omega (arith, length_rev xs)) ∙ get_d_rev xs i j (omega arith)
+    ap (λ (l : Bytes). get_or l i 0) (reverse-cons x xs) ∙ get_or-append (reverse xs) (x ∷ []) 0 i (omega (arith, length_rev xs)) ∙ get_d_rev xs i j (omega arith)
 
 pub le32_at : (s : Bytes) (k : ℕ) → get_or s k 0 + 256 * get_or s (k + 1) 0 + 65536 * (get_or s (k + 2) 0 + 256 * get_or s (k + 3) 0) ≡ le32 (drop k s)
 unfolding le32 le16
@@ -103,8 +103,8 @@ node_byte w buf i j f h e =
     let at : a + (n - suc j) ≡ i = omega arith in
     let pl : length (part buf a n) ≡ n = part_length buf a n (omega arith) in
     ap (λ (k : ℕ). get_or buf k 0) (sym at) ∙ sym (get_or-drop a buf (n - suc j) 0) ∙ sym (get_or-take n (drop a buf) (n - suc j) 0 (omega arith))
-    ∙ ap (λ (l : Bytes). get_or l (n - suc j) 0) (sym (rev-rev (part buf a n)))
-    ∙ get_d_rev (rev (part buf a n)) (n - suc j) j (omega (arith, length_rev (part buf a n)))
+    ∙ ap (λ (l : Bytes). get_or l (n - suc j) 0) (sym (reverse-reverse (part buf a n)))
+    ∙ get_d_rev (reverse (part buf a n)) (n - suc j) j (omega (arith, length_rev (part buf a n)))
 
 pub outer_made : (w : Writer) (buf : Bytes) {p x y u v : ℕ} → Fits w (length buf) → 0 < w.inner → p ≡ entries_at w (length buf) - (link_at w.inner + 4)
     → x ≡ get_or buf (p + 3) 0 → y ≡ get_or buf (p + 2) 0 → u ≡ get_or buf (p + 1) 0 → v ≡ get_or buf p 0

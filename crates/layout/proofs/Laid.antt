@@ -6,8 +6,8 @@ use native.Mathlib.Omega.{arith}
 use lib.ListN.{length, take, drop, length-append, length-take, length-drop, take-append-drop, length-reverse, drop_of_length-le}
 use lib.Seq.{take_at, drop_at, drop-drop, drop-append-add, length-take-le, take_all, take-length}
 use Rattle.parts.specs.Bytes.{Bytes, part}
-use Rattle.bytes.specs.Bytes.{rev}
-use Rattle.bytes.proofs.Laws.{rev-rev, rev-append}
+use Rattle.std.specs.Prelude.{reverse}
+use Rattle.std.proofs.lemmas.List.{reverse-append, reverse-reverse}
 use Rattle.layout.specs.declared.Writer.{Writer}
 use Rattle.tape.specs.declared.Node.{Node}
 use Rattle.layout.specs.Bytes.{over, node_bytes_of}
@@ -80,7 +80,7 @@ module _ (w : Writer) (buf : Bytes) (f : Fits w (length buf)) where
       let e₂ : drop (52 + w.source) buf ≡ part buf (52 + w.source) (n - file_len w) ++ drop (nodes_at w n) buf = cut buf (52 + w.source) (n - file_len w) {j = nodes_at w n} (omega arith) in
       let e₃ : drop (nodes_at w n) buf ≡ part buf (nodes_at w n) (16 * w.nodes) ++ drop (entries_at w n) buf = cut buf (nodes_at w n) (16 * w.nodes) {j = entries_at w n} (omega arith) in
       let e₄ : drop (entries_at w n) buf ≡ part buf (entries_at w n) (8 * w.entries) ++ drop (names_at w n) buf = cut buf (entries_at w n) (8 * w.entries) {j = names_at w n} (omega arith) in
-      let t : rev (rev (part buf (nodes_at w n) (16 * w.nodes))) ≡ part buf (nodes_at w n) (16 * w.nodes) = rev-rev (part buf (nodes_at w n) (16 * w.nodes)) in
+      let t : reverse (reverse (part buf (nodes_at w n) (16 * w.nodes))) ≡ part buf (nodes_at w n) (16 * w.nodes) = reverse-reverse (part buf (nodes_at w n) (16 * w.nodes)) in
       sym (take-append-drop 52 buf) ∙ ap (λ (z : Bytes). take 52 buf ++ z) (e₁ ∙ ap (λ (z : Bytes). part buf 52 w.source ++ z)
       (e₂ ∙ ap (λ (z : Bytes). part buf (52 + w.source) (n - file_len w) ++ z)
       (e₃ ∙ (λ i. sym t i ++ e₄ i))))
@@ -101,14 +101,14 @@ module _ (w : Writer) (buf : Bytes) (f : Fits w (length buf)) where
   entries-length = part_length buf (entries_at w (length buf)) (8 * w.entries) (omega (arith, f.room))
 
   pub nodes-length : length (held_in w buf).nodes ≡ 16 * w.nodes
-  unfolding held_in rev
+  unfolding held_in reverse
   nodes-length = length-reverse (part buf (nodes_at w (length buf)) (16 * w.nodes)) ∙ part_length buf (nodes_at w (length buf)) (16 * w.nodes) (omega (arith, f.room))
 
   pub counts : Counts w (held_in w buf)
   counts = record { entries = entries-length; names = names-length; source = source-length; nodes = nodes-length }
 
   -- a node laid in front of the nodes
-  pub push-laid : (n : Node) {run last : Bytes} {at at' : ℕ} → file_len w + 16 ≤ length buf → length run ≡ 16 → at ≡ nodes_at w (length buf) → at' ≡ at - 16 → run ≡ rev (node_bytes_of n) → last ≡ over buf at' run
+  pub push-laid : (n : Node) {run last : Bytes} {at at' : ℕ} → file_len w + 16 ≤ length buf → length run ≡ 16 → at ≡ nodes_at w (length buf) → at' ≡ at - 16 → run ≡ reverse (node_bytes_of n) → last ≡ over buf at' run
       → last ≡ laid (head_of buf) (push (held_in w buf) n) (take (length (free_of w buf) - 16) (free_of w buf))
   unfolding laid push
   push-laid n {run} {last} {at} {at'} room long ea ea' er el =
@@ -121,10 +121,10 @@ module _ (w : Writer) (buf : Bytes) (f : Fits w (length buf)) where
       let xl : length (take k z) ≡ k = length-take-le k z (omega arith) in
       let yl : length (drop k z) ≡ length run = length-drop k z ∙ omega arith in
       let place : length (head_of buf) + length d.source + length (take k z) ≡ at' = omega (arith, f.room) in
-      let turn : run ++ (rev d.nodes ++ (d.entries ++ d.names)) ≡ rev (d.nodes ++ node_bytes_of n) ++ (d.entries ++ d.names) =
-      rw (er, rev-append d.nodes (node_bytes_of n), append_assoc) in
-      el ∙ ap (λ (l : Bytes). over l at' run) (split ∙ ap (λ (y : Bytes). head_of buf ++ (d.source ++ (y ++ (rev d.nodes ++ (d.entries ++ d.names))))) (sym (take-append-drop k z)))
-      ∙ over_third (head_of buf) d.source (take k z) (drop k z) (rev d.nodes ++ (d.entries ++ d.names)) run place yl
+      let turn : run ++ (reverse d.nodes ++ (d.entries ++ d.names)) ≡ reverse (d.nodes ++ node_bytes_of n) ++ (d.entries ++ d.names) =
+      rw (er, reverse-append d.nodes (node_bytes_of n), append_assoc) in
+      el ∙ ap (λ (l : Bytes). over l at' run) (split ∙ ap (λ (y : Bytes). head_of buf ++ (d.source ++ (y ++ (reverse d.nodes ++ (d.entries ++ d.names))))) (sym (take-append-drop k z)))
+      ∙ over_third (head_of buf) d.source (take k z) (drop k z) (reverse d.nodes ++ (d.entries ++ d.names)) run place yl
       ∙ ap (λ (y : Bytes). head_of buf ++ (d.source ++ (take k z ++ y))) turn
 
   -- a piece laid behind the source
@@ -139,7 +139,7 @@ module _ (w : Writer) (buf : Bytes) (f : Fits w (length buf)) where
       let sl : length d.source ≡ w.source = source-length in
       let hl : length (head_of buf) ≡ 52 = head_length in
       let xl : length (take k z) ≡ k = length-take-le k z (omega arith) in
-      let r : Bytes = rev d.nodes ++ (d.entries ++ d.names) in
+      let r : Bytes = reverse d.nodes ++ (d.entries ++ d.names) in
       let place : length (head_of buf ++ d.source) ≡ 52 + w.source = length-append (head_of buf) d.source ∙ omega arith in
       let ww : head_of buf ++ (d.source ++ ((take k z ++ drop k z) ++ r)) ≡ (head_of buf ++ d.source) ++ (take k z ++ (drop k z ++ r)) = simp append_assoc in
       el ∙ ap (λ (l : Bytes). over l (52 + w.source) piece) (split ∙ ap (λ (y : Bytes). head_of buf ++ (d.source ++ (y ++ r))) (sym (take-append-drop k z)) ∙ ww)
@@ -150,61 +150,61 @@ module _ (w : Writer) (buf : Bytes) (f : Fits w (length buf)) where
 
 module _ (w : Writer) (head : Bytes) (d : Held) (free : Bytes) (hl : length head ≡ 52) (n : Counts w d) where
   pub laid-length : length (laid head d free) ≡ file_len w + length free
-  unfolding laid rev
+  unfolding laid reverse
   laid-length = simp (length-append, length-reverse) (omega (arith, n.entries, n.names, n.source, n.nodes))
 
   pub head_read : head_of (laid head d free) ≡ head
   unfolding laid
-  head_read = take_at head (d.source ++ (free ++ (rev d.nodes ++ (d.entries ++ d.names)))) 52 hl
+  head_read = take_at head (d.source ++ (free ++ (reverse d.nodes ++ (d.entries ++ d.names)))) 52 hl
 
   source_read : part (laid head d free) 52 w.source ≡ d.source
   unfolding laid
   source_read =
-      part-past head (d.source ++ (free ++ (rev d.nodes ++ (d.entries ++ d.names)))) 52 0 w.source (omega arith)
-      ∙ part_front d.source (free ++ (rev d.nodes ++ (d.entries ++ d.names))) w.source n.source
+      part-past head (d.source ++ (free ++ (reverse d.nodes ++ (d.entries ++ d.names)))) 52 0 w.source (omega arith)
+      ∙ part_front d.source (free ++ (reverse d.nodes ++ (d.entries ++ d.names))) w.source n.source
 
   -- a part of what stands behind the free bytes
-  behind : (i j m : ℕ) → 52 + w.source + length free + j ≡ i → part (laid head d free) i m ≡ part (rev d.nodes ++ (d.entries ++ d.names)) j m
+  behind : (i j m : ℕ) → 52 + w.source + length free + j ≡ i → part (laid head d free) i m ≡ part (reverse d.nodes ++ (d.entries ++ d.names)) j m
   unfolding laid
   behind i j m e =
       let sl : length d.source ≡ w.source = n.source in
-      part-past head (d.source ++ (free ++ (rev d.nodes ++ (d.entries ++ d.names)))) i (w.source + (length free + j)) m (omega arith)
-      ∙ part-past d.source (free ++ (rev d.nodes ++ (d.entries ++ d.names))) (w.source + (length free + j)) (length free + j) m (omega arith)
-      ∙ part-past free (rev d.nodes ++ (d.entries ++ d.names)) (length free + j) j m refl
+      part-past head (d.source ++ (free ++ (reverse d.nodes ++ (d.entries ++ d.names)))) i (w.source + (length free + j)) m (omega arith)
+      ∙ part-past d.source (free ++ (reverse d.nodes ++ (d.entries ++ d.names))) (w.source + (length free + j)) (length free + j) m (omega arith)
+      ∙ part-past free (reverse d.nodes ++ (d.entries ++ d.names)) (length free + j) j m refl
 
   pub free_read : free_of w (laid head d free) ≡ free
   unfolding laid free_of
   free_read =
       let sl : length d.source ≡ w.source = n.source in
       let all : length (laid head d free) - file_len w ≡ length free = omega (arith, laid-length) in
-      part-past head (d.source ++ (free ++ (rev d.nodes ++ (d.entries ++ d.names)))) (52 + w.source) w.source (length (laid head d free) - file_len w) (omega arith)
-      ∙ part-past d.source (free ++ (rev d.nodes ++ (d.entries ++ d.names))) w.source 0 (length (laid head d free) - file_len w) (omega arith)
-      ∙ part_front free (rev d.nodes ++ (d.entries ++ d.names)) (length (laid head d free) - file_len w) (sym all)
+      part-past head (d.source ++ (free ++ (reverse d.nodes ++ (d.entries ++ d.names)))) (52 + w.source) w.source (length (laid head d free) - file_len w) (omega arith)
+      ∙ part-past d.source (free ++ (reverse d.nodes ++ (d.entries ++ d.names))) w.source 0 (length (laid head d free) - file_len w) (omega arith)
+      ∙ part_front free (reverse d.nodes ++ (d.entries ++ d.names)) (length (laid head d free) - file_len w) (sym all)
 
-  nodes_read : part (laid head d free) (nodes_at w (length (laid head d free))) (16 * w.nodes) ≡ rev d.nodes
-  unfolding rev
+  nodes_read : part (laid head d free) (nodes_at w (length (laid head d free))) (16 * w.nodes) ≡ reverse d.nodes
+  unfolding reverse
   nodes_read =
       behind (nodes_at w (length (laid head d free))) 0 (16 * w.nodes) (omega (arith, laid-length))
-      ∙ part_front (rev d.nodes) (d.entries ++ d.names) (16 * w.nodes) (length-reverse d.nodes ∙ n.nodes)
+      ∙ part_front (reverse d.nodes) (d.entries ++ d.names) (16 * w.nodes) (length-reverse d.nodes ∙ n.nodes)
 
   entries_read : part (laid head d free) (entries_at w (length (laid head d free))) (8 * w.entries) ≡ d.entries
-  unfolding rev
+  unfolding reverse
   entries_read =
-      let nl : length (rev d.nodes) ≡ 16 * w.nodes = length-reverse d.nodes ∙ n.nodes in
+      let nl : length (reverse d.nodes) ≡ 16 * w.nodes = length-reverse d.nodes ∙ n.nodes in
       behind (entries_at w (length (laid head d free))) (16 * w.nodes) (8 * w.entries) (omega (arith, laid-length))
-      ∙ part-past (rev d.nodes) (d.entries ++ d.names) (16 * w.nodes) 0 (8 * w.entries) (omega arith)
+      ∙ part-past (reverse d.nodes) (d.entries ++ d.names) (16 * w.nodes) 0 (8 * w.entries) (omega arith)
       ∙ part_front d.entries d.names (8 * w.entries) n.entries
 
   names_read : drop (names_at w (length (laid head d free))) (laid head d free) ≡ d.names
-  unfolding laid rev
+  unfolding laid reverse
   names_read =
-      let nl : length (rev d.nodes) ≡ 16 * w.nodes = length-reverse d.nodes ∙ n.nodes in
-      let e : laid head d free ≡ (head ++ (d.source ++ (free ++ (rev d.nodes ++ d.entries)))) ++ d.names = simp append_assoc in
-      let l : length (head ++ (d.source ++ (free ++ (rev d.nodes ++ d.entries)))) ≡ names_at w (length (laid head d free)) =
+      let nl : length (reverse d.nodes) ≡ 16 * w.nodes = length-reverse d.nodes ∙ n.nodes in
+      let e : laid head d free ≡ (head ++ (d.source ++ (free ++ (reverse d.nodes ++ d.entries)))) ++ d.names = simp append_assoc in
+      let l : length (head ++ (d.source ++ (free ++ (reverse d.nodes ++ d.entries)))) ≡ names_at w (length (laid head d free)) =
       simp length-append (omega (arith, laid-length, n.entries, n.names, n.source)) in
-      ap (drop (names_at w (length (laid head d free)))) e ∙ drop_at (head ++ (d.source ++ (free ++ (rev d.nodes ++ d.entries)))) d.names (names_at w (length (laid head d free))) l
+      ap (drop (names_at w (length (laid head d free)))) e ∙ drop_at (head ++ (d.source ++ (free ++ (reverse d.nodes ++ d.entries)))) d.names (names_at w (length (laid head d free))) l
 
   -- what is laid out is what the buffer holds
   pub held_read : held_in w (laid head d free) ≡ d
   unfolding held_in
-  held_read = rw (entries_read, names_read, source_read, nodes_read, rev-rev d.nodes)
+  held_read = rw (entries_read, names_read, source_read, nodes_read, reverse-reverse d.nodes)

@@ -11,7 +11,7 @@ use lib.Seq.{take_at, drop-cons, drop-append-le, get_or-drop, get_or-append-add,
 use lib.Dec.{leb}
 use borrow.Author.Tests.{leb-true, leb-false}
 use Rattle.parts.specs.Bytes.{Bytes, part}
-use Rattle.bytes.specs.Bytes.{rev}
+use Rattle.std.specs.Prelude.{reverse}
 use Rattle.tape.specs.declared.Node.{Node}
 use Rattle.admit.specs.Encode.{four}
 use Rattle.layout.specs.declared.Writer.{Writer}
@@ -187,14 +187,14 @@ unfolding laid behind_of
 gathered w buf {b} {last} {left} fit el eb e =
     let h : Held = held_in w buf in
     let f : Bytes = free_of w buf in
-    let x : Bytes = rev h.nodes ++ (h.entries ++ h.names) in
+    let x : Bytes = reverse h.nodes ++ (h.entries ++ h.names) in
     let a : Bytes = head_of buf ++ h.source in
     let room : file_len w ≤ length buf = fit.room in
     let fl : length f ≡ length buf - file_len w = free-length w buf fit in
     let al : length a ≡ 52 + w.source = length-append (head_of buf) h.source ∙ omega (arith, head_length w buf fit, source-length w buf fit) in
     let xl : length x ≡ tail_len w =
     simp length-append (omega (arith, length_rev h.nodes, nodes-length w buf fit, entries-length w buf fit, names-length w buf fit)) in
-    let whole : buf ≡ a ++ (f ++ x) = split w buf fit ∙ unlaid (head_of buf) h.source f (rev h.nodes) (h.entries ++ h.names) in
+    let whole : buf ≡ a ++ (f ++ x) = split w buf fit ∙ unlaid (head_of buf) h.source f (reverse h.nodes) (h.entries ++ h.names) in
     let px : part buf (nodes_at w (length buf)) (tail_len w) ≡ x =
     ap (λ (s : Bytes). part s (nodes_at w (length buf)) (tail_len w)) whole
     ∙ part-past a (f ++ x) (nodes_at w (length buf)) (length f) (tail_len w) (omega arith)
@@ -219,7 +219,7 @@ gathered w buf {b} {last} {left} fit el eb e =
     ∙ over-mid (a ++ (x ++ y)) z [] (zeros left) pl (zl ∙ sym (length-zeros left))
     ∙ ap (λ (s : Bytes). (a ++ (x ++ s)) ++ (zeros left ++ [])) (rest-free f x left k ∙ ap (λ (n : ℕ). drop n f) xl)
     ∙ ap (λ (n : ℕ). (a ++ (x ++ drop (tail_len w) f)) ++ (zeros n ++ [])) (k ∙ ap (min (length f)) xl)
-    ∙ relaid (head_of buf) h.source (rev h.nodes) (h.entries ++ h.names) (drop (tail_len w) f) (zeros (min (length f) (tail_len w)))
+    ∙ relaid (head_of buf) h.source (reverse h.nodes) (h.entries ++ h.names) (drop (tail_len w) f) (zeros (min (length f) (tail_len w)))
   where
     same : nodes_at w (length buf) - (52 + w.source) ≡ length (free_of w buf)
     same = omega (arith, free-length w buf fit, fit.room)

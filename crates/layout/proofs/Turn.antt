@@ -6,8 +6,8 @@ use native.Mathlib.Omega.{arith}
 use lib.ListN.{length, get_or, take, drop, length-append, length-drop, take-append-drop, length-reverse}
 use lib.Seq.{take_at, drop_at, length-take-le}
 use Rattle.parts.specs.Bytes.{Bytes, part}
-use Rattle.bytes.specs.Bytes.{rev, slice}
-use Rattle.bytes.proofs.Laws.{rev-rev, rev-append, rev-rev-append}
+use Rattle.std.specs.Prelude.{reverse}
+use Rattle.std.proofs.lemmas.List.{reverse-append, reverse-reverse}
 use Rattle.layout.specs.declared.Writer.{Writer}
 use Rattle.admit.specs.Encode.{four}
 use Rattle.layout.specs.Bytes.{over, reversed, exchange, node_bytes_of}
@@ -15,35 +15,36 @@ use Rattle.layout.specs.Layout.{Held, Fits, file_len, held_in, head_of, free_of,
 use Rattle.layout.specs.Steps.{enter}
 use Rattle.layout.proofs.Laid.{cut, part_length, part-past, part_front, over-mid, split, free-length, source-length, head_length, nodes-length, entries-length, names-length}
 
-pub length_rev : (s : Bytes) → length (rev s) ≡ length s
-unfolding rev
+pub length_rev : (s : Bytes) → length (reverse s) ≡ length s
 length_rev s = length-reverse s
 
 -- reversing the second of three parts
-pub reversed_parts : (p q z : Bytes) {k l : ℕ} → length p ≡ k → k + length q ≡ l → reversed (p ++ (q ++ z)) k l ≡ p ++ (rev q ++ z)
-unfolding slice
+pub reversed_parts : (p q z : Bytes) {k l : ℕ} → length p ≡ k → k + length q ≡ l → reversed (p ++ (q ++ z)) k l ≡ p ++ (reverse q ++ z)
 reversed_parts p q z {k} {l} e₁ e₂ =
     let w : p ++ (q ++ z) ≡ (p ++ q) ++ z = sym (append_assoc p q z) in
     let n : length (p ++ q) ≡ l = length-append p q ∙ omega arith in
     let t : take l (p ++ (q ++ z)) ≡ p ++ q = ap (take l) w ∙ take_at (p ++ q) z l n in
-    let s : slice k l (p ++ (q ++ z)) ≡ q = ap (drop k) t ∙ drop_at p q k e₁ in
+    let s : drop k (take l (p ++ (q ++ z))) ≡ q = ap (drop k) t ∙ drop_at p q k e₁ in
     let d : drop l (p ++ (q ++ z)) ≡ z = ap (drop l) w ∙ drop_at (p ++ q) z l n in
-    λ i. take_at p (q ++ z) k e₁ i ++ (rev (s i) ++ d i)
+    λ i. take_at p (q ++ z) k e₁ i ++ (reverse (s i) ++ d i)
+
+reverse_both : (x y : Bytes) → reverse (reverse x ++ reverse y) ≡ y ++ x
+reverse_both x y = reverse-append (reverse x) (reverse y) ∙ rw (reverse-reverse x, reverse-reverse y)
 
 -- three reversals exchange two parts
 pub exchanged_parts : (p x y z : Bytes) {lo mid hi : ℕ} → length p ≡ lo → lo + length x ≡ mid → mid + length y ≡ hi
     → reversed (reversed (reversed (p ++ (x ++ (y ++ z))) lo mid) mid hi) lo hi ≡ p ++ (y ++ (x ++ z))
 exchanged_parts p x y z {lo} {mid} {hi} e₁ e₂ e₃ =
-    let lx : length (rev x) ≡ length x = length_rev x in
-    let ly : length (rev y) ≡ length y = length_rev y in
-    let px : length (p ++ rev x) ≡ mid = length-append p (rev x) ∙ omega arith in
-    let xy : lo + length (rev x ++ rev y) ≡ hi = ap (λ (n : ℕ). lo + n) (length-append (rev x) (rev y)) ∙ omega arith in
+    let lx : length (reverse x) ≡ length x = length_rev x in
+    let ly : length (reverse y) ≡ length y = length_rev y in
+    let px : length (p ++ reverse x) ≡ mid = length-append p (reverse x) ∙ omega arith in
+    let xy : lo + length (reverse x ++ reverse y) ≡ hi = ap (λ (n : ℕ). lo + n) (length-append (reverse x) (reverse y)) ∙ omega arith in
     ap (λ (w : Bytes). reversed (reversed w mid hi) lo hi) (reversed_parts p x (y ++ z) e₁ e₂)
-    ∙ ap (λ (w : Bytes). reversed (reversed w mid hi) lo hi) (sym (append_assoc p (rev x) (y ++ z)))
-    ∙ ap (λ (w : Bytes). reversed w lo hi) (reversed_parts (p ++ rev x) y z px e₃)
+    ∙ ap (λ (w : Bytes). reversed (reversed w mid hi) lo hi) (sym (append_assoc p (reverse x) (y ++ z)))
+    ∙ ap (λ (w : Bytes). reversed w lo hi) (reversed_parts (p ++ reverse x) y z px e₃)
     ∙ ap (λ (w : Bytes). reversed w lo hi) (simp append_assoc)
-    ∙ reversed_parts p (rev x ++ rev y) z e₁ xy
-    ∙ ap (λ (w : Bytes). p ++ (w ++ z)) (rev-rev-append x y)
+    ∙ reversed_parts p (reverse x ++ reverse y) z e₁ xy
+    ∙ ap (λ (w : Bytes). p ++ (w ++ z)) (reverse_both x y)
     ∙ ap (λ (w : Bytes). p ++ w) (append_assoc y x z)
 
 pub exchange_parts : (p x y z : Bytes) {lo mid hi : ℕ} → length p ≡ lo → lo + length x ≡ mid → mid + length y ≡ hi
@@ -81,22 +82,22 @@ exchanged s lo mid hi h₁ h₂ h₃ eb ec ee =
 
 -- source, turned nodes and table become nodes, table, source
 pub filed_parts : (h s n t z : Bytes) {at last_at end : ℕ} → length h ≡ 52 → 52 + length n ≡ at → 52 + (length s + length n) ≡ last_at → last_at + length t ≡ end
-    → reversed (reversed (reversed (h ++ (s ++ (rev n ++ (t ++ z)))) 52 last_at) at end) at (at + length t) ≡ h ++ (n ++ (t ++ (s ++ z)))
+    → reversed (reversed (reversed (h ++ (s ++ (reverse n ++ (t ++ z)))) 52 last_at) at end) at (at + length t) ≡ h ++ (n ++ (t ++ (s ++ z)))
 filed_parts h s n t z {at} {last_at} {end} eh ea el ee =
-    let ln : length (rev n) ≡ length n = length_rev n in
-    let ls : length (rev s) ≡ length s = length_rev s in
-    let lt : length (rev t) ≡ length t = length_rev t in
-    let m₁ : 52 + length (s ++ rev n) ≡ last_at = simp length-append (omega arith) in
-    let t₁ : rev (s ++ rev n) ≡ n ++ rev s = rev-append s (rev n) ∙ ap (λ (x : Bytes). x ++ rev s) (rev-rev n) in
+    let ln : length (reverse n) ≡ length n = length_rev n in
+    let ls : length (reverse s) ≡ length s = length_rev s in
+    let lt : length (reverse t) ≡ length t = length_rev t in
+    let m₁ : 52 + length (s ++ reverse n) ≡ last_at = simp length-append (omega arith) in
+    let t₁ : reverse (s ++ reverse n) ≡ n ++ reverse s = reverse-append s (reverse n) ∙ ap (λ (x : Bytes). x ++ reverse s) (reverse-reverse n) in
     let hn : length (h ++ n) ≡ at = length-append h n ∙ omega arith in
-    let m₂ : at + length (rev s ++ t) ≡ end = ap (λ (x : ℕ). at + x) (length-append (rev s) t) ∙ omega arith in
-    let t₂ : rev (rev s ++ t) ≡ rev t ++ s = rev-append (rev s) t ∙ ap (λ (x : Bytes). rev t ++ x) (rev-rev s) in
-    ap (λ (x : Bytes). reversed (reversed (reversed x 52 last_at) at end) at (at + length t)) (group₁ h s (rev n) (t ++ z))
+    let m₂ : at + length (reverse s ++ t) ≡ end = ap (λ (x : ℕ). at + x) (length-append (reverse s) t) ∙ omega arith in
+    let t₂ : reverse (reverse s ++ t) ≡ reverse t ++ s = reverse-append (reverse s) t ∙ ap (λ (x : Bytes). reverse t ++ x) (reverse-reverse s) in
+    ap (λ (x : Bytes). reversed (reversed (reversed x 52 last_at) at end) at (at + length t)) (group₁ h s (reverse n) (t ++ z))
     ∙ ap (λ (x : Bytes). reversed (reversed x at end) at (at + length t))
-    (reversed_parts h (s ++ rev n) (t ++ z) eh m₁ ∙ ap (λ (x : Bytes). h ++ (x ++ (t ++ z))) t₁ ∙ group₂ h n (rev s) t z)
-    ∙ ap (λ (x : Bytes). reversed x at (at + length t)) (reversed_parts (h ++ n) (rev s ++ t) z hn m₂ ∙ ap (λ (x : Bytes). (h ++ n) ++ (x ++ z)) t₂ ∙ group₃ (h ++ n) (rev t) s z)
-    ∙ reversed_parts (h ++ n) (rev t) (s ++ z) hn (omega arith)
-    ∙ ap (λ (x : Bytes). (h ++ n) ++ (x ++ (s ++ z))) (rev-rev t)
+    (reversed_parts h (s ++ reverse n) (t ++ z) eh m₁ ∙ ap (λ (x : Bytes). h ++ (x ++ (t ++ z))) t₁ ∙ group₂ h n (reverse s) t z)
+    ∙ ap (λ (x : Bytes). reversed x at (at + length t)) (reversed_parts (h ++ n) (reverse s ++ t) z hn m₂ ∙ ap (λ (x : Bytes). (h ++ n) ++ (x ++ z)) t₂ ∙ group₃ (h ++ n) (reverse t) s z)
+    ∙ reversed_parts (h ++ n) (reverse t) (s ++ z) hn (omega arith)
+    ∙ ap (λ (x : Bytes). (h ++ n) ++ (x ++ (s ++ z))) (reverse-reverse t)
     ∙ append_assoc h n (t ++ (s ++ z))
   where
     group₁ : (h s m y : Bytes) → h ++ (s ++ (m ++ y)) ≡ h ++ ((s ++ m) ++ y)
@@ -130,7 +131,7 @@ filed w buf {a} {e} {top} {last} {source} {end} f ea es en ee et el =
     let table : ℕ = 8 * w.entries + w.names in
     let whole : e ≡ head_of buf ++ (d.nodes ++ (t ++ (d.source ++ z))) =
     ee ∙ rw (ea, es ∙ ap (λ (k : ℕ). at + k) (sym gl))
-    (ap (λ (s : Bytes). reversed (reversed (reversed s 52 (end - table)) at end) at (at + length t)) (group (head_of buf) d.source (rev d.nodes) t z)
+    (ap (λ (s : Bytes). reversed (reversed (reversed s 52 (end - table)) at end) at (at + length t)) (group (head_of buf) d.source (reverse d.nodes) t z)
     ∙ filed_parts (head_of buf) d.source d.nodes t z {at = at} {last_at = end - table} {end = end} hl (omega arith) (omega arith) (omega arith)) in
     let tl : length top ≡ 52 = ap length et ∙ top_length w in
     el ∙ ap (λ (s : Bytes). over s 0 top) whole
@@ -166,7 +167,7 @@ entered-laid w buf entry name {b} {c} {last} {at} {m} {e} f none room l8 ea em e
     let zs : z ≡ x ++ (y₁ ++ y₂) = sym (take-append-drop k z) ∙ ap (λ (s : Bytes). x ++ s) (cut z k 8 refl) in
     let p : Bytes = head_of buf ++ (d.source ++ x) in
     let pl : length p ≡ at = simp length-append (omega arith) in
-    let bare : rev d.nodes ≡ [] = empty (rev d.nodes) (length_rev d.nodes ∙ nodes-length w buf f ∙ omega arith) in
+    let bare : reverse d.nodes ≡ [] = empty (reverse d.nodes) (length_rev d.nodes ∙ nodes-length w buf f ∙ omega arith) in
     let E : Bytes = d.entries in
     let M : Bytes = d.names in
     let w₀ : laid (head_of buf) d z ≡ p ++ (y₁ ++ (y₂ ++ (E ++ M))) =

@@ -1,7 +1,7 @@
 -- The bytes of nodes and entries, and a run stored over a list.
 use Rattle.std.specs.Prelude.{◌++◌, ℕ, ◌+◌, ◌-◌, length, take, drop}
 use Rattle.parts.specs.Bytes.{Bytes, part}
-use Rattle.bytes.specs.Bytes.{rev, slice}
+use Rattle.std.specs.Prelude.{reverse}
 use Rattle.tape.specs.declared.Node.{Node}
 use Rattle.tape.specs.declared.Entry.{Entry}
 use Rattle.admit.specs.Encode as encode
@@ -20,7 +20,7 @@ over buf d s = take d buf ++ (s ++ drop (d + length s) buf)
 
 -- a list with the part from one place to another turned around
 abbrev pub reversed : Bytes → ℕ → ℕ → Bytes
-reversed s f t = take f s ++ (rev (slice f t s) ++ drop t s)
+reversed s f t = take f s ++ (reverse (drop f (take t s)) ++ drop t s)
 
 -- a list with two neighbouring parts exchanged: that from lo to mid and that from mid to hi
 unfoldable pub exchange : Bytes → ℕ → ℕ → ℕ → Bytes

@@ -1,7 +1,7 @@
 -- Where a lent buffer holds a draft, and the file that it ends as.
 use Rattle.std.specs.Prelude.{◌++◌, ℕ, ◌+◌, ◌-◌, ◌*◌, ◌≤◌, ◌<◌, min, length, take, drop, replicate}
 use Rattle.parts.specs.Bytes.{Bytes, part}
-use Rattle.bytes.specs.Bytes.{rev}
+use Rattle.std.specs.Prelude.{reverse}
 use Rattle.tape.specs.File.{node_of, entry_of, records_of, header_len}
 use Rattle.admit.specs.Encode.{four}
 use Rattle.admit.specs.Limits as limits
@@ -80,7 +80,7 @@ held_in w buf =
       entries = part buf (entries_at w (length buf)) (8 * w.entries);
       names = drop (names_at w (length buf)) buf;
       source = part buf top_len w.source;
-      nodes = rev (part buf (nodes_at w (length buf)) (16 * w.nodes));
+      nodes = reverse (part buf (nodes_at w (length buf)) (16 * w.nodes));
     }
 
 -- its first bytes, which are header's and Root's
@@ -93,7 +93,7 @@ free_of w buf = part buf (top_len + w.source) (length buf - file_len w)
 
 -- a buffer of these parts
 unfoldable pub laid : Bytes → Held → Bytes → Bytes
-laid head h free = head ++ (h.source ++ (free ++ (rev h.nodes ++ (h.entries ++ h.names))))
+laid head h free = head ++ (h.source ++ (free ++ (reverse h.nodes ++ (h.entries ++ h.names))))
 
 -- the draft of what is held
 unfoldable pub read_as : Writer → Held → Draft

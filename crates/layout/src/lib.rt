@@ -1,7 +1,7 @@
 #![tactic(auto)]
 // Where a tape that is written step by step stands in a lent buffer: header and Root, the source, free bytes, the nodes turned around, the entries, the names.
 ghost use Rattle.std.specs.Prelude.{◌≡◌, [], ◌++◌, ◌+◌, ◌-◌, ◌*◌, ◌≤◌, ◌<◌, min as least, length, take, drop, replicate};
-ghost use Rattle.bytes.specs.Bytes.{rev};
+ghost use Rattle.std.specs.Prelude.{reverse};
 ghost use Rattle.parts.specs.Bytes.{part};
 ghost use Rattle.admit.specs.Encode.{four};
 ghost use Rattle.layout.specs.Bytes.{over, reversed, exchange, node_bytes_of, entry_bytes};
@@ -37,7 +37,7 @@ fn lay(buf: &mut [u8], at: usize, run: &[u8])
     requires { at + length run.now ≤ length buf.old }
     ensures { buf.new ≡ over buf.old at run.now }
 {
-    bytes::copy(run, &mut buf[at..]);
+    lay::copy(run, &mut buf[at..]);
 }
 
 // So many bytes moved down.
@@ -64,14 +64,22 @@ fn blank(buf: &mut [u8], from: usize)
     }
 }
 
+// The part from one place to another turned around.
+fn reverse(buf: &mut [u8], from: usize, to: usize)
+    requires { (from ≤ to) × (to ≤ length buf.old) }
+    ensures { buf.new ≡ reversed buf.old from to }
+{
+    buf[from..to].reverse();
+}
+
 // Two neighbouring parts exchanged, by three reversals.
 fn rotate(buf: &mut [u8], lo: usize, mid: usize, hi: usize)
     requires { (lo ≤ mid) × (mid ≤ hi) × (hi ≤ length buf.old) }
     ensures { buf.new ≡ exchange buf.old lo mid hi }
 {
-    bytes::reverse(buf, lo, mid);
-    bytes::reverse(buf, mid, hi);
-    bytes::reverse(buf, lo, hi);
+    reverse(buf, lo, mid);
+    reverse(buf, mid, hi);
+    reverse(buf, lo, hi);
 }
 
 // ---- the bytes of numbers, nodes and entries
@@ -90,7 +98,7 @@ fn word(x: u32) -> [u8; 4]
 
 // The same turned around.
 fn drow(x: u32) -> [u8; 4]
-    ensures { result ≡ rev (four x) }
+    ensures { result ≡ reverse (four x) }
 {
     [
         (x / 65536 / 256) as u8,
@@ -102,7 +110,7 @@ fn drow(x: u32) -> [u8; 4]
 
 // The bytes of a node, turned around.
 fn turned(node: Node) -> [u8; 16]
-    ensures { result ≡ rev (node_bytes_of node) }
+    ensures { result ≡ reverse (node_bytes_of node) }
 {
     let k = node.kind;
     let f = node.flags;
@@ -328,9 +336,9 @@ fn turn_over(buf: &mut [u8], table: usize, at: usize, source: usize, end: usize)
     requires { (52 + table ≤ end) × (at ≤ source) × (source ≤ end) × (end ≤ length buf.old) }
     ensures { buf.new ≡ reversed (reversed (reversed buf.old 52 (end - table)) at end) at source }
 {
-    bytes::reverse(buf, 52, end - table);
-    bytes::reverse(buf, at, end);
-    bytes::reverse(buf, at, source);
+    reverse(buf, 52, end - table);
+    reverse(buf, at, end);
+    reverse(buf, at, source);
 }
 
 // The file at the buffer's front.

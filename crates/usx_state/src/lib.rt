@@ -112,7 +112,7 @@ impl Marks {
     }
 }
 
-// The steps on a record that is lent: each hands it over and stores what comes back, proved by one law (proofs/InPlace).
+// The steps on a record that is lent: each hands it over and stores what comes back.
 pub fn open_chapter(m: &mut Marks, n: u32)
     ensures { m.new ≡ opened_chapter m.old n }
 {
@@ -137,7 +137,8 @@ pub fn close_verse(m: &mut Marks)
     *m = m.closed_verse();
 }
 
-// What callers use: the record is lent to the steps in turn, and goes in and out by value, so that callers need no walk.
+// What callers use: the record is lent to the steps in turn, and goes in and out by value, as callers hold it.
+#[tactic(auto, unfolding(crate::specs::Mark::next_verse))]
 pub fn next_verse(mut m: Marks, label: Part) -> Marks
     ensures { result ≡ next_verse m label }
 {
@@ -146,6 +147,7 @@ pub fn next_verse(mut m: Marks, label: Part) -> Marks
     m
 }
 
+#[tactic(auto, unfolding(crate::specs::Mark::next_chapter))]
 pub fn next_chapter(mut m: Marks, n: u32) -> Marks
     ensures { result ≡ next_chapter m n }
 {
@@ -155,6 +157,7 @@ pub fn next_chapter(mut m: Marks, n: u32) -> Marks
     m
 }
 
+#[tactic(auto, unfolding(crate::specs::Mark::all_closed))]
 pub fn all_closed(mut m: Marks) -> Marks
     ensures { result ≡ all_closed m }
 {

@@ -1,5 +1,5 @@
 use mathlib.Core.Path.{refl}
-use Rattle.bytes.specs.Bytes.{rev}
+use Rattle.std.specs.Prelude.{reverse}
 use borrow.Author.Rules.{rules}
 use Rattle.layout.proofs.drow.Statement.{statement}
 use Rattle.layout.proofs.drow.Tie as tie
@@ -17,7 +17,7 @@ cast-t13 : tie.Need-overflow-cast-t13
 cast-t13 c = search rules
 
 returns : tie.Need-returns
-unfolding rev
+unfolding reverse
 returns c = refl
 
 pub drow-spec : {M : Type 1} → statement M

@@ -1,5 +1,5 @@
 use mathlib.Core.Path.{refl}
-use Rattle.bytes.specs.Bytes.{rev}
+use Rattle.std.specs.Prelude.{reverse}
 use Rattle.layout.specs.Bytes.{node_bytes_of}
 use borrow.Author.Rules.{rules}
 use Rattle.layout.proofs.turned.Statement.{statement}
@@ -48,7 +48,7 @@ cast-t47 : tie.Need-overflow-cast-t47
 cast-t47 c = search rules
 
 returns : tie.Need-returns
-unfolding rev node_bytes_of
+unfolding reverse node_bytes_of
 returns c = refl
 
 pub turned-spec : {M : Type 1} → statement M

@@ -1,0 +1,6 @@
+use Prim.Native.Nat.{ℕ, ◌-◌, ◌<◌}
+use lib.ListN.{length}
+use Rattle.admit.proofs.labels.+judged.Given as goal
+
+abbrev pub decreases-judged : goal.decreases-judged
+decreases-judged l = 1024 - length l.enders.now

@@ -1,0 +1,14 @@
+use Prim.Native.Nat.{◌-◌}
+use native.Mathlib.Omega.{arith}
+use Rattle.put_body.proofs.Blocks.{block-turn}
+use Rattle.put_body.proofs.Tests.{shared_start}
+use Rattle.put_body.proofs.shared_blocks.Goals as goal
+
+pub loop-i-init : goal.loop-i-init
+loop-i-init c = search shared_start
+
+pub loop-i-smaller : goal.loop-i-smaller
+loop-i-smaller c = omega arith
+
+pub loop-i-preserved : goal.loop-i-preserved
+loop-i-preserved c = search block-turn
