@@ -1,4 +1,5 @@
 use Rattle.admit.proofs.HeaderRule.{laid_short, laid-format, laid_offsets, laid-cut, laid_whole}
+use Rattle.std.proofs.lemmas.Bool.{not_from_true}
 use Rattle.admit.proofs.header.laid_out.Goals as goal
 
 pub returns-then-file : goal.returns-then-file
@@ -14,4 +15,4 @@ pub returns-then-file-source : goal.returns-then-file-source
 returns-then-file-source c = search laid-cut
 
 pub returns : goal.returns
-returns c = laid_whole _ c.of-t.ensures c.if-file.false c.length_of.ensures c.if-length_of-ne-FORMAT.false c.offsets.ensures c.if-not-offsets.false c.source_at-source.ensures c.if-file-source.false c.long.ensures.value
+returns c = laid_whole _ c.of-t.ensures c.if-file.false c.length_of.ensures c.if-length_of-ne-FORMAT.false c.offsets.ensures (not_from_true _ c.if-not-offsets.false) c.source_at-source.ensures c.if-file-source.false c.long.ensures.value

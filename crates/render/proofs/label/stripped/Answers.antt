@@ -1,0 +1,9 @@
+use native.Mathlib.Omega.{arith}
+use Rattle.render.proofs.Labels.{stripped_none, stripped_one}
+use Rattle.render.proofs.label.stripped.Goals as goal
+
+pub returns-then-begins_with : goal.returns-then-begins_with
+returns-then-begins_with c = record { value = search stripped_one; upper_bound = omega arith }
+
+pub returns : goal.returns
+returns c = record { value = search stripped_none; upper_bound = omega arith }
