@@ -1,4 +1,4 @@
-//! Links the static libraries of bench_api, bench_words and api, by `rt staticlib` for x86-64 and by `bench/lower` for another processor, and of libxml2 and expat what is installed.
+//! Links the static libraries of bench_api, bench_words and api, by `scripts/library` for x86-64 and by `bench/lower` for another processor, and of libxml2 and expat what is installed.
 use std::env;
 use std::path::Path;
 use std::process::Command;
@@ -7,10 +7,10 @@ fn main() {
     let here = env::var("CARGO_MANIFEST_DIR").expect("cargo sets it");
     let root = Path::new(&here).ancestors().find(|folder| folder.join("crates.txt").is_file()).expect("the repository");
     let x86 = env::var("CARGO_CFG_TARGET_ARCH").is_ok_and(|arch| arch == "x86_64");
-    let libraries = root.join("target").join(if x86 { "staticlib" } else { "lowered" });
-    println!("cargo::rustc-link-search=native={}", libraries.display());
     for name in ["bench_api", "bench_words", "api"] {
-        let archive = libraries.join(format!("lib{name}.a"));
+        let folder = if x86 { root.join("crates").join(name).join("out") } else { root.join("target").join("lowered") };
+        let archive = folder.join(format!("lib{name}.a"));
+        println!("cargo::rustc-link-search=native={}", folder.display());
         println!("cargo::rustc-link-lib=static={name}");
         println!("cargo::rerun-if-changed={}", archive.display());
         if !archive.is_file() {

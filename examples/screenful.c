@@ -8,7 +8,7 @@
  *
  * scripts/example screenful builds it on x86-64 and on Arm; by hand, on x86-64:
  *
- *     rt staticlib api && cc examples/screenful.c -I include target/staticlib/libapi.a -o screenful
+ *     cc examples/screenful.c -I include $(scripts/library api) -o screenful
  */
 #include <errno.h>
 #include <stdio.h>

@@ -41,7 +41,7 @@ fn link() -> Result<(), String> {
     let archive = folder.join(format!("lib{name}.a"));
     let shown = archive.display();
     println!("cargo::rerun-if-changed={shown}");
-    let advice = "run rt staticlib api in the repository, or set ANDELURA_LIB_DIR to the whole \
+    let advice = "run scripts/library api in the repository, or set ANDELURA_LIB_DIR to the whole \
                   path of the folder that holds libandelura.a";
     let bytes = fs::read(&archive).map_err(|e| {
         format!("the archive of the proved library is missing ({shown}: {e}): {advice}")
@@ -60,7 +60,7 @@ fn link() -> Result<(), String> {
 fn place() -> (PathBuf, &'static str) {
     let named = env::var_os(LIB_DIR).filter(|folder| !folder.is_empty());
     let here = env::var_os("CARGO_MANIFEST_DIR").unwrap_or_default();
-    let own = Path::new(&here).join("../../target/staticlib");
+    let own = Path::new(&here).join("../../crates/api/out");
     let name = if named.is_some() { "andelura" } else { "api" };
     let folder = named.map_or(own, PathBuf::from);
     (fs::canonicalize(&folder).unwrap_or(folder), name)

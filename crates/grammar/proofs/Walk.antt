@@ -188,7 +188,8 @@ module _ (t : Tape) where
     grown_note : (first : ℕ) (behind trim : Bool) (ks : List ℕ) → Grown t h (note_all node t first behind trim ks)
     unfolding note_all
     grown_note first behind trim [] = none
-    grown_note first behind trim (k ∷ ks) = grown_append (grown_note_turn first behind trim k (note_child_of t k)) (grown_note first behind _ ks)
+    grown_note first behind trim (k ∷ ks) =
+        grown_append (grown_note_turn first behind trim k (note_child_of t k)) (grown_note first behind (note_turn_of node t first behind trim k (note_child_of t k)).trim ks)
 
   -- ---- by depth: a container writes at most two elements, a char and its ref
 

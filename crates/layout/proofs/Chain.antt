@@ -77,7 +77,6 @@ link-laid w buf to {p} {run} {last} f pos er ep el =
 -- ---- reading
 
 pub get_d_rev : (xs : Bytes) (i j : ℕ) → i + suc j ≡ length xs → get_or (reverse xs) i 0 ≡ get_or xs j 0
-unfolding reverse
 get_d_rev [] i j e = absurd (omega arith)
 get_d_rev (x ∷ xs) i zero e =
     ap (λ (l : Bytes). get_or l i 0) (reverse-cons x xs) ∙ get_or_at (reverse xs) x [] 0 i (length_rev xs ∙ omega arith)

@@ -101,7 +101,7 @@ module _ (w : Writer) (buf : Bytes) (f : Fits w (length buf)) where
   entries-length = part_length buf (entries_at w (length buf)) (8 * w.entries) (omega (arith, f.room))
 
   pub nodes-length : length (held_in w buf).nodes ≡ 16 * w.nodes
-  unfolding held_in reverse
+  unfolding held_in
   nodes-length = length-reverse (part buf (nodes_at w (length buf)) (16 * w.nodes)) ∙ part_length buf (nodes_at w (length buf)) (16 * w.nodes) (omega (arith, f.room))
 
   pub counts : Counts w (held_in w buf)
@@ -150,7 +150,7 @@ module _ (w : Writer) (buf : Bytes) (f : Fits w (length buf)) where
 
 module _ (w : Writer) (head : Bytes) (d : Held) (free : Bytes) (hl : length head ≡ 52) (n : Counts w d) where
   pub laid-length : length (laid head d free) ≡ file_len w + length free
-  unfolding laid reverse
+  unfolding laid
   laid-length = simp (length-append, length-reverse) (omega (arith, n.entries, n.names, n.source, n.nodes))
 
   pub head_read : head_of (laid head d free) ≡ head
@@ -182,13 +182,11 @@ module _ (w : Writer) (head : Bytes) (d : Held) (free : Bytes) (hl : length head
       ∙ part_front free (reverse d.nodes ++ (d.entries ++ d.names)) (length (laid head d free) - file_len w) (sym all)
 
   nodes_read : part (laid head d free) (nodes_at w (length (laid head d free))) (16 * w.nodes) ≡ reverse d.nodes
-  unfolding reverse
   nodes_read =
       behind (nodes_at w (length (laid head d free))) 0 (16 * w.nodes) (omega (arith, laid-length))
       ∙ part_front (reverse d.nodes) (d.entries ++ d.names) (16 * w.nodes) (length-reverse d.nodes ∙ n.nodes)
 
   entries_read : part (laid head d free) (entries_at w (length (laid head d free))) (8 * w.entries) ≡ d.entries
-  unfolding reverse
   entries_read =
       let nl : length (reverse d.nodes) ≡ 16 * w.nodes = length-reverse d.nodes ∙ n.nodes in
       behind (entries_at w (length (laid head d free))) (16 * w.nodes) (8 * w.entries) (omega (arith, laid-length))
@@ -196,7 +194,7 @@ module _ (w : Writer) (head : Bytes) (d : Held) (free : Bytes) (hl : length head
       ∙ part_front d.entries d.names (8 * w.entries) n.entries
 
   names_read : drop (names_at w (length (laid head d free))) (laid head d free) ≡ d.names
-  unfolding laid reverse
+  unfolding laid
   names_read =
       let nl : length (reverse d.nodes) ≡ 16 * w.nodes = length-reverse d.nodes ∙ n.nodes in
       let e : laid head d free ≡ (head ++ (d.source ++ (free ++ (reverse d.nodes ++ d.entries)))) ++ d.names = simp append_assoc in

@@ -4,7 +4,8 @@ use mathlib.Core.List.{[], ◌∷◌, ◌++◌, append_assoc, append-nil}
 use Prim.Native.Nat.{ℕ, ◌+◌, ◌-◌, ◌*◌, ◌≤◌}
 use native.Mathlib.Omega.{arith}
 use lib.ListN.{length, get_or, take, drop, length-append, length-drop, take-append-drop, length-reverse}
-use lib.Seq.{take_at, drop_at, length-take-le}
+use lib.Seq.{take_at, drop_at, drop-drop, length-take-le}
+use Rattle.parts.proofs.Laws.{drop-take}
 use Rattle.parts.specs.Bytes.{Bytes, part}
 use Rattle.std.specs.Prelude.{reverse}
 use Rattle.std.proofs.lemmas.List.{reverse-append, reverse-reverse}
@@ -17,6 +18,14 @@ use Rattle.layout.proofs.Laid.{cut, part_length, part-past, part_front, over-mid
 
 pub length_rev : (s : Bytes) → length (reverse s) ≡ length s
 length_rev s = length-reverse s
+
+-- a part given back turned around
+pub turned_part : (s : Bytes) (f t : ℕ) {x : Bytes} → f ≤ t → x ≡ reverse (take (t - f) (drop f s)) → take f s ++ (x ++ drop (t - f) (drop f s)) ≡ reversed s f t
+turned_part s f t {x} h e =
+    let same : f + (t - f) ≡ t = omega arith in
+    let all : drop (t - f) (drop f s) ≡ drop t s = drop-drop (t - f) f s ∙ rw same in
+    let here : drop f (take t s) ≡ take (t - f) (drop f s) = drop-take f t s in
+    rw (e, all, here)
 
 -- reversing the second of three parts
 pub reversed_parts : (p q z : Bytes) {k l : ℕ} → length p ≡ k → k + length q ≡ l → reversed (p ++ (q ++ z)) k l ≡ p ++ (reverse q ++ z)

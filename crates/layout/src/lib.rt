@@ -66,7 +66,8 @@ fn blank(buf: &mut [u8], from: usize)
 
 // The part from one place to another turned around.
 fn reverse(buf: &mut [u8], from: usize, to: usize)
-    requires { (from ≤ to) × (to ≤ length buf.old) }
+    requires ordered { from ≤ to }
+    requires within { to ≤ length buf.old }
     ensures { buf.new ≡ reversed buf.old from to }
 {
     buf[from..to].reverse();

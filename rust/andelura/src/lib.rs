@@ -54,8 +54,8 @@
 //!   runs this crate on other processors.
 //! - A stack of 640 KiB for every call: the worst tapes that were measured stay within it; no
 //!   theorem bounds it. Threads of Rust have 2 MiB unless told otherwise.
-//! - The archive of the library when this crate is built: in the repository `rt staticlib api`
-//!   writes it; elsewhere set `ANDELURA_LIB_DIR` to the folder that holds `libandelura.a`.
+//! - The archive of the library when this crate is built: in the repository `scripts/library api`
+//!   builds it; elsewhere set `ANDELURA_LIB_DIR` to the folder that holds `libandelura.a`.
 //!
 //! There is no dependency, no global state and no input or output; calls may run on several threads
 //! at once.

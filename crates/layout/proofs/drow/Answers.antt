@@ -1,0 +1,6 @@
+use mathlib.Core.Path.{refl}
+use Rattle.std.specs.Prelude.{reverse}
+use Rattle.layout.proofs.drow.Goals as goal
+
+pub returns : goal.returns
+returns c = refl

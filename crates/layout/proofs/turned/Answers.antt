@@ -1,0 +1,8 @@
+use mathlib.Core.Path.{refl}
+use Rattle.std.specs.Prelude.{reverse}
+use Rattle.layout.specs.Bytes.{node_bytes_of}
+use Rattle.layout.proofs.turned.Goals as goal
+
+pub returns : goal.returns
+unfolding node_bytes_of
+returns c = refl
