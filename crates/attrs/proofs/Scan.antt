@@ -10,7 +10,7 @@ use lib.Dec.{eqb}
 use borrow.Author.Tests.{eqb-true, not-true, not-false}
 use Rattle.parts.specs.Bytes.{Bytes, b}
 use Rattle.parts.proofs.Laws.{drop_at}
-use Rattle.chars.specs.Range.{◌to◌, within}
+use Rattle.chars.specs.Range.{within}
 use Rattle.chars.proofs.Laws.{below, beyond, inside}
 use Rattle.attrs.specs.Barred.{in_key, in_value, lead, RunTo, Simple, Barred}
 

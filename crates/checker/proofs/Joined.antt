@@ -1,10 +1,9 @@
 -- Neighbouring texts are nothing to the rules: rendered items are accepted where they are right with their texts apart.
-use mathlib.Core.Path.{◌≡◌, refl, sym, ap, ◌∙◌, subst}
+use mathlib.Core.Path.{◌≡◌, refl, sym, ap, ◌∙◌}
 use mathlib.Core.Bool.{Bool, true, false, cond, not, ◌||◌, or-true}
 use borrow.Author.Tests.{not-true}
 use Rattle.parts.proofs.Laws.{and-true}
 use mathlib.Core.List.{List, [], ◌∷◌}
-use Prim.Native.Nat.{ℕ}
 use lib.IntN.{ℤ, pos}
 use lib.Signed.{lt_z}
 use Rattle.parts.specs.Bytes.{Bytes}

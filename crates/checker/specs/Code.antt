@@ -1,5 +1,5 @@
 -- What the code's values stand for.
-use Rattle.std.specs.Prelude.{ℕ, zero, suc, ◌≤◌, ◌≡◌, Bool, false, List, [], ◌∷◌, take, drop, get_or, ℤ, pos}
+use Rattle.std.specs.Prelude.{ℕ, zero, suc, ◌≤◌, ◌≡◌, false, List, [], ◌∷◌, take, drop, get_or, ℤ, pos}
 use Rattle.parts.specs.Bytes.{Bytes}
 use Rattle.tags.specs.Form.{Read, bad, got}
 use Rattle.checker.specs.View.{Mark, bare, plain, other, start, ends, View, words, opened, closed, single, view}

@@ -1,20 +1,19 @@
 -- Blocks are the same where what stands inside them is.
 use mathlib.Core.Path.{◌≡◌, refl, ap, ◌∙◌}
-use mathlib.Core.Bool.{Bool, true, false, cond, not, ◌||◌}
+use mathlib.Core.Bool.{Bool, not}
 use mathlib.Core.List.{List, [], ◌∷◌, ◌++◌}
-use mathlib.Core.Logic.{◌⊎◌, inl, inr}
+use mathlib.Core.Logic.{inl, inr}
 use Prim.Native.Nat.{ℕ, zero, suc, ◌+◌}
 use lib.ListN.{length}
 use Rattle.tape.specs.File.{Tape}
-use Rattle.tape.specs.Tree.{children, up_to, from_first, without}
+use Rattle.tape.specs.Tree.{children, up_to, without}
 use Rattle.tape.specs.Kind as kinds
 use Rattle.nest.specs.Walk.{In}
 use Rattle.render.specs.Shape.{is_row, is_top_level_block_of, is_category_marker_of}
-use Rattle.render.specs.First.{any}
 use Rattle.tags.specs.Items.{Attr}
 use Rattle.events.specs.Event.{Event}
-use Rattle.events.specs.Walk.{Manner, asInline, node_in_of, inside, is_cell_of, cell_in, cells_along, cells, row_e, rows_e, table_e, holder, sidebar_in, periph_in, Place, aRow, aChapter, aSidebar, aPeriph, aBlock, aVerse, dropped, place_of, Blocks, block_turn, blocks_from, blocks_all_of, unfollowed, trimming}
-use Rattle.depth.proofs.Members.{Within, all-within, both_within, cut-within, from_within, without-within, fold_within}
+use Rattle.events.specs.Walk.{Manner, asInline, node_in_of, inside, cell_in, cells_along, cells, row_e, rows_e, table_e, holder, sidebar_in, periph_in, Place, aRow, aChapter, aSidebar, aPeriph, aBlock, aVerse, dropped, place_of, Blocks, block_turn, blocks_from, blocks_all_of, unfollowed, trimming}
+use Rattle.depth.proofs.Members.{Within, all-within, both_within, cut-within, from_within, fold_within}
 use Rattle.depth.proofs.Inline.{node-same, inline-same}
 
 -- ---- cells

@@ -1,10 +1,9 @@
 -- Fuel for 64 containers is enough for every admitted tape: more changes nothing.
-use mathlib.Core.Path.{◌≡◌, refl, sym, ap, ◌∙◌}
-use mathlib.Core.Bool.{Bool, true, false}
-use mathlib.Core.List.{List, [], ◌∷◌}
+use mathlib.Core.Path.{◌≡◌, refl, sym, ◌∙◌}
+use mathlib.Core.Bool.{Bool, false}
+use mathlib.Core.List.{List, []}
 use Prim.Native.Nat.{ℕ, zero, suc, ◌+◌, ◌≤◌, ◌<◌}
 use native.Mathlib.Omega.{arith}
-use lib.ListN.{length}
 use Rattle.parts.specs.Bytes.{Bytes}
 use Rattle.tape.specs.File.{Tape, tape_of}
 use Rattle.tape.specs.Tree.{children, without}
@@ -19,7 +18,7 @@ use Rattle.admit.proofs.Gives.{leaf-children, children_cover, root_cover, root_d
 use Rattle.render.specs.Shape.{is_category_marker_of}
 use Rattle.render.specs.Follow.{followed}
 use Rattle.events.specs.Event.{Event}
-use Rattle.events.specs.Walk.{Manner, asInline, asNote, node_in_of, inline_all, note_all, inside, cells_along, cells, blocks_all_of, blocks_e, events_within, events_of, trimming}
+use Rattle.events.specs.Walk.{Manner, asInline, asNote, node_in_of, note_all, inside, cells_along, cells, blocks_all_of, blocks_e, events_within, events_of, trimming}
 use Rattle.events.proofs.Turns.{inline-none, blocks_none}
 use Rattle.depth.proofs.Members.{Within, all-within, without-within}
 use Rattle.depth.proofs.Inline.{node-same, inline-same, note-same}

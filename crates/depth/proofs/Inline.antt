@@ -1,24 +1,19 @@
 -- Inline content is the same where what stands inside its nodes is.
 use mathlib.Core.Path.{◌≡◌, refl, ap, ◌∙◌}
-use mathlib.Core.Bool.{Bool, true, false, cond}
+use mathlib.Core.Bool.{Bool}
 use mathlib.Core.List.{List, [], ◌∷◌, ◌++◌}
-use mathlib.Core.Logic.{◌⊎◌, inl, inr}
-use mathlib.Core.Option.{Option, none, some}
+use mathlib.Core.Logic.{inl, inr}
 use Prim.Native.Nat.{ℕ, zero, suc}
 use lib.ListN.{length}
-use Rattle.tape.specs.File.{Tape, kind_at, number_at}
-use Rattle.tape.specs.Tree.{first_child, found}
+use Rattle.tape.specs.File.{Tape, kind_at}
 use Rattle.tape.specs.declared.Step.{Step}
 use Rattle.tape.specs.declared.Step.TheVariants.{At, Done}
 use Rattle.tape.specs.Kind as kinds
 use Rattle.nest.specs.Walk.{In}
-use Rattle.render.specs.Shape.{is_open, is_chapter_of, is_verse_of}
-use Rattle.render.specs.Label.{label_of}
 use Rattle.figure.specs.Figure.{legacy_at}
-use Rattle.tags.specs.Items.{empty}
 use Rattle.tags.specs.Element as el
-use Rattle.events.specs.Event.{Event, item, chapter, verse, element}
-use Rattle.events.specs.Walk.{Manner, asInline, asNote, Role, unknownBlock, unknownInline, unwritten, figure, ref, id, note, ms, char, para, role_of, style, link_of, linked, figure_as, marker_as, node_in_of, Child, anchor, words, passed, marker, child_of, Turn, inline_turn, inline_from, inline_all, NoteChild, direct, leftOut, entered, note_child_of, Noted, note_turn_of, note_all}
+use Rattle.events.specs.Event.{Event, verse}
+use Rattle.events.specs.Walk.{Manner, asInline, asNote, Role, unknownBlock, unknownInline, unwritten, figure, ref, id, note, ms, char, para, role_of, figure_as, marker_as, node_in_of, Child, anchor, words, passed, marker, child_of, Turn, inline_turn, inline_from, inline_all, NoteChild, direct, leftOut, entered, note_child_of, Noted, note_turn_of, note_all}
 use Rattle.depth.proofs.Members.{Within, all-within, fold_within}
 
 -- ---- one node

@@ -2,7 +2,6 @@
 use Rattle.std.specs.Prelude.{Bool, cond, ◌&&◌, ℕ, length, get_or, eqb, ltb, leb}
 use Rattle.parts.specs.Bytes.{Bytes}
 use Rattle.chars.specs.Utf8.{is_utf8}
-use Rattle.tape.specs.declared.Node.{Node}
 use Rattle.tape.specs.declared.Entry.{Entry}
 use Rattle.nest.specs.Nest.{most_open}
 use Rattle.admit.specs.Limits as limits

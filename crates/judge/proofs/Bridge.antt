@@ -1,6 +1,6 @@
 -- The numbers that the code tests are those of the steps on drafts.
 use mathlib.Core.Path.{◌≡◌, refl, sym, ap, subst, ◌∙◌}
-use mathlib.Core.Bool.{Bool, true, false, cond, not, ◌&&◌, ◌||◌}
+use mathlib.Core.Bool.{Bool, true, false, cond, ◌&&◌, ◌||◌}
 use mathlib.Core.List.{List, [], ◌∷◌, ◌++◌}
 use Prim.Native.Nat.{ℕ, suc, ◌+◌, ◌-◌, ◌≤◌, ◌<◌}
 use native.Mathlib.Omega.{arith}
@@ -14,7 +14,6 @@ use Rattle.tape.specs.Name.{marker_name}
 use Rattle.tape.specs.declared.Node.{Node}
 use Rattle.tape.specs.declared.Entry.{Entry}
 use Rattle.tape.specs.declared.Info.{Info}
-use Rattle.tape.specs.declared.Info.TheVariants.{Known}
 use Rattle.admit.specs.Decide.{label_cut, good_node, good_entry}
 use Rattle.draft.specs.Draft.{Draft, piece, entry, plain, leaf, opens, closes, relinked, next_index, innermost, add, linked, after, tape_from, size_of}
 use Rattle.draft.specs.Fault.{first, good_name, good_last, node_fault, fault}

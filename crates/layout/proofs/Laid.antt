@@ -3,7 +3,7 @@ use mathlib.Core.Path.{◌≡◌, refl, sym, ap, ◌∙◌}
 use mathlib.Core.List.{[], ◌++◌, append_assoc, append-nil}
 use Prim.Native.Nat.{ℕ, ◌+◌, ◌-◌, ◌*◌, ◌≤◌}
 use native.Mathlib.Omega.{arith}
-use lib.ListN.{length, take, drop, length-append, length-take, length-drop, take-append-drop, length-reverse, drop_of_length-le}
+use lib.ListN.{length, take, drop, length-append, length-drop, take-append-drop, length-reverse, drop_of_length-le}
 use lib.Seq.{take_at, drop_at, drop-drop, drop-append-add, length-take-le, take_all, take-length}
 use Rattle.parts.specs.Bytes.{Bytes, part}
 use Rattle.std.specs.Prelude.{reverse}

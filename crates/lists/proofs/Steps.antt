@@ -1,7 +1,7 @@
 -- The steps that a walk past a run and a fold along siblings give: one turn of each.
 use mathlib.Core.Path.{◌≡◌, refl, sym, ap, ◌∙◌}
 use mathlib.Core.Bool.{Bool, true, false}
-use mathlib.Core.List.{List, [], ◌∷◌}
+use mathlib.Core.List.{List, ◌∷◌}
 use Prim.Native.Nat.{ℕ}
 use Rattle.tape.specs.File.{Tape}
 use Rattle.tape.specs.Tree.{next_sibling, walk_from, found}

@@ -8,7 +8,7 @@ use Rattle.words.specs.declared.Part.{Part}
 use Rattle.tape.specs.File.{Tape}
 use Rattle.attrs.specs.Walk.{Spot}
 use Rattle.accepts.specs.Proviso.{has_special, Free, Name, AllFree}
-use Rattle.accepts.proofs.FreeKeys.{Alike, equal, plain, alike_free}
+use Rattle.accepts.proofs.FreeKeys.{Alike, equal, plain, alike_free, none as nothing}
 use Rattle.names.specs.declared.What.{What as Said}
 use Rattle.names.specs.declared.Hit.{Hit}
 use Rattle.names.specs.declared.Hit.TheVariants.{At}
@@ -84,6 +84,7 @@ alone t k n ew (broken {p = p} b sp) pl = at n (first_in (here b)) ew (record { 
 -- ---- rows that differ in free names alone
 
 alike_first : {ns ms : List Name} {n : Name} → Alike ns ms → First ns n → First ms n
+alike_first {n = n} nothing x = elim x [ ]
 alike_first (equal a) (here h) = here h
 alike_first (equal a) (past f r) = past f (alike_first a r)
 alike_first (plain {n = n} f g a) (here h) = absurd (never n.bytes f h)

@@ -5,7 +5,6 @@ use mathlib.Core.List.{List, [], ◌∷◌}
 use mathlib.Core.Logic.{⊎_elim}
 use Prim.Native.Nat.{ℕ, zero, suc, ◌+◌, ◌≤◌, ◌<◌}
 use native.Mathlib.Omega.{arith}
-use lib.ListN.{length}
 use Rattle.tape.specs.declared.Node.{Node}
 use Rattle.nest.specs.Tape.{kind_at, link_at}
 use Rattle.nest.specs.Nest.{container, close, Container, Close, count, Nested, Sound}

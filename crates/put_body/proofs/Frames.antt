@@ -24,7 +24,7 @@ use Rattle.texts.proofs.Breaks.{break_pair}
 use Rattle.texts.proofs.Edges.{blank_step, solid_above}
 use Rattle.texts.proofs.Texts.{body_blank}
 use Rattle.put_body.specs.Body.{odd}
-use Rattle.put_body.specs.Easy.{hard, any_hard, easy, tight, edged}
+use Rattle.put_body.specs.Easy.{any_hard, easy, tight, edged}
 use Rattle.put_body.specs.Frame.{white_front_of, white_back_of, frame_of, framed_text_of, Framed}
 use Rattle.put_body.proofs.Easy.{first, both, escape-easy, pair-easy, easy_both, body-easy}
 use Rattle.put_body.proofs.Turns.{written-escaped}

@@ -2,7 +2,7 @@
 use mathlib.Core.Path.{◌≡◌, refl, sym, ap, ◌∙◌}
 use mathlib.Core.Bool.{Bool, true, false, cond}
 use mathlib.Core.List.{[], ◌∷◌}
-use Prim.Native.Nat.{ℕ, ◌+◌, ◌-◌, ◌≤◌, min}
+use Prim.Native.Nat.{ℕ, ◌-◌, ◌≤◌}
 use native.Mathlib.Omega.{arith}
 use lib.ListN.{length, drop, length-drop}
 use denote.Ref.{Bor}
@@ -11,7 +11,7 @@ use Rattle.parts.specs.Place.{VeryPart}
 use Rattle.parts.proofs.Laws.{begins-fits}
 use Rattle.parts.proofs.Places.{very_at, very_within, very_self}
 use Rattle.tape.specs.File.{tape_in, names_at, source_at, node_at, text_at_of, text_start, entry_name, entry_start, info_name, name_of_start}
-use Rattle.tape.specs.Name.{strip, bare, name_len, name_in_of, name_start, marker_name, marker_start, marker_len}
+use Rattle.tape.specs.Name.{strip, bare, name_len, name_in_of, name_start, marker_start, marker_len}
 use Rattle.tape.specs.declared.Sections.{Sections}
 use Rattle.tape.specs.declared.Entry.{Entry}
 use Rattle.tape.specs.declared.Info.{Info}

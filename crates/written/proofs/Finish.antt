@@ -7,7 +7,6 @@ use lib.Seq.{take_at}
 use Rattle.parts.specs.Bytes.{Bytes}
 use Rattle.tape.specs.File.{Tape, tape_of}
 use Rattle.admit.specs.Refusal.{Refusal}
-use Rattle.admit.specs.Decide.{refusal}
 use Rattle.admit.proofs.Decide.{refusal_right, refusal_unique}
 use Rattle.events.specs.Text.{text_of, fitting, outcome_by, outcome}
 use Rattle.draft.specs.Draft.{Draft, tape_from, size_of}

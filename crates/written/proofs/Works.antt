@@ -5,8 +5,8 @@ use mathlib.Core.Logic.{◌⊎◌, inl, inr, ⊎_elim}
 use mathlib.Core.List.{List, [], ◌∷◌}
 use Prim.Native.Nat.{ℕ, zero, suc, ◌+◌, ◌-◌, ◌≤◌, ◌<◌}
 use native.Mathlib.Omega.{arith}
-use lib.ListN.{length, drop, drop_of_length-le}
-use lib.Dec.{eqb, ltb, leb}
+use lib.ListN.{length, drop_of_length-le}
+use lib.Dec.{eqb, leb}
 use borrow.Author.Tests.{lt-ltb, le-leb, leb-true, eq-eqb, eqb-false}
 use Rattle.parts.specs.Bytes.{Bytes}
 use Rattle.chars.specs.Utf8.{is_utf8}

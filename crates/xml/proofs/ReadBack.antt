@@ -1,16 +1,15 @@
 -- Reading back an escaped text or value gives it again.
 use mathlib.Core.Path.{◌≡◌, refl, ap, sym, ◌∙◌}
 use mathlib.Core.Bool.{Bool, true, false, cond, ◌&&◌}
-use mathlib.Core.List.{List, [], ◌∷◌, ◌++◌}
-use mathlib.Core.Option.{Option, none, some}
-use Prim.Native.Nat.{ℕ, zero, suc}
+use mathlib.Core.List.{[], ◌∷◌, ◌++◌}
+use mathlib.Core.Option.{none}
+use Prim.Native.Nat.{ℕ}
 use native.Mathlib.Omega.{arith}
-use lib.ListN.{length}
 use lib.Dec.{eqb}
 use borrow.Author.Tests.{eqb-true, eqb-false, ne_eqb}
 use Rattle.parts.specs.Bytes.{Bytes, b, begins}
 use Rattle.chars.specs.Escape.{escaped_byte, escape}
-use Rattle.xml.specs.Entities.{Entity, predefined, reference, reference_at, read_as, read_past, read_from, read_back_of}
+use Rattle.xml.specs.Entities.{predefined, reference_at, read_as, read_past, read_from, read_back_of}
 
 -- a byte that is no `&` begins no reference
 plain_at : (x : ℕ) (s : Bytes) → (x ≡ 38 → ⊥) → reference_at predefined (x ∷ s) ≡ none

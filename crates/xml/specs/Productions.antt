@@ -1,6 +1,6 @@
 -- What may stand between tags and in a value in double quotes: productions 10, 14 and 43 of XML 1.0. What they exclude is ASCII, so bytes serve.
 use Rattle.std.specs.Prelude.{ℕ, ◌≡◌}
-use mathlib.Core.List.{List, [], ◌∷◌, ◌++◌, Memᴰ}
+use mathlib.Core.List.{[], ◌∷◌, ◌++◌, Memᴰ}
 use Rattle.parts.specs.Bytes.{Bytes, b}
 use Rattle.xml.specs.Entities.{Entity, predefined, reference}
 

@@ -1,5 +1,4 @@
 use mathlib.Core.Path.{refl}
-use Rattle.std.specs.Prelude.{reverse}
 use Rattle.layout.proofs.drow.Goals as goal
 
 pub returns : goal.returns

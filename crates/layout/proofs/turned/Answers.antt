@@ -1,5 +1,4 @@
 use mathlib.Core.Path.{refl}
-use Rattle.std.specs.Prelude.{reverse}
 use Rattle.layout.specs.Bytes.{node_bytes_of}
 use Rattle.layout.proofs.turned.Goals as goal
 

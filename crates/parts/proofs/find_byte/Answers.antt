@@ -1,4 +1,3 @@
-use Prim.Native.Nat.{◌-◌}
 use native.Mathlib.Omega.{arith}
 use Rattle.parts.proofs.Laws.{byte_turn, byte_stop, first_end}
 use Rattle.parts.proofs.find_byte.Goals as goal

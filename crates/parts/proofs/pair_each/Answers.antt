@@ -1,4 +1,3 @@
-use Prim.Native.Nat.{◌-◌}
 use native.Mathlib.Omega.{arith}
 use Rattle.parts.proofs.Laws.{first-turn, first_stop, first_end}
 use Rattle.parts.proofs.pair_each.Goals as goal

@@ -1,4 +1,3 @@
-use Prim.Native.Nat.{◌-◌}
 use Rattle.parts.proofs.Pairs.{blocks_start, blocks_turn}
 use Rattle.parts.proofs.pairless_blocks.Goals as goal
 

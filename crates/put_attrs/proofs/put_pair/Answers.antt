@@ -1,0 +1,5 @@
+use Rattle.put_attrs.proofs.Written.{pair-written}
+use Rattle.put_attrs.proofs.put_pair.Goals as goal
+
+pub returns : goal.returns
+returns c = search pair-written
