@@ -23,3 +23,32 @@ pub fn read_full<R: Read>(input: &mut R, space: &mut [u8]) -> io::Result<usize>
     }
     Ok(done)
 }
+
+#[cfg(test)]
+mod tests {
+    use super::*;
+
+    // Reads from what gives three bytes and then two.
+    fn read_into(space: &mut [u8]) -> io::Result<usize> {
+        let first = [1u8, 2, 3];
+        let second = [4u8, 5];
+        let mut input = (&first[..]).chain(&second[..]);
+        read_full(&mut input, space)
+    }
+
+    #[test]
+    fn reads_on_behind_a_short_read(rt: HostRuntime) -> io::Result<()> {
+        let mut space = [0u8; 4];
+        assert_eq!(rt; read_into(&mut space)?, 4);
+        assert_eq!(rt; space, [1, 2, 3, 4]);
+        Ok(())
+    }
+
+    #[test]
+    fn stops_at_the_end(rt: HostRuntime) -> io::Result<()> {
+        let mut space = [9u8; 7];
+        assert_eq!(rt; read_into(&mut space)?, 5);
+        assert_eq!(rt; space, [1, 2, 3, 4, 5, 9, 9]);
+        Ok(())
+    }
+}

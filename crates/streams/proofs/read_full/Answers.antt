@@ -1,9 +1,7 @@
-use Rattle.std.proofs.Common.{ℕ, ◌≡◌, ◌≤◌, ◌+◌, ◌-◌, ◌∙◌, List, ◌++◌, length, take, arith, rules, ap, sym, subst, length-take-le, append_assoc}
+use Rattle.std.proofs.Common.{ℕ, ◌≡◌, ◌≤◌, ◌+◌, ◌∙◌, List, ◌++◌, length, take, arith, ap, subst, length-take-le}
 use Rattle.std.proofs.lemmas.List.{take-append-le}
-use Rattle.std.proofs.lemmas.Grind.{common_steps}
 use Rattle.std.proofs.Math.Seq.{take-append-add}
 use Rattle.std.proofs.KnownBytes.{Consumes-trans}
-use Rattle.std.specs.Io.KnownBytes.{Consumes}
 use borrow.Rule.Slice.PartMut.{put_mid, post_of}
 use Rattle.streams.proofs.read_full.Goals as goal
 
@@ -16,5 +14,5 @@ take-put_mid_in a k n xs ys h l =
 pub loop-done-preserved : goal.loop-done-preserved
 loop-done-preserved g c = record {
   within = omega (arith, c.in_ok-n.ensures.bound.0, c.read.auto.buf);
-  bytes = rw (take-put_mid_in c.loop-done.done _ c.in_ok-n.n c.loop-done.space c.read.new.buf (omega arith) c.in_ok-n.ensures.bound.0) (Consumes-trans _ _ _ _ _ c.loop-done.invariant.bytes c.in_ok-n.ensures.bytes.0)
+  bytes = rw (take-put_mid_in c.loop-done.done _ c.in_ok-n.n c.loop-done.space c.read.new.buf (omega arith) c.in_ok-n.ensures.bound.0) (Consumes-trans _ _ _ _ _ c.loop-done.invariant.bytes c.in_ok-n.ensures.bytes.0);
 }
