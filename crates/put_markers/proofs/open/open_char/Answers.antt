@@ -1,0 +1,8 @@
+use Rattle.put_markers.proofs.Opens.{char-linked, char_flat}
+use Rattle.put_markers.proofs.open.open_char.Goals as goal
+
+pub returns-then-is_nested : goal.returns-then-is_nested
+returns-then-is_nested c = search char-linked
+
+pub returns : goal.returns
+returns c = search char_flat

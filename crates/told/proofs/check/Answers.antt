@@ -1,0 +1,6 @@
+use Rattle.told.proofs.Reviews.{checked_told}
+use Rattle.told.proofs.check.Goals as goal
+
+pub returns : goal.returns
+returns c =
+    checked_told _ _ c.check-v.ensures c.place_of-at.ensures c.chapters_of.ensures c.tell.ensures c.verses_of.ensures c.tell-2.ensures c.tell-3.ensures c.line_of.ensures c.tell-4.ensures c.number_of.ensures
