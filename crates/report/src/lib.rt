@@ -1,45 +1,37 @@
 #![tactic(auto)]
 // What is said of a finished text on standard output: `accepted` with both counts, or `refused` and document 01's number, then the place for people.
 use checker::Verdict;
-use libc::STDOUT_FILENO;
+use std::io;
 
 fn wide(n: usize) -> u64 {
     n as u64
 }
 
-fn say_accepted(chapters: usize, verses: usize) {
-    io::write_all(STDOUT_FILENO, b"accepted ");
-    io::print_decimal(STDOUT_FILENO, wide(chapters));
-    io::write_all(STDOUT_FILENO, b" ");
-    io::print_decimal(STDOUT_FILENO, wide(verses));
-    io::write_all(STDOUT_FILENO, b"\n");
+fn say_accepted(rt: &impl Print, chapters: usize, verses: usize) -> io::Result<()> {
+    rt.write_all(b"accepted ")?;
+    rt.print(wide(chapters))?;
+    rt.write_all(b" ")?;
+    rt.print(wide(verses))?;
+    rt.write_all(b"\n")
 }
 
-fn say_place(text: &[u8], answer: Verdict) {
+fn say_place(rt: &impl Print, text: &[u8], answer: Verdict) -> io::Result<()> {
     let at = checker::place(text, answer);
-    io::write_all(STDOUT_FILENO, b"at byte ");
-    io::print_decimal(STDOUT_FILENO, wide(at));
-    io::write_all(STDOUT_FILENO, b", line ");
-    io::print_decimal(STDOUT_FILENO, wide(checker::line_of(text, at)));
-    io::write_all(STDOUT_FILENO, b"\n");
+    rt.write_all(b"at byte ")?;
+    rt.print(wide(at))?;
+    rt.write_all(b", line ")?;
+    rt.print(wide(checker::line_of(text, at)))?;
+    rt.write_all(b"\n")
 }
 
 // The first line of what is said.
-pub fn say_answer(answer: Verdict) {
+pub fn say_answer(rt: &impl Print, answer: Verdict) -> io::Result<()> {
     match answer {
-        Verdict::Accepted { chapters, verses } => say_accepted(chapters, verses),
-        Verdict::NotTags => {
-            io::write_all(STDOUT_FILENO, b"refused 11\n");
-        }
-        Verdict::TooHigh => {
-            io::write_all(STDOUT_FILENO, b"refused 12\n");
-        }
-        Verdict::NoTree => {
-            io::write_all(STDOUT_FILENO, b"refused 13\n");
-        }
-        Verdict::BadMarks => {
-            io::write_all(STDOUT_FILENO, b"refused 14\n");
-        }
+        Verdict::Accepted { chapters, verses } => say_accepted(rt, chapters, verses),
+        Verdict::NotTags => rt.write_all(b"refused 11\n"),
+        Verdict::TooHigh => rt.write_all(b"refused 12\n"),
+        Verdict::NoTree => rt.write_all(b"refused 13\n"),
+        Verdict::BadMarks => rt.write_all(b"refused 14\n"),
     }
 }
 
@@ -57,10 +49,11 @@ fn is_accepted(answer: Verdict) -> bool {
 }
 
 // Judges a text and says so; a refusal has a second line, `at byte N, line N`, bytes from 0 and lines from 1.
-pub fn report(text: &[u8]) {
+pub fn report(rt: &impl Print, text: &[u8]) -> io::Result<()> {
     let answer = checker::check(text);
-    say_answer(answer);
+    say_answer(rt, answer)?;
     if !is_accepted(answer) {
-        say_place(text, answer);
+        say_place(rt, text, answer)?;
     }
+    Ok(())
 }

@@ -4,7 +4,7 @@
 ghost use Rattle.std.specs.Prelude.{◌≡◌, min};
 
 use admit::Admitted;
-use libc::STDOUT_FILENO;
+use std::io;
 use window::Window;
 use writer::{Answer, Writer};
 
@@ -67,9 +67,9 @@ fn name(w: Window, out: &mut [u8], code: u8) -> Window {
 }
 
 // Ends a line and writes it.
-fn end(w: Window, out: &mut [u8]) {
+fn end(rt: &impl Print, w: Window, out: &mut [u8]) -> io::Result<()> {
     let n = put(w, out, b"\n").at;
-    io::write_all(STDOUT_FILENO, parts::part(out, 0, n));
+    rt.write_all(parts::part(out, 0, n))
 }
 
 // ---- changed bytes
@@ -142,39 +142,53 @@ fn answer(w: Window, out: &mut [u8], code: u8, a: Answer) -> Window {
 }
 
 // The line of a step.
-pub fn say_step(out: &mut [u8], code: u8, a: Answer, old: &[u8], buf: &[u8]) {
+pub fn say_step(
+    rt: &impl Print,
+    out: &mut [u8],
+    code: u8,
+    a: Answer,
+    old: &[u8],
+    buf: &[u8],
+) -> io::Result<()> {
     let w1 = answer(Window { at: 0, from: 0 }, out, code, a);
     let w2 = state(w1, out, a.writer);
     let w3 = changes(w2, out, old, buf);
-    end(w3, out);
+    end(rt, w3, out)
 }
 
 // The line of a state.
-pub fn say_state(out: &mut [u8], s: Writer) {
+pub fn say_state(rt: &impl Print, out: &mut [u8], s: Writer) -> io::Result<()> {
     let w = state(Window { at: 0, from: 0 }, out, s);
-    end(w, out);
+    end(rt, w, out)
 }
 
 // Whether a finished file is admitted.
-fn judged(out: &mut [u8], file: &[u8]) {
+fn judged(rt: &impl Print, out: &mut [u8], file: &[u8]) -> io::Result<()> {
     let w = Window { at: 0, from: 0 };
     match admit::admit(file) {
         Admitted::Tape(_) => {
             let w1 = put(w, out, b"admitted");
-            end(w1, out);
+            end(rt, w1, out)
         }
         Admitted::Refused(n) => {
             let w1 = number(w, out, b"refused ", small(n));
-            end(w1, out);
+            end(rt, w1, out)
         }
     }
 }
 
 // The line of a finished file; none of another answer.
-pub fn say_file(out: &mut [u8], code: u8, a: Answer, buf: &[u8]) {
+pub fn say_file(
+    rt: &impl Print,
+    out: &mut [u8],
+    code: u8,
+    a: Answer,
+    buf: &[u8],
+) -> io::Result<()> {
     if code == FINISH {
         if a.number == 0 {
-            judged(out, parts::part(buf, 0, a.length));
+            return judged(rt, out, parts::part(buf, 0, a.length));
         }
     }
+    Ok(())
 }

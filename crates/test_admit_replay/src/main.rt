@@ -5,7 +5,8 @@
 ghost use Rattle.std.specs.Prelude.{◌<◌};
 
 use admit::Admitted;
-use libc::STDOUT_FILENO;
+use std::io;
+use std::io::Input;
 use test_stream::Item;
 
 fn wide(x: u8) -> usize
@@ -15,37 +16,36 @@ fn wide(x: u8) -> usize
 }
 
 // The digit of a number and a newline.
-fn write_digit(n: u8) {
-    io::write_all(
-        STDOUT_FILENO,
-        parts::part(b"0\n1\n2\n3\n4\n5\n6\n7\n", 2 * wide(n), 2),
-    );
+fn write_digit(rt: &impl Print, n: u8) -> io::Result<()> {
+    rt.write_all(parts::part(b"0\n1\n2\n3\n4\n5\n6\n7\n", 2 * wide(n), 2))
 }
 
-fn judge(file: &[u8]) {
+fn judge(rt: &impl Print, file: &[u8]) -> io::Result<()> {
     match admit::admit(file) {
-        Admitted::Tape(_) => write_digit(0),
-        Admitted::Refused(n) => write_digit(n),
+        Admitted::Tape(_) => write_digit(rt, 0),
+        Admitted::Refused(n) => write_digit(rt, n),
     }
 }
 
 // One tape of the stream; false at its end.
-fn step(space: &mut [u8]) -> bool {
-    let Item::Held(size) = test_stream::next(space) else {
-        return false;
+fn step(rt: &(impl Input + Print), space: &mut [u8]) -> io::Result<bool> {
+    let Item::Held(size) = test_stream::next(rt, space)? else {
+        return Ok(false);
     };
-    judge(parts::part(space, 0, size));
-    true
+    judge(rt, parts::part(space, 0, size))?;
+    Ok(true)
 }
 
-fn run(space: &mut [u8]) {
-    let mut turns: u32 = u32::MAX;
-    while turns > 0 && step(space) {
-        turns -= 1;
+fn run(rt: &(impl Input + Print), space: &mut [u8]) -> io::Result<()> {
+    for _ in 0..u32::MAX {
+        if !step(rt, space)? {
+            return Ok(());
+        }
     }
+    Ok(())
 }
 
-fn main() {
-    let mut space = io::large_buffer();
-    run(&mut space);
+fn main(rt: HostRuntime) -> io::Result<()> {
+    let mut space = [0u8; 65536];
+    run(&rt, &mut space)
 }

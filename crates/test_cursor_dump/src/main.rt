@@ -4,7 +4,8 @@
 // Standard input is a stream (crate `test_stream`) of admitted tapes of at most 65,536 bytes.
 // A line: index, kind, synthetic and nested (a digit each), number, category, element, first child, next sibling, matching close, then entry
 // name, marker name and text with `|` between them; `-` for what there is none of.
-use libc::STDOUT_FILENO;
+use std::io;
+use std::io::Input;
 use tape::{Cursor, Info, Sections, Step};
 use test_stream::Item;
 use window::Window;
@@ -93,35 +94,35 @@ fn line(out: &mut [u8], file: &[u8], t: Sections, c: Cursor) -> usize {
     names(w1, out, file, t, c).at
 }
 
-fn dump(out: &mut [u8], file: &[u8]) {
+fn dump(rt: &impl Print, out: &mut [u8], file: &[u8]) -> io::Result<()> {
     let t = Sections::of(file);
-    let mut at: u32 = 0;
-    while at < t.nodes {
+    for at in 0..t.nodes {
         let n = line(out, file, t, Cursor::new(at));
-        io::write_all(STDOUT_FILENO, parts::part(out, 0, n));
-        at += 1;
+        rt.write_all(parts::part(out, 0, n))?;
     }
-    io::write_all(STDOUT_FILENO, b"\n");
+    rt.write_all(b"\n")
 }
 
 // One tape of the stream; false at its end.
-fn step(out: &mut [u8], space: &mut [u8]) -> bool {
-    let Item::Held(size) = test_stream::next(space) else {
-        return false;
+fn step(rt: &(impl Input + Print), out: &mut [u8], space: &mut [u8]) -> io::Result<bool> {
+    let Item::Held(size) = test_stream::next(rt, space)? else {
+        return Ok(false);
     };
-    dump(out, parts::part(space, 0, size));
-    true
+    dump(rt, out, parts::part(space, 0, size))?;
+    Ok(true)
 }
 
-fn run(out: &mut [u8], space: &mut [u8]) {
-    let mut turns: u32 = u32::MAX;
-    while turns > 0 && step(out, space) {
-        turns -= 1;
+fn run(rt: &(impl Input + Print), out: &mut [u8], space: &mut [u8]) -> io::Result<()> {
+    for _ in 0..u32::MAX {
+        if !step(rt, out, space)? {
+            return Ok(());
+        }
     }
+    Ok(())
 }
 
-fn main() {
-    let mut out = io::large_buffer();
-    let mut space = io::large_buffer();
-    run(&mut out, &mut space);
+fn main(rt: HostRuntime) -> io::Result<()> {
+    let mut out = [0u8; 65536];
+    let mut space = [0u8; 65536];
+    run(&rt, &mut out, &mut space)
 }

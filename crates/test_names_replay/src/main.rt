@@ -5,48 +5,51 @@
 // Standard input is a stream (crate `test_stream`) of tapes of at most 65,536 bytes; a text has room for 1,048,576. The stored list is made by .ci/stored, and what
 // must be written of it is what `oracle judged` writes.
 use calls::Called;
-use libc::STDOUT_FILENO;
+use std::io;
+use std::io::Input;
 use test_stream::Item;
 
-fn say(run: &[u8]) {
-    io::write_all(STDOUT_FILENO, run);
+fn say(rt: &impl Print, run: &[u8]) -> io::Result<()> {
+    rt.write_all(run)
 }
 
 // What the checker says of the text that is written.
-fn say_text(file: &[u8], out: &mut [u8]) {
+fn say_text(rt: &impl Print, file: &[u8], out: &mut [u8]) -> io::Result<()> {
     match calls::serialize_and_check(file, out) {
-        Called::Written { length: _, verdict } => report::say_answer(verdict),
-        Called::Refused(_) => say(b"unwritten\n"),
-        Called::NoRoom(_) => say(b"unwritten\n"),
+        Called::Written { length: _, verdict } => report::say_answer(rt, verdict),
+        Called::Refused(_) => say(rt, b"unwritten\n"),
+        Called::NoRoom(_) => say(rt, b"unwritten\n"),
     }
 }
 
 // One tape of the stream; false at its end.
-fn step(space: &mut [u8], out: &mut [u8]) -> bool {
-    let Item::Held(size) = test_stream::next(space) else {
-        return false;
+fn step(rt: &(impl Input + Print), space: &mut [u8], out: &mut [u8]) -> io::Result<bool> {
+    let Item::Held(size) = test_stream::next(rt, space)? else {
+        return Ok(false);
     };
     let file = parts::part(space, 0, size);
-    report_names::report(file);
-    say_text(file, out);
-    say(b"\n");
-    true
+    report_names::report(rt, file)?;
+    say_text(rt, file, out)?;
+    say(rt, b"\n")?;
+    Ok(true)
 }
 
-fn run(space: &mut [u8], out: &mut [u8]) {
-    let mut turns: u32 = u32::MAX;
-    while turns > 0 && step(space, out) {
-        turns -= 1;
+fn run(rt: &(impl Input + Print), space: &mut [u8], out: &mut [u8]) -> io::Result<()> {
+    for _ in 0..u32::MAX {
+        if !step(rt, space, out)? {
+            return Ok(());
+        }
     }
+    Ok(())
 }
 
 // The same with a buffer of a known length.
-fn run_in(space: &mut [u8], out: &mut [u8; 1048576]) {
-    run(space, out);
+fn run_in(rt: &(impl Input + Print), space: &mut [u8], out: &mut [u8; 1048576]) -> io::Result<()> {
+    run(rt, space, out)
 }
 
-fn main() {
-    let mut space = io::large_buffer();
+fn main(rt: HostRuntime) -> io::Result<()> {
+    let mut space = [0u8; 65536];
     let mut out = [0u8; 1048576];
-    run_in(&mut space, &mut out);
+    run_in(&rt, &mut space, &mut out)
 }

@@ -5,30 +5,32 @@ ghost use Rattle.leading_white.specs.Lean.{Solids};
 use crate::say;
 use fold::{Number, Piece};
 use lists::Span;
+use std::io;
 use tape::{Cursor, Sections, Step};
 
-fn label(file: &[u8], t: Sections, c: Cursor) {
+fn label(rt: &impl Print, file: &[u8], t: Sections, c: Cursor) -> io::Result<()> {
     let p = render::verse_label(file, t, c);
-    say::head(c.at, b" label ");
-    say::quoted(parts::part(tape::source(file, t), p.start, p.len));
-    say::run(b"\n");
+    say::head(rt, c.at, b" label ")?;
+    say::quoted(rt, parts::part(tape::source(file, t), p.start, p.len))?;
+    say::run(rt, b"\n")
 }
 
-fn pieces(file: &[u8], t: Sections, c: Cursor) {
+fn pieces(rt: &impl Print, file: &[u8], t: Sections, c: Cursor) -> io::Result<()> {
     let mut left = Number::of(file, t, c);
     loop {
         match left.next(file, t) {
-            Piece::Done => return,
+            Piece::Done => return Ok(()),
             Piece::Some {
                 part,
                 space,
                 left: after,
             } => {
-                say::space_if(space);
+                say::space_if(rt, space)?;
                 say::escaped(
+                    rt,
                     parts::part(tape::source(file, t), part.start, part.len),
                     true,
-                );
+                )?;
                 left = after;
             }
         }
@@ -36,18 +38,18 @@ fn pieces(file: &[u8], t: Sections, c: Cursor) {
 }
 
 // The number of the marker that a step leads to, between quotes.
-fn number(file: &[u8], t: Sections, step: Step) {
+fn number(rt: &impl Print, file: &[u8], t: Sections, step: Step) -> io::Result<()> {
     match step {
         Step::At(c) => {
-            say::run(b"\"");
-            pieces(file, t, c);
-            say::run(b"\" ");
+            say::run(rt, b"\"")?;
+            pieces(rt, file, t, c)?;
+            say::run(rt, b"\" ")
         }
-        Step::Done => say::run(b"- "),
+        Step::Done => say::run(rt, b"- "),
     }
 }
 
-pub fn fold(file: &[u8], t: Sections, solids: &[u32], c: Cursor)
+pub fn fold(rt: &impl Print, file: &[u8], t: Sections, solids: &[u32], c: Cursor) -> io::Result<()>
     requires { Solids (tape_in t file.now) solids.now }
 {
     let all = Span {
@@ -65,15 +67,15 @@ pub fn fold(file: &[u8], t: Sections, solids: &[u32], c: Cursor)
     let alt = f.alt;
     let published = f.published;
     let rest = f.rest;
-    say::head(c.at, b" fold ");
-    number(file, t, alt);
-    number(file, t, published);
-    say::place(rest);
+    say::head(rt, c.at, b" fold ")?;
+    number(rt, file, t, alt)?;
+    number(rt, file, t, published)?;
+    say::place(rt, rest)
 }
 
-pub fn lines(file: &[u8], t: Sections, solids: &[u32], c: Cursor)
+pub fn lines(rt: &impl Print, file: &[u8], t: Sections, solids: &[u32], c: Cursor) -> io::Result<()>
     requires { Solids (tape_in t file.now) solids.now }
 {
-    label(file, t, c);
-    fold(file, t, solids, c);
+    label(rt, file, t, c)?;
+    fold(rt, file, t, solids, c)
 }

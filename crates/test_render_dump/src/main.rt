@@ -13,65 +13,68 @@ mod say;
 mod shapes;
 mod texts_of;
 
+use std::io;
+use std::io::Input;
 use tape::{Cursor, Kind, Sections};
 use test_stream::Item;
 
 // The lines that a node has by its kind.
-fn by_kind(file: &[u8], t: Sections, solids: &[u32], c: Cursor)
+fn by_kind(rt: &impl Print, file: &[u8], t: Sections, solids: &[u32], c: Cursor) -> io::Result<()>
     requires { Solids (tape_in t file.now) solids.now }
 {
     let code = c.kind(file, t).code;
     match code {
-        Kind::ROOT | Kind::MARKER_OPEN => holders::lines(file, t, solids, c),
-        Kind::TEXT => texts_of::lines(file, t, solids, c),
-        Kind::CHAPTER => anchors::fold(file, t, solids, c),
-        Kind::VERSE => anchors::lines(file, t, solids, c),
-        _ => {}
+        Kind::ROOT | Kind::MARKER_OPEN => holders::lines(rt, file, t, solids, c),
+        Kind::TEXT => texts_of::lines(rt, file, t, solids, c),
+        Kind::CHAPTER => anchors::fold(rt, file, t, solids, c),
+        Kind::VERSE => anchors::lines(rt, file, t, solids, c),
+        _ => Ok(()),
     }
 }
 
-fn nodes(file: &[u8], t: Sections, solids: &[u32])
+fn nodes(rt: &impl Print, file: &[u8], t: Sections, solids: &[u32]) -> io::Result<()>
     requires { Solids (tape_in t file.now) solids.now }
 {
-    let mut at: u32 = 0;
-    while at < t.nodes {
+    for at in 0..t.nodes {
         let c = Cursor::new(at);
-        shapes::line(file, t, solids, c);
-        by_kind(file, t, solids, c);
-        at += 1;
+        shapes::line(rt, file, t, solids, c)?;
+        by_kind(rt, file, t, solids, c)?;
     }
+    Ok(())
 }
 
-fn tabled(file: &[u8], table: &mut [u32]) {
+fn tabled(rt: &impl Print, file: &[u8], table: &mut [u32]) -> io::Result<()> {
     let t = Sections::of(file);
     leading_white::fill(table, file, t);
-    nodes(file, t, table);
-    say::run(b"\n");
+    nodes(rt, file, t, table)?;
+    say::run(rt, b"\n")
 }
 
 // With a table of places for a source of 65,536 bytes.
-fn dump(file: &[u8]) {
+fn dump(rt: &impl Print, file: &[u8]) -> io::Result<()> {
     let mut table = [0u32; 1024];
-    tabled(file, &mut table);
+    tabled(rt, file, &mut table)
 }
 
 // One tape of the stream; false at its end.
-fn step(space: &mut [u8]) -> bool {
-    let Item::Held(size) = test_stream::next(space) else {
-        return false;
+fn step(rt: &(impl Input + Print), space: &mut [u8]) -> io::Result<bool> {
+    let Item::Held(size) = test_stream::next(rt, space)? else {
+        return Ok(false);
     };
-    dump(parts::part(space, 0, size));
-    true
+    dump(rt, parts::part(space, 0, size))?;
+    Ok(true)
 }
 
-fn run(space: &mut [u8]) {
-    let mut turns: u32 = u32::MAX;
-    while turns > 0 && step(space) {
-        turns -= 1;
+fn run(rt: &(impl Input + Print), space: &mut [u8]) -> io::Result<()> {
+    for _ in 0..u32::MAX {
+        if !step(rt, space)? {
+            return Ok(());
+        }
     }
+    Ok(())
 }
 
-fn main() {
-    let mut space = io::large_buffer();
-    run(&mut space);
+fn main(rt: HostRuntime) -> io::Result<()> {
+    let mut space = [0u8; 65536];
+    run(&rt, &mut space)
 }

@@ -1,36 +1,33 @@
 // The parts of a line.
-use libc::STDOUT_FILENO;
+use std::io;
 use tape::Step;
 use window::Window;
 
-pub fn run(s: &[u8]) {
-    io::write_all(STDOUT_FILENO, s);
+pub fn run(rt: &impl Print, s: &[u8]) -> io::Result<()> {
+    rt.write_all(s)
 }
 
 // The start of a line: a node's index and what is said of it.
-pub fn head(at: u32, word: &[u8]) {
-    io::print_decimal(STDOUT_FILENO, at as u64);
-    run(word);
+pub fn head(rt: &impl Print, at: u32, word: &[u8]) -> io::Result<()> {
+    rt.print(at as u64)?;
+    run(rt, word)
 }
 
-pub fn digit(yes: bool) {
+pub fn digit(rt: &impl Print, yes: bool) -> io::Result<()> {
+    if yes { run(rt, b"1") } else { run(rt, b"0") }
+}
+
+pub fn space_if(rt: &impl Print, yes: bool) -> io::Result<()> {
     if yes {
-        run(b"1");
-    } else {
-        run(b"0");
+        run(rt, b" ")?;
     }
+    Ok(())
 }
 
-pub fn space_if(yes: bool) {
-    if yes {
-        run(b" ");
-    }
-}
-
-pub fn place(step: Step) {
+pub fn place(rt: &impl Print, step: Step) -> io::Result<()> {
     match step {
-        Step::At(c) => head(c.at, b"\n"),
-        Step::Done => run(b"-\n"),
+        Step::At(c) => head(rt, c.at, b"\n"),
+        Step::Done => run(rt, b"-\n"),
     }
 }
 
@@ -44,23 +41,24 @@ fn escape(out: &mut [u8], s: &[u8], attr: bool) -> usize {
 }
 
 // At most 512 bytes, escaped; no byte takes more than six.
-fn chunk(s: &[u8], attr: bool) {
-    let mut out = io::buffer();
+fn chunk(rt: &impl Print, s: &[u8], attr: bool) -> io::Result<()> {
+    let mut out = [0u8; 4096];
     let n = escape(&mut out, s, attr);
-    run(parts::part(&out, 0, n));
+    run(rt, parts::part(&out, 0, n))
 }
 
 // A text, escaped as a value or as text.
-pub fn escaped(s: &[u8], attr: bool) {
+pub fn escaped(rt: &impl Print, s: &[u8], attr: bool) -> io::Result<()> {
     let mut at = 0;
     while at < s.len() {
-        chunk(parts::part(s, at, 512), attr);
+        chunk(rt, parts::part(s, at, 512), attr)?;
         at += 512;
     }
+    Ok(())
 }
 
-pub fn quoted(s: &[u8]) {
-    run(b"\"");
-    escaped(s, true);
-    run(b"\"");
+pub fn quoted(rt: &impl Print, s: &[u8]) -> io::Result<()> {
+    run(rt, b"\"")?;
+    escaped(rt, s, true)?;
+    run(rt, b"\"")
 }

@@ -4,62 +4,67 @@ ghost use Rattle.leading_white.specs.Lean.{Solids};
 
 use crate::say;
 use crate::say::digit;
+use std::io;
 use tape::{Cursor, Sections};
 use window::Window;
 use words::Set;
 
 // Lead, trail and whether it shows.
-fn edges(text: &[u8], before: bool, behind: bool) {
+fn edges(rt: &impl Print, text: &[u8], before: bool, behind: bool) -> io::Result<()> {
     let n = texts::normalize_text(text, before, behind);
-    digit(n.lead);
-    digit(n.trail);
-    digit(n.shows);
-    say::run(b" ");
+    digit(rt, n.lead)?;
+    digit(rt, n.trail)?;
+    digit(rt, n.shows)?;
+    say::run(rt, b" ")
 }
 
-fn all_edges(text: &[u8]) {
-    edges(text, false, false);
-    edges(text, false, true);
-    edges(text, true, false);
-    edges(text, true, true);
+fn all_edges(rt: &impl Print, text: &[u8]) -> io::Result<()> {
+    edges(rt, text, false, false)?;
+    edges(rt, text, false, true)?;
+    edges(rt, text, true, false)?;
+    edges(rt, text, true, true)
 }
 
 // A body split at `//`, each segment trimmed.
-fn segments(body: &[u8]) {
+fn segments(rt: &impl Print, body: &[u8]) -> io::Result<()> {
     let mut at = 0;
     loop {
         let rest = parts::from(body, at);
         let n = parts::find_pair(rest, b'/');
-        say::escaped(words::trim(parts::part(rest, 0, n), Set::Unicode), false);
+        say::escaped(
+            rt,
+            words::trim(parts::part(rest, 0, n), Set::Unicode),
+            false,
+        )?;
         if rest.len() <= n {
-            return;
+            return Ok(());
         }
-        say::run(b"<optbreak />");
+        say::run(rt, b"<optbreak />")?;
         at = at + n + 2;
     }
 }
 
 // A body and, where the text ends in white space and something follows, a space behind it.
-fn unbroken(text: &[u8], body: &[u8], behind: bool) {
-    say::escaped(body, false);
-    say::space_if(texts::normalize_text(text, false, behind).trail);
+fn unbroken(rt: &impl Print, text: &[u8], body: &[u8], behind: bool) -> io::Result<()> {
+    say::escaped(rt, body, false)?;
+    say::space_if(rt, texts::normalize_text(text, false, behind).trail)
 }
 
-fn alone(text: &[u8], body: &[u8], behind: bool) {
+fn alone(rt: &impl Print, text: &[u8], body: &[u8], behind: bool) -> io::Result<()> {
     if texts::has_break(text) {
-        segments(body);
+        segments(rt, body)?;
     } else {
-        unbroken(text, body, behind);
+        unbroken(rt, text, body, behind)?;
     }
-    say::run(b"\n");
+    say::run(rt, b"\n")
 }
 
-fn with_body(at: u32, text: &[u8], body: &[u8], behind: bool) {
-    say::head(at, b" text ");
-    all_edges(text);
-    say::quoted(body);
-    say::run(b" ");
-    alone(text, body, behind);
+fn with_body(rt: &impl Print, at: u32, text: &[u8], body: &[u8], behind: bool) -> io::Result<()> {
+    say::head(rt, at, b" text ")?;
+    all_edges(rt, text)?;
+    say::quoted(rt, body)?;
+    say::run(rt, b" ")?;
+    alone(rt, text, body, behind)
 }
 
 fn hard_byte(w: Window, out: &mut [u8], x: u8) -> Window {
@@ -100,18 +105,18 @@ fn body_into(out: &mut [u8], s: &[u8]) -> usize {
     next.at
 }
 
-fn normalized(at: u32, text: &[u8], behind: bool) {
-    let mut body = io::large_buffer();
+fn normalized(rt: &impl Print, at: u32, text: &[u8], behind: bool) -> io::Result<()> {
+    let mut body = [0u8; 65536];
     let n = body_into(&mut body, text);
-    with_body(at, text, parts::part(&body, 0, n), behind);
+    with_body(rt, at, text, parts::part(&body, 0, n), behind)
 }
 
-pub fn lines(file: &[u8], t: Sections, solids: &[u32], c: Cursor)
+pub fn lines(rt: &impl Print, file: &[u8], t: Sections, solids: &[u32], c: Cursor) -> io::Result<()>
     requires { Solids (tape_in t file.now) solids.now }
 {
     let text = c.text(file, t);
-    normalized(c.at, text, render::inline_follows(file, t, solids, c));
-    say::head(c.at, b" rest ");
-    say::quoted(render::remainder(text));
-    say::run(b"\n");
+    normalized(rt, c.at, text, render::inline_follows(file, t, solids, c))?;
+    say::head(rt, c.at, b" rest ")?;
+    say::quoted(rt, render::remainder(text))?;
+    say::run(rt, b"\n")
 }

@@ -8,7 +8,8 @@
 // The stored list is made by .ci/stored: `oracle both-sides` (document 01's examples 1 to 13 and its listing), then `gen structured 185 180`, `gen random
 // 185 180`, `gen small 1`, `gen damaged 61 200`, `gen damaged 62 200` and `gen glued 61 60`. What must be written of it is what `oracle replay` writes, by
 // the Rust's own text.
-use libc::STDOUT_FILENO;
+use std::io;
+use std::io::Input;
 use test_stream::Item;
 use usx::Answer;
 
@@ -16,91 +17,94 @@ fn wide(n: usize) -> u64 {
     n as u64
 }
 
-fn say(run: &[u8]) {
-    io::write_all(STDOUT_FILENO, run);
+fn say(rt: &impl Print, run: &[u8]) -> io::Result<()> {
+    rt.write_all(run)
 }
 
 // A word and a number behind it.
-fn say_number(word: &[u8], n: u64) {
-    say(word);
-    io::print_decimal(STDOUT_FILENO, n);
+fn say_number(rt: &impl Print, word: &[u8], n: u64) -> io::Result<()> {
+    say(rt, word)?;
+    rt.print(n)
 }
 
 // What a call gave, and how much of its buffer it left alone.
-fn line(number: u64, length: usize, buffer: &[u8]) {
-    say_number(b"room ", wide(buffer.len()));
-    say_number(b": number ", number);
-    say_number(b", length ", wide(length));
-    say_number(b", ", wide(test_marks::unchanged(buffer)));
-    say(b" unchanged\n");
+fn line(rt: &impl Print, number: u64, length: usize, buffer: &[u8]) -> io::Result<()> {
+    say_number(rt, b"room ", wide(buffer.len()))?;
+    say_number(rt, b": number ", number)?;
+    say_number(rt, b", length ", wide(length))?;
+    say_number(rt, b", ", wide(test_marks::unchanged(buffer)))?;
+    say(rt, b" unchanged\n")
 }
 
 // One call, its line and the text that it wrote; the length given.
-fn call(file: &[u8], buffer: &mut [u8]) -> usize {
+fn call(rt: &impl Print, file: &[u8], buffer: &mut [u8]) -> io::Result<usize> {
     test_marks::fill(buffer);
     match usx::serialize(file, buffer) {
         Answer::Written(n) => {
-            line(0, n, buffer);
-            say(parts::part(buffer, 0, n));
-            say(b"\n");
-            n
+            line(rt, 0, n, buffer)?;
+            say(rt, parts::part(buffer, 0, n))?;
+            say(rt, b"\n")?;
+            Ok(n)
         }
         Answer::Refused(n) => {
-            line(n as u64, 0, buffer);
-            0
+            line(rt, n as u64, 0, buffer)?;
+            Ok(0)
         }
         Answer::NoRoom(n) => {
-            line(8, n, buffer);
-            n
+            line(rt, 8, n, buffer)?;
+            Ok(n)
         }
     }
 }
 
-fn too_long(room: usize) {
-    say_number(b"room ", wide(room));
-    say(b": too long\n");
+fn too_long(rt: &impl Print, room: usize) -> io::Result<()> {
+    say_number(rt, b"room ", wide(room))?;
+    say(rt, b": too long\n")
 }
 
 // A call with a buffer of so many bytes.
-fn call_with(file: &[u8], out: &mut [u8], room: usize) -> usize {
+fn call_with(rt: &impl Print, file: &[u8], out: &mut [u8], room: usize) -> io::Result<usize> {
     if room <= out.len() {
-        return call(file, &mut out[..room]);
+        return call(rt, file, &mut out[..room]);
     }
-    too_long(room);
-    0
+    too_long(rt, room)?;
+    Ok(0)
 }
 
 // All calls of a tape; a refused one gives length 0.
-fn replay(file: &[u8], out: &mut [u8]) {
-    let n = call_with(file, out, 0);
+fn replay(rt: &impl Print, file: &[u8], out: &mut [u8]) -> io::Result<()> {
+    let n = call_with(rt, file, out, 0)?;
     if n == 0 {
-        call_with(file, out, 100);
-        return;
+        call_with(rt, file, out, 100)?;
+        return Ok(());
     }
-    call_with(file, out, n - 1);
-    call_with(file, out, n);
-    call_with(file, out, std::num::wrapping_add_usize(n, 100));
+    call_with(rt, file, out, n - 1)?;
+    call_with(rt, file, out, n)?;
+    call_with(rt, file, out, std::num::wrapping_add_usize(n, 100))?;
+    Ok(())
 }
 
 // One tape of the stream; false at its end.
-fn step(space: &mut [u8], out: &mut [u8]) -> bool {
-    let Item::Held(size) = test_stream::next(space) else {
-        return false;
+fn step(rt: &(impl Input + Print), space: &mut [u8], out: &mut [u8]) -> io::Result<bool> {
+    let Item::Held(size) = test_stream::next(rt, space)? else {
+        return Ok(false);
     };
-    replay(parts::part(space, 0, size), out);
-    say(b"\n");
-    true
+    replay(rt, parts::part(space, 0, size), out)?;
+    say(rt, b"\n")?;
+    Ok(true)
 }
 
-fn run(space: &mut [u8], out: &mut [u8]) {
-    let mut turns: u32 = u32::MAX;
-    while turns > 0 && step(space, out) {
-        turns -= 1;
+fn run(rt: &(impl Input + Print), space: &mut [u8], out: &mut [u8]) -> io::Result<()> {
+    for _ in 0..u32::MAX {
+        if !step(rt, space, out)? {
+            return Ok(());
+        }
     }
+    Ok(())
 }
 
-fn main() {
-    let mut space = io::large_buffer();
-    let mut out = io::large_buffer();
-    run(&mut space, &mut out);
+fn main(rt: HostRuntime) -> io::Result<()> {
+    let mut space = [0u8; 65536];
+    let mut out = [0u8; 65536];
+    run(&rt, &mut space, &mut out)
 }

@@ -5,15 +5,16 @@
 // The tape and the file have room for 3 MiB each. Entries come first, the first with all name bytes, then the source in one piece, then the nodes; a tape whose Root
 // has a close of its own cannot be written so, and its last step is refused.
 use admit::Admitted;
-use libc::{STDIN_FILENO, STDOUT_FILENO};
+use std::io;
+use std::io::Input;
 use tape::{Kind, Node, Sections};
 use writer::{Answer, Writer};
 
 // Writes the number of a refusal.
-fn refused(number: u8) {
-    io::write_all(STDOUT_FILENO, b"refused ");
-    io::print_decimal(STDOUT_FILENO, number as u64);
-    io::write_all(STDOUT_FILENO, b"\n");
+fn refused(rt: &impl Print, number: u8) -> io::Result<()> {
+    rt.write_all(b"refused ")?;
+    rt.print(number as u64)?;
+    rt.write_all(b"\n")
 }
 
 // An entry; the first brings all name bytes.
@@ -122,26 +123,29 @@ fn steps(file: &[u8], t: Sections, buf: &mut [u8]) -> Answer {
 }
 
 // A tape anew.
-fn rewrite(file: &[u8], t: Sections, buf: &mut [u8]) {
+fn rewrite(rt: &impl Print, file: &[u8], t: Sections, buf: &mut [u8]) -> io::Result<()> {
     let a = steps(file, t, buf);
     if a.number != 0 {
-        refused(a.number);
-        return;
+        return refused(rt, a.number);
     }
-    io::write_all(STDOUT_FILENO, parts::part(buf, 0, a.length));
+    rt.write_all(parts::part(buf, 0, a.length))
 }
 
-fn run(space: &mut [u8; 3145728], buf: &mut [u8; 3145728]) {
-    let n = io::read_full(STDIN_FILENO, space);
+fn run(
+    rt: &(impl Input + Print),
+    space: &mut [u8; 3145728],
+    buf: &mut [u8; 3145728],
+) -> io::Result<()> {
+    let n = streams::read_full(&mut rt.reader(), space)?;
     let file = parts::part(space, 0, n);
     match admit::admit(file) {
-        Admitted::Tape(t) => rewrite(file, t, buf),
-        Admitted::Refused(k) => refused(k),
+        Admitted::Tape(t) => rewrite(rt, file, t, buf),
+        Admitted::Refused(k) => refused(rt, k),
     }
 }
 
-fn main() {
+fn main(rt: HostRuntime) -> io::Result<()> {
     let mut space = [0u8; 3145728];
     let mut buf = [0u8; 3145728];
-    run(&mut space, &mut buf);
+    run(&rt, &mut space, &mut buf)
 }

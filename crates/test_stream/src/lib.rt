@@ -1,9 +1,10 @@
 #![tactic(auto)]
 // A stream on standard input: for each item its length as a u32, little-endian, then its bytes.
-ghost use Rattle.std.specs.Prelude.{◌≤◌, ◌≡◌, true, length};
+ghost use Rattle.std.specs.Prelude.{◌≤◌, ◌≡◌, true, length, IfOk};
 ghost use Rattle.test_stream.specs.Size.{size_of};
 
-use libc::{STDIN_FILENO, STDOUT_FILENO};
+use std::io;
+use std::io::Input;
 
 // An item of so many bytes, held at the front of a buffer; or the end.
 #[derive(Clone, Copy)]
@@ -13,27 +14,28 @@ pub enum Item {
 }
 
 // The next so many bytes of standard input, at the front of a buffer that has room for them.
-pub fn read_some(space: &mut [u8], size: usize) -> bool
-    ensures { result ≡ true → size ≤ length space.new }
+pub fn read_some(rt: &impl Input, space: &mut [u8], size: usize) -> io::Result<bool>
+    ensures { IfOk result (λ held. held ≡ true → size ≤ length space.new) }
 {
     if size <= space.len() {
-        io::read_full(STDIN_FILENO, &mut space[..size]) == size
+        let n = streams::read_full(&mut rt.reader(), &mut space[..size])?;
+        Ok(n == size)
     } else {
-        false
+        Ok(false)
     }
 }
 
 // The next item, at the front of a buffer; one that is longer than the buffer or is cut off ends the stream, and a line says so.
-pub fn next(space: &mut [u8]) -> Item
-    ensures { size_of result ≤ length space.new }
+pub fn next(rt: &(impl Input + Print), space: &mut [u8]) -> io::Result<Item>
+    ensures { IfOk result (λ item. size_of item ≤ length space.new) }
 {
-    if !read_some(space, 4) {
-        return Item::End;
+    if !read_some(rt, space, 4)? {
+        return Ok(Item::End);
     }
     let size = tape::length_of(space);
-    if read_some(space, size) {
-        return Item::Held(size);
+    if read_some(rt, space, size)? {
+        return Ok(Item::Held(size));
     }
-    io::write_all(STDOUT_FILENO, b"too long\n");
-    Item::End
+    rt.write_all(b"too long\n")?;
+    Ok(Item::End)
 }

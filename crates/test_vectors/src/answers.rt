@@ -2,7 +2,7 @@
 ghost use Rattle.window.specs.Page.{page_of};
 ghost use Rattle.test_vectors.specs.Front.{Written};
 
-use libc::STDOUT_FILENO;
+use std::io;
 use window::Window;
 use words::{Part, Set};
 
@@ -156,14 +156,14 @@ pub fn answer(code: usize, set: Set, n: usize, s: &[u8], out: &mut [u8]) -> usiz
 }
 
 // The name of an operation, and a space.
-pub fn print_name(op: usize) {
+pub fn print_name(rt: &impl Print, op: usize) -> io::Result<()> {
     let row =
         b"is_utf8 first_char is_boundary is_white is_ascii_white trim_start trim_end trim is_blank first_word after_word nth_word last_word escape_xml escape_xml_attr put_number find_byte find_pair begins_with same part next_word";
     let word = words::nth_word(row, Set::Ascii, op);
-    line(parts::part(row, word.start, word.len));
-    line(b" ");
+    line(rt, parts::part(row, word.start, word.len))?;
+    line(rt, b" ")
 }
 
-fn line(text: &[u8]) {
-    io::write_all(STDOUT_FILENO, text);
+fn line(rt: &impl Print, text: &[u8]) -> io::Result<()> {
+    rt.write_all(text)
 }

@@ -5,7 +5,8 @@
 // little-endian), input, answer. How the list is made: oracle/src/bin/vectors.rs.
 mod answers;
 
-use libc::STDOUT_FILENO;
+use std::io;
+use std::io::Input;
 use test_stream::read_some;
 use words::Set;
 
@@ -57,55 +58,64 @@ fn compared(t: Tally, head: &[u8], body: &[u8], out: &mut [u8]) -> Tally {
 }
 
 // One record: its head, its input and answer behind one another, what the crates answer.
-fn step(t: Tally, head: &mut [u8], body: &mut [u8], out: &mut [u8]) -> Tally {
-    if !read_some(head, 8) {
-        return ended(t);
+fn step(
+    rt: &impl Input,
+    t: Tally,
+    head: &mut [u8],
+    body: &mut [u8],
+    out: &mut [u8],
+) -> io::Result<Tally> {
+    if !read_some(rt, head, 8)? {
+        return Ok(ended(t));
     }
     let size = std::num::wrapping_add_usize(number(head, 4), number(head, 6));
-    if read_some(body, size) {
-        compared(t, head, body, out)
+    if read_some(rt, body, size)? {
+        Ok(compared(t, head, body, out))
     } else {
-        ended(counted(t, 0, false))
+        Ok(ended(counted(t, 0, false)))
     }
 }
 
-fn run(t: Tally, head: &mut [u8], body: &mut [u8], out: &mut [u8]) -> Tally {
+fn run(
+    rt: &impl Input,
+    t: Tally,
+    head: &mut [u8],
+    body: &mut [u8],
+    out: &mut [u8],
+) -> io::Result<Tally> {
     let mut next = t;
-    let mut turns: u32 = u32::MAX;
-    while turns > 0 {
-        next = step(next, head, body, out);
+    for _ in 0..u32::MAX {
+        next = step(rt, next, head, body, out)?;
         if next.done {
-            return next;
+            return Ok(next);
         }
-        turns -= 1;
     }
-    next
+    Ok(next)
 }
 
-fn print_count(n: u64) {
-    io::print_decimal(STDOUT_FILENO, n);
-    io::write_all(STDOUT_FILENO, b"\n");
+fn print_count(rt: &impl Print, n: u64) -> io::Result<()> {
+    rt.print(n)?;
+    rt.write_all(b"\n")
 }
 
-fn report(t: Tally) {
-    let mut i: usize = 0;
-    while i < 22 {
-        answers::print_name(i);
-        print_count(t.agree[i]);
-        i += 1;
+fn report(rt: &impl Print, t: Tally) -> io::Result<()> {
+    for i in 0..22 {
+        answers::print_name(rt, i)?;
+        print_count(rt, t.agree[i])?;
     }
-    io::write_all(STDOUT_FILENO, b"differ ");
-    print_count(t.differ);
+    rt.write_all(b"differ ")?;
+    print_count(rt, t.differ)
 }
 
-fn main() {
+fn main(rt: HostRuntime) -> io::Result<()> {
     let mut head = [0u8; 8];
-    let mut body = io::buffer();
-    let mut out = io::buffer();
+    let mut body = [0u8; 4096];
+    let mut out = [0u8; 4096];
     let t = Tally {
         agree: [0u64; 22],
         differ: 0,
         done: false,
     };
-    report(run(t, &mut head, &mut body, &mut out));
+    let counts = run(&rt, t, &mut head, &mut body, &mut out)?;
+    report(&rt, counts)
 }

@@ -6,9 +6,11 @@
 //
 // The stored stream is made by .ci/stored: `oracle both-sides` (document 01's examples 1 to 13 and its listing), then `gen structured 91 24`, `gen random 91 24`,
 // `gen damaged 91 48` and `gen glued 91 8`, cut by `oracle cuts`. What must be written of it is what `oracle windows` writes, by the Rust's own text.
-ghost use Rattle.std.specs.Prelude.{◌^◌, ◌<◌};
+ghost use Rattle.std.specs.Prelude.{◌≡◌, ◌^◌, ◌<◌, IfOk, vec_len};
 
-use libc::STDOUT_FILENO;
+use std::alloc::{AllocError, Global};
+use std::io;
+use std::io::Input;
 use test_stream::Item;
 use usx::Shown;
 
@@ -29,14 +31,14 @@ fn wide(n: usize) -> u64 {
     n as u64
 }
 
-fn say(run: &[u8]) {
-    io::write_all(STDOUT_FILENO, run);
+fn say(rt: &impl Print, run: &[u8]) -> io::Result<()> {
+    rt.write_all(run)
 }
 
 // A word and a number behind it.
-fn say_number(word: &[u8], n: u64) {
-    say(word);
-    io::print_decimal(STDOUT_FILENO, n);
+fn say_number(rt: &impl Print, word: &[u8], n: u64) -> io::Result<()> {
+    say(rt, word)?;
+    rt.print(n)
 }
 
 // The number of four bytes at a place.
@@ -75,64 +77,78 @@ fn refused(t: Tally, number: u8, buffer: &[u8]) -> Tally {
 }
 
 // One window, and the bytes that it shows.
-fn call(file: &[u8], t: Tally, buffer: &mut [u8]) -> Tally {
+fn call(rt: &impl Print, file: &[u8], t: Tally, buffer: &mut [u8]) -> io::Result<Tally> {
     test_marks::fill(buffer);
     match usx::window(file, t.at, buffer) {
         Shown::Given { bytes, whole } => {
-            say(parts::part(buffer, 0, bytes));
-            shown(t, bytes, whole, buffer)
+            say(rt, parts::part(buffer, 0, bytes))?;
+            Ok(shown(t, bytes, whole, buffer))
         }
-        Shown::Refused(n) => refused(t, n, buffer),
+        Shown::Refused(n) => Ok(refused(t, n, buffer)),
     }
 }
 
 // One window in so much of a buffer, or in all of it.
-fn call_with(file: &[u8], t: Tally, out: &mut [u8], room: usize) -> Tally {
+fn call_with(
+    rt: &impl Print,
+    file: &[u8],
+    t: Tally,
+    out: &mut [u8],
+    room: usize,
+) -> io::Result<Tally> {
     if room <= out.len() {
-        return call(file, t, &mut out[..room]);
+        return call(rt, file, t, &mut out[..room]);
     }
-    call(file, t, out)
+    call(rt, file, t, out)
 }
 
 // ---- runs
 
 // A window for each length of a list, until one ends the run.
-fn pass(file: &[u8], rooms: &[u8], first: Tally, out: &mut [u8]) -> Tally {
+fn pass(
+    rt: &impl Print,
+    file: &[u8],
+    rooms: &[u8],
+    first: Tally,
+    out: &mut [u8],
+) -> io::Result<Tally> {
     let mut t = first;
-    let mut i = 0;
-    while i < rooms.len() / 4 {
-        t = call_with(file, t, out, word(rooms, 4 * i));
+    for i in 0..rooms.len() / 4 {
+        t = call_with(rt, file, t, out, word(rooms, 4 * i))?;
         if t.ended {
-            return t;
+            return Ok(t);
         }
-        i += 1;
     }
-    t
+    Ok(t)
 }
 
 // The list again and again, until the run ends or a pass gave no byte.
-fn passes(file: &[u8], rooms: &[u8], first: Tally, out: &mut [u8]) -> Tally {
+fn passes(
+    rt: &impl Print,
+    file: &[u8],
+    rooms: &[u8],
+    first: Tally,
+    out: &mut [u8],
+) -> io::Result<Tally> {
     let mut t = first;
-    let mut turns: u32 = u32::MAX;
-    while turns > 0 {
+    for _ in 0..u32::MAX {
         let before = t.given;
-        t = pass(file, rooms, t, out);
+        t = pass(rt, file, rooms, t, out)?;
         if t.ended || t.given == before {
-            return t;
+            return Ok(t);
         }
-        turns -= 1;
     }
-    t
+    Ok(t)
 }
 
-fn line(from: usize, t: Tally) {
-    say_number(b"\nfrom ", wide(from));
-    say_number(b": number ", t.number as u64);
-    say_number(b", whole ", wide(t.whole));
-    say_number(b", ", t.calls);
-    say_number(b" calls, ", t.given);
-    say_number(b" given, ", t.unchanged);
-    say(b" unchanged\n");
+fn line(rt: &impl Print, from: usize, t: Tally) -> io::Result<()> {
+    say_number(rt, b"\nfrom ", wide(from))?;
+    say_number(rt, b": number ", t.number as u64)?;
+    say_number(rt, b", whole ", wide(t.whole))?;
+    say_number(rt, b", ", t.calls)?;
+    say_number(rt, b" calls, ", t.given)?;
+    say_number(rt, b" given, ", t.unchanged)?;
+    say(rt, b" unchanged\n")
 }
 
 // Where the windows of a run begin.
@@ -141,7 +157,7 @@ fn start(run: &[u8]) -> usize {
 }
 
 // One run: what its windows show, and its line.
-fn replay(file: &[u8], run: &[u8], out: &mut [u8]) {
+fn replay(rt: &impl Print, file: &[u8], run: &[u8], out: &mut [u8]) -> io::Result<()> {
     let from = start(run);
     let first = Tally {
         at: from,
@@ -152,7 +168,8 @@ fn replay(file: &[u8], run: &[u8], out: &mut [u8]) {
         unchanged: 0,
         ended: false,
     };
-    line(from, passes(file, parts::from(run, 12), first, out));
+    let last = passes(rt, file, parts::from(run, 12), first, out)?;
+    line(rt, from, last)
 }
 
 // ---- the stream
@@ -169,51 +186,66 @@ fn behind(list: &[u8], at: usize) -> usize {
 }
 
 // All runs of a tape.
-fn runs(file: &[u8], list: &[u8], out: &mut [u8]) {
+fn runs(rt: &impl Print, file: &[u8], list: &[u8], out: &mut [u8]) -> io::Result<()> {
     let mut at = 0;
     while at < list.len() {
         let next = behind(list, at);
         if next <= at {
-            say(b"cut off\n");
-            return;
+            return say(rt, b"cut off\n");
         }
-        replay(file, parts::part(list, at, next - at), out);
+        replay(rt, file, parts::part(list, at, next - at), out)?;
         at = next;
     }
+    Ok(())
 }
 
 // One tape of the stream with its runs; false at its end.
-fn step(space: &mut [u8], list: &mut [u8], out: &mut [u8]) -> bool {
-    let Item::Held(size) = test_stream::next(space) else {
-        return false;
+fn step(
+    rt: &(impl Input + Print),
+    space: &mut [u8],
+    list: &mut [u8],
+    out: &mut [u8],
+) -> io::Result<bool> {
+    let Item::Held(size) = test_stream::next(rt, space)? else {
+        return Ok(false);
     };
-    let Item::Held(length) = test_stream::next(list) else {
-        return false;
+    let Item::Held(length) = test_stream::next(rt, list)? else {
+        return Ok(false);
     };
     runs(
+        rt,
         parts::part(space, 0, size),
         parts::part(list, 0, length),
         out,
-    );
-    say(b"\n");
-    true
+    )?;
+    say(rt, b"\n")?;
+    Ok(true)
 }
 
-fn run(space: &mut [u8], list: &mut [u8], out: &mut [u8]) {
-    let mut turns: u32 = u32::MAX;
-    while turns > 0 && step(space, list, out) {
-        turns -= 1;
+fn run(
+    rt: &(impl Input + Print),
+    space: &mut [u8],
+    list: &mut [u8],
+    out: &mut [u8],
+) -> io::Result<()> {
+    for _ in 0..u32::MAX {
+        if !step(rt, space, list, out)? {
+            return Ok(());
+        }
     }
+    Ok(())
 }
 
-// Room for the longest tape.
-fn tape_buffer() -> [u8; 3145728] {
-    [0; 3145728]
+// Room for the longest tape, on the heap: the stack holds the other buffers.
+fn tape_buffer(alloc: Global) -> Result<Vec<u8>, AllocError>
+    ensures { IfOk result (λ v. vec_len v ≡ 3145728) }
+{
+    vec![in alloc; 0; 3145728]
 }
 
-fn main() {
-    let mut space = tape_buffer();
-    let mut list = io::large_buffer();
-    let mut out = io::large_buffer();
-    run(&mut space, &mut list, &mut out);
+fn main(rt: HostRuntime) -> io::Result<()> {
+    let mut space = tape_buffer(rt.alloc())?;
+    let mut list = [0u8; 65536];
+    let mut out = [0u8; 65536];
+    run(&rt, &mut space, &mut list, &mut out)
 }

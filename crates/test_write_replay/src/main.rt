@@ -6,7 +6,8 @@
 // 61 20`. What must be written of them is what `oracle steps` writes, by a second writer in Rust.
 ghost use Rattle.std.specs.Prelude.{◌<◌};
 
-use libc::STDOUT_FILENO;
+use std::io;
+use std::io::Input;
 use tape::{Entry, short};
 use test_stream::Item;
 use writer::{Answer, Writer};
@@ -40,7 +41,7 @@ fn place(s: &[u8], at: usize) -> usize {
 // A copy of a buffer, at the front of one that is no shorter.
 fn keep(buf: &[u8], old: &mut [u8]) {
     if buf.len() <= old.len() {
-        bytes::copy(buf, old);
+        old[..buf.len()].copy_from_slice(buf);
     }
 }
 
@@ -143,18 +144,25 @@ fn by_hand(s: &[u8]) -> Writer {
 // ---- lists
 
 // One step with its lines; the state behind it.
-fn turn(s: &[u8], w: Writer, buf: &mut [u8], old: &mut [u8], out: &mut [u8]) -> Writer {
+fn turn(
+    rt: &impl Print,
+    s: &[u8],
+    w: Writer,
+    buf: &mut [u8],
+    old: &mut [u8],
+    out: &mut [u8],
+) -> io::Result<Writer> {
     let code = parts::byte_at(s, 0);
     if code == STATE {
         let set = by_hand(s);
-        report_steps::say_state(out, set);
-        return set;
+        report_steps::say_state(rt, out, set)?;
+        return Ok(set);
     }
     keep(buf, old);
     let a = step(code, s, w, buf);
-    report_steps::say_step(out, code, a, old, buf);
-    report_steps::say_file(out, code, a, buf);
-    a.writer
+    report_steps::say_step(rt, out, code, a, old, buf)?;
+    report_steps::say_file(rt, out, code, a, buf)?;
+    Ok(a.writer)
 }
 
 // The place behind the step at a place; that place itself where the step is cut off or unknown.
@@ -169,17 +177,24 @@ fn behind(list: &[u8], at: usize) -> usize {
 }
 
 // All steps of a list.
-fn steps(list: &[u8], buf: &mut [u8], old: &mut [u8], out: &mut [u8]) {
+fn steps(
+    rt: &impl Print,
+    list: &[u8],
+    buf: &mut [u8],
+    old: &mut [u8],
+    out: &mut [u8],
+) -> io::Result<()> {
     let mut w = writer::new();
     let mut at = 5;
     while at < list.len() {
         let next = behind(list, at);
         if next <= at {
-            return;
+            return Ok(());
         }
-        w = turn(parts::from(list, at), w, buf, old, out);
+        w = turn(rt, parts::from(list, at), w, buf, old, out)?;
         at = next;
     }
+    Ok(())
 }
 
 // The buffer before the first step: each byte is 7 more than the one before it, modulo 256.
@@ -193,36 +208,61 @@ fn fill(buf: &mut [u8], first: u8) {
     }
 }
 
-fn replay(list: &[u8], buf: &mut [u8], old: &mut [u8], out: &mut [u8]) {
+fn replay(
+    rt: &impl Print,
+    list: &[u8],
+    buf: &mut [u8],
+    old: &mut [u8],
+    out: &mut [u8],
+) -> io::Result<()> {
     fill(buf, parts::byte_at(list, 4));
-    steps(list, buf, old, out);
+    steps(rt, list, buf, old, out)
 }
 
 // A list, with a buffer of so many bytes as it says.
-fn replay_in(list: &[u8], space: &mut [u8], old: &mut [u8], out: &mut [u8]) {
+fn replay_in(
+    rt: &impl Print,
+    list: &[u8],
+    space: &mut [u8],
+    old: &mut [u8],
+    out: &mut [u8],
+) -> io::Result<()> {
     let room = place(list, 0);
     if room <= space.len() {
-        replay(list, &mut space[..room], old, out);
-        return;
+        return replay(rt, list, &mut space[..room], old, out);
     }
-    io::write_all(STDOUT_FILENO, b"too much room\n");
+    rt.write_all(b"too much room\n")
 }
 
 // One list of the stream; false at its end.
-fn next(item: &mut [u8], space: &mut [u8], old: &mut [u8], out: &mut [u8]) -> bool {
-    let Item::Held(size) = test_stream::next(item) else {
-        return false;
+fn next(
+    rt: &(impl Input + Print),
+    item: &mut [u8],
+    space: &mut [u8],
+    old: &mut [u8],
+    out: &mut [u8],
+) -> io::Result<bool> {
+    let Item::Held(size) = test_stream::next(rt, item)? else {
+        return Ok(false);
     };
-    replay_in(parts::part(item, 0, size), space, old, out);
-    io::write_all(STDOUT_FILENO, b"\n");
-    true
+    replay_in(rt, parts::part(item, 0, size), space, old, out)?;
+    rt.write_all(b"\n")?;
+    Ok(true)
 }
 
-fn run(item: &mut [u8], space: &mut [u8], old: &mut [u8], out: &mut [u8]) {
-    let mut turns: u32 = u32::MAX;
-    while turns > 0 && next(item, space, old, out) {
-        turns -= 1;
+fn run(
+    rt: &(impl Input + Print),
+    item: &mut [u8],
+    space: &mut [u8],
+    old: &mut [u8],
+    out: &mut [u8],
+) -> io::Result<()> {
+    for _ in 0..u32::MAX {
+        if !next(rt, item, space, old, out)? {
+            return Ok(());
+        }
     }
+    Ok(())
 }
 
 // Room for the longest line: all bytes of the longest buffer in base 16.
@@ -230,10 +270,10 @@ fn line_buffer() -> [u8; 262144] {
     [0; 262144]
 }
 
-fn main() {
-    let mut item = io::large_buffer();
-    let mut space = io::large_buffer();
-    let mut old = io::large_buffer();
+fn main(rt: HostRuntime) -> io::Result<()> {
+    let mut item = [0u8; 65536];
+    let mut space = [0u8; 65536];
+    let mut old = [0u8; 65536];
     let mut out = line_buffer();
-    run(&mut item, &mut space, &mut old, &mut out);
+    run(&rt, &mut item, &mut space, &mut old, &mut out)
 }

@@ -1,42 +1,44 @@
 #![tactic(auto)]
 // The printing program: reads one tape file from standard input and writes its USX text, or `refused`, document 01's number and the length given.
-use libc::{STDIN_FILENO, STDOUT_FILENO};
+use std::io;
+use std::io::Input;
 use usx::Answer;
 
 fn wide(n: usize) -> u64 {
     n as u64
 }
 
-fn refused(number: u64, length: usize) {
-    io::write_all(STDOUT_FILENO, b"refused ");
-    io::print_decimal(STDOUT_FILENO, number);
-    io::write_all(STDOUT_FILENO, b" ");
-    io::print_decimal(STDOUT_FILENO, wide(length));
-    io::write_all(STDOUT_FILENO, b"\n");
+fn refused(rt: &impl Print, number: u64, length: usize) -> io::Result<()> {
+    rt.write_all(b"refused ")?;
+    rt.print(number)?;
+    rt.write_all(b" ")?;
+    rt.print(wide(length))?;
+    rt.write_all(b"\n")
 }
 
-fn print(file: &[u8], out: &mut [u8]) {
+fn print(rt: &impl Print, file: &[u8], out: &mut [u8]) -> io::Result<()> {
     match usx::serialize(file, out) {
-        Answer::Written(n) => {
-            io::write_all(STDOUT_FILENO, parts::part(out, 0, n));
-        }
-        Answer::Refused(n) => refused(n as u64, 0),
-        Answer::NoRoom(n) => refused(8, n),
+        Answer::Written(n) => rt.write_all(parts::part(out, 0, n)),
+        Answer::Refused(n) => refused(rt, n as u64, 0),
+        Answer::NoRoom(n) => refused(rt, 8, n),
     }
 }
 
 // A tape has at most 65,536 bytes; one byte more shows that there is more than that.
-fn run(space: &mut [u8; 65537], out: &mut [u8; 65536]) {
-    let n = io::read_full(STDIN_FILENO, space);
+fn run(
+    rt: &(impl Input + Print),
+    space: &mut [u8; 65537],
+    out: &mut [u8; 65536],
+) -> io::Result<()> {
+    let n = streams::read_full(&mut rt.reader(), space)?;
     if n > 65536 {
-        refused(2, 0);
-        return;
+        return refused(rt, 2, 0);
     }
-    print(parts::part(space, 0, n), out);
+    print(rt, parts::part(space, 0, n), out)
 }
 
-fn main() {
+fn main(rt: HostRuntime) -> io::Result<()> {
     let mut space = [0u8; 65537];
     let mut out = [0u8; 65536];
-    run(&mut space, &mut out);
+    run(&rt, &mut space, &mut out)
 }

@@ -1,0 +1,5 @@
+use Rattle.test_vectors.specs.Front.{by}
+use Rattle.test_vectors.proofs.answers.count.Goals as goal
+
+pub returns : goal.returns
+returns c = search by
