@@ -46,11 +46,11 @@ legal_reads c v [] nil f = done refl
 legal_reads c v (text t ∷ ts) (a_text n k apart l) f =
     text_reads t (write_all ts) (text_no_tag t k) (text_no_end t k) (legal_reads c v ts l (behind c v words (views ts) f))
 legal_reads c v (opens n ps ∷ ts) (an_open h hs l) f =
-    tag false n ps (write_all ts) refl h hs (first_fits c v _ (views ts) f) (legal_reads _ _ ts l (behind c v (view (opens n ps)) (views ts) f))
+    tag false n ps (write_all ts) refl h hs (first_fits c v _ (views ts) f) (legal_reads (since 3 c (view (opens n ps))) (since 4 v (view (opens n ps))) ts l (behind c v (view (opens n ps)) (views ts) f))
 legal_reads c v (closes n ∷ ts) (a_close h l) f =
     close n (write_all ts) refl h (first_fits c v _ (views ts) f) (legal_reads c v ts l (behind c v (view (closes n)) (views ts) f))
 legal_reads c v (empty n ps ∷ ts) (an_empty h hs l) f =
-    tag true n ps (write_all ts) refl h hs (first_fits c v _ (views ts) f) (legal_reads _ _ ts l (behind c v (view (empty n ps)) (views ts) f))
+    tag true n ps (write_all ts) refl h hs (first_fits c v _ (views ts) f) (legal_reads (since 3 c (view (empty n ps))) (since 4 v (view (empty n ps))) ts l (behind c v (view (empty n ps)) (views ts) f))
 
 -- from nothing open
 pub form_reads : (s : Bytes) (ts : List Token) → TagForm s ts → Demand (views ts) → Reads shut shut s
