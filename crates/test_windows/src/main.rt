@@ -6,9 +6,8 @@
 //
 // The stored stream is made by .ci/stored: `oracle both-sides` (document 01's examples 1 to 13 and its listing), then `gen structured 91 24`, `gen random 91 24`,
 // `gen damaged 91 48` and `gen glued 91 8`, cut by `oracle cuts`. What must be written of it is what `oracle windows` writes, by the Rust's own text.
-ghost use Rattle.std.specs.Prelude.{◌≡◌, ◌^◌, ◌<◌, IfOk, vec_len};
+ghost use Rattle.std.specs.Prelude.{◌^◌, ◌<◌};
 
-use std::alloc::{AllocError, Global};
 use std::io;
 use std::io::Input;
 use test_stream::Item;
@@ -236,15 +235,13 @@ fn run(
     Ok(())
 }
 
-// Room for the longest tape, on the heap: the stack holds the other buffers.
-fn tape_buffer(alloc: Global) -> Result<Vec<u8>, AllocError>
-    ensures { IfOk result (λ v. vec_len v ≡ 3145728) }
-{
-    vec![in alloc; 0; 3145728]
+// Room for the longest tape.
+fn tape_buffer() -> [u8; 3145728] {
+    [0; 3145728]
 }
 
 fn main(rt: HostRuntime) -> io::Result<()> {
-    let mut space = tape_buffer(rt.alloc())?;
+    let mut space = tape_buffer();
     let mut list = [0u8; 65536];
     let mut out = [0u8; 65536];
     run(&rt, &mut space, &mut list, &mut out)
