@@ -32,9 +32,11 @@ inline-loop-step-preserved-in-Written t c =
     let u : Tape = tape_in c.args.tape c.args.file.now in
     let m : ℕ → Bool → List Event = node_in_of (inside_of u c.args.depth) u in
     let l = c.loop-step in
-    let s : Desk = desk_of u.source l.s l.desk l.out in
-    (inline_lone m u c.args.span c.args.parent c.args.outer l.known l.trim s l.invariant.0 c.in-At.c u.source l.s l.desk l.out c.lone.new.desk c.lone.new.out c.lone.result refl c.lone.ensures.put_as c.lone.ensures.keeps_behind
-        c.in-Written.is c.in-At.is c.sort_in.ensures c.in-Enter.is c.next_sibling-step.ensures, (search kept_here, omega (arith, l.invariant.1.1, c.lone.auto.out)))
+    let s : Desk = desk_of u.source l.s l.desk l.out in (
+      inline_lone m u c.args.span c.args.parent c.args.outer l.known l.trim s l.invariant.0 c.in-At.c u.source l.s l.desk l.out c.lone.new.desk c.lone.new.out c.lone.result refl c.lone.ensures.put_as c.lone.ensures.keeps_behind
+          c.in-Written.is c.in-At.is c.sort_in.ensures c.in-Enter.is c.next_sibling-step.ensures,
+      (search kept_here, omega (arith, l.invariant.1.1, c.lone.auto.out)),
+    )
 
 pub inline-loop-step-smaller-in-Nothing : goal.inline-loop-step-smaller-in-Nothing
 inline-loop-step-smaller-in-Nothing t c = left-turn _ _ c.in-At.is c.next_sibling-step-in-Nothing.ensures
@@ -46,9 +48,11 @@ inline-loop-step-preserved-in-Nothing t c =
     let l = c.loop-step in
     let s : Desk = desk_of u.source l.s c.lone.new.desk c.lone.new.out in
     let same : s ≡ desk_of u.source l.s l.desk l.out =
-        put_nothing u.source l.s l.desk l.out (m c.in-At.c.at true) c.lone.new.desk c.lone.new.out {r = c.lone.result} (c.lone.ensures.put_as true) c.in-Nothing.is in
-    (inline-entered m u c.args.span c.args.parent c.args.outer l.known l.trim s (from_same same _ l.invariant.0) c.in-At.is c.sort_in.ensures c.in-Enter.is c.ask-known.ensures c.follows.ensures c.node-s.ensures c.trims_after-trim.ensures
-        c.next_sibling-step-in-Nothing.ensures, (search kept_here, omega (arith, l.invariant.1.1, c.lone.auto.out, c.node-s.auto.out)))
+    put_nothing u.source l.s l.desk l.out (m c.in-At.c.at true) c.lone.new.desk c.lone.new.out {r = c.lone.result} (c.lone.ensures.put_as true) c.in-Nothing.is in (
+      inline-entered m u c.args.span c.args.parent c.args.outer l.known l.trim s (from_same same _ l.invariant.0) c.in-At.is c.sort_in.ensures c.in-Enter.is c.ask-known.ensures c.follows.ensures c.node-s.ensures c.trims_after-trim.ensures
+          c.next_sibling-step-in-Nothing.ensures,
+      (search kept_here, omega (arith, l.invariant.1.1, c.lone.auto.out, c.node-s.auto.out)),
+    )
 
 pub inline-loop-step-smaller : goal.inline-loop-step-smaller
 inline-loop-step-smaller t c = search left_behind
@@ -103,9 +107,11 @@ note_inline-loop-step-preserved-in-Written t c =
     let u : Tape = tape_in c.args.tape c.args.file.now in
     let m : ℕ → Bool → List Event = node_in_of (inside_of u c.args.depth) u in
     let l = c.loop-step in
-    let s : Desk = desk_of u.source l.s l.desk l.out in
-    (note_lone m u (c.args.parent.at + 1) c.args.parent c.args.outer l.known l.trim s l.invariant.0 c.in-At.c u.source l.s l.desk l.out c.lone.new.desk c.lone.new.out c.lone.result refl c.lone.ensures.put_as c.lone.ensures.keeps_behind
-        c.in-Written.is c.in-At.is c.note_sort.ensures c.in-Enter.is c.next_sibling-step.ensures, (search kept_here, omega (arith, l.invariant.1.1, c.lone.auto.out)))
+    let s : Desk = desk_of u.source l.s l.desk l.out in (
+      note_lone m u (c.args.parent.at + 1) c.args.parent c.args.outer l.known l.trim s l.invariant.0 c.in-At.c u.source l.s l.desk l.out c.lone.new.desk c.lone.new.out c.lone.result refl c.lone.ensures.put_as c.lone.ensures.keeps_behind
+          c.in-Written.is c.in-At.is c.note_sort.ensures c.in-Enter.is c.next_sibling-step.ensures,
+      (search kept_here, omega (arith, l.invariant.1.1, c.lone.auto.out)),
+    )
 
 pub note_inline-loop-step-smaller-in-Nothing : goal.note_inline-loop-step-smaller-in-Nothing
 note_inline-loop-step-smaller-in-Nothing t c = left-turn _ _ c.in-At.is c.next_sibling-step-in-Nothing.ensures
@@ -117,9 +123,11 @@ note_inline-loop-step-preserved-in-Nothing t c =
     let l = c.loop-step in
     let s : Desk = desk_of u.source l.s c.lone.new.desk c.lone.new.out in
     let same : s ≡ desk_of u.source l.s l.desk l.out =
-        put_nothing u.source l.s l.desk l.out (m c.in-At.c.at true) c.lone.new.desk c.lone.new.out {r = c.lone.result} (c.lone.ensures.put_as true) c.in-Nothing.is in
-    (note-entered m u (c.args.parent.at + 1) c.args.parent c.args.outer l.known l.trim s (from_same same _ l.invariant.0) c.in-At.is c.note_sort.ensures c.in-Enter.is c.ask-known.ensures c.follows.ensures c.node-s.ensures c.trims_after-trim.ensures
-        c.next_sibling-step-in-Nothing.ensures, (search kept_here, omega (arith, l.invariant.1.1, c.lone.auto.out, c.node-s.auto.out)))
+    put_nothing u.source l.s l.desk l.out (m c.in-At.c.at true) c.lone.new.desk c.lone.new.out {r = c.lone.result} (c.lone.ensures.put_as true) c.in-Nothing.is in (
+      note-entered m u (c.args.parent.at + 1) c.args.parent c.args.outer l.known l.trim s (from_same same _ l.invariant.0) c.in-At.is c.note_sort.ensures c.in-Enter.is c.ask-known.ensures c.follows.ensures c.node-s.ensures c.trims_after-trim.ensures
+          c.next_sibling-step-in-Nothing.ensures,
+      (search kept_here, omega (arith, l.invariant.1.1, c.lone.auto.out, c.node-s.auto.out)),
+    )
 
 pub note_inline-loop-step-smaller : goal.note_inline-loop-step-smaller
 note_inline-loop-step-smaller t c = search left_behind

@@ -21,12 +21,12 @@ returns c =
     let k : ℕ = s.c.at in
     let closed : Drew o.result o.new.desk o.new.out (strokes_of_attrs (unclosed t k)) one.d one.desk one.out =
     elim one.branch [
-        then-ends_synthetic w ↦ drew_met _ _ _ w.put_unclosed-d.ensures w.desk-is w.out-is w.d-is
+      | then-ends_synthetic w ↦ drew_met _ _ _ w.put_unclosed-d.ensures w.desk-is w.out-is w.d-is
       | else-ends_synthetic w ↦ drew_met _ _ _ (unclosed-none t k c.ends_synthetic.ensures _ w.if-ends_synthetic.false) w.desk-is w.out-is w.d-is
     ] in
     let given : Drew one.d one.desk one.out (strokes_of_attrs (collected (attributes_of t k name.result.now))) two.e two.desk two.out =
     elim two.branch [
-        then-is_bare w ↦ drew_met _ _ _ (none_drawn _ (c.is_bare.ensures w.if-is_bare.true _)) w.desk-is w.out-is w.e-is
+      | then-is_bare w ↦ drew_met _ _ _ (none_drawn _ (c.is_bare.ensures w.if-is_bare.true _)) w.desk-is w.out-is w.e-is
       | else-is_bare w ↦ drew_met _ _ _ w.put_collected-e.ensures w.desk-is w.out-is w.e-is
     ] in
     char_drawn t k _ _ _ _ _ name.ensures.bytes o.ensures closed given c.end_tag.ensures
