@@ -5,4 +5,5 @@ pub mod Told
 pub mod Segments
 pub mod Bodies
 pub mod Tidy
+pub mod Again
 pub mod Examples
