@@ -155,11 +155,11 @@ module _ (k : ℕ) (qs : List Attr) (i : Bytes) (z : List Item) (m : mark_on bar
   unfolding pairs pairs_of_of value_of rawly
   each_agrees e =
       let only : e.ends ≡ rawly (b "eid") i ∷ [] = next_one k e.between a.between e.ends _ e.after a.after e.next a.next (sym e.here ∙ a.here) in
-      let is-eid : i ≡ e.eid = eid_one i e.eid (sym (ap pairs_of_of only) ∙ e.eid_is) in
-      let is-sid : e.sid ≡ escape true i = start_id e.sid (escape true i) (sym ((start_exact (pairs_of_of qs) e.sid).1 e.sid_is) ∙ m) in
+      let is_eid : i ≡ e.eid = eid_one i e.eid (sym (ap pairs_of_of only) ∙ e.eid_is) in
+      let is_sid : e.sid ≡ escape true i = start_id e.sid (escape true i) (sym ((start_exact (pairs_of_of qs) e.sid).1 e.sid_is) ∙ m) in
       record {
         before = eid_one e.identifier i (sym e.identifier_is ∙ ap pairs only);
-        text = (λ s. (free-escape i).1 (sym is-sid ∙ s ∙ sym is-eid), λ f. is-sid ∙ (free-escape i).0 f ∙ is-eid);
+        text = (λ s. (free-escape i).1 (sym is_sid ∙ s ∙ sym is_eid), λ f. is_sid ∙ (free-escape i).0 f ∙ is_eid);
       }
 
   ended : EndsAt k qs i z

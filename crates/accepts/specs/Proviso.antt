@@ -8,7 +8,7 @@ use Rattle.render.specs.Shape.{is_open, is_verse_of, is_element_of}
 use Rattle.render.specs.Label.{label_of}
 use Rattle.render.specs.Note.{book_code_of}
 use Rattle.attrs.specs.Attr.{Pair, attributes_of}
-use Rattle.events.specs.Walk.{Role, unknownBlock, unknownInline, unwritten, figure, ref, id, note, ms, char, para, role_of}
+use Rattle.events.specs.Walk.{Role, unknown_block, unknown_inline, unwritten, figure, ref, id, note, ms, char, para, role_of}
 use Rattle.tape.specs.Element as elements
 
 -- ---- the four bytes
@@ -39,8 +39,8 @@ name_where has w s = cond has (record { what = w; bytes = s } ∷ []) []
 
 -- whether a marker is written as the book
 unfoldable pub is_id : Role → Bool
-is_id unknownBlock = false
-is_id unknownInline = false
+is_id unknown_block = false
+is_id unknown_inline = false
 is_id unwritten = false
 is_id figure = false
 is_id ref = false
@@ -56,8 +56,8 @@ has_code t k = is_open t k && is_id (role_of t k)
 
 -- the name by which a marker of this role collects, where its own is given
 unfoldable pub collects_for : Role → Bytes → Bytes
-collects_for unknownBlock name = name
-collects_for unknownInline name = name
+collects_for unknown_block name = name
+collects_for unknown_inline name = name
 collects_for unwritten name = name
 collects_for figure name = b "fig"
 collects_for ref name = b "ref"

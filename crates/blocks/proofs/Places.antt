@@ -24,12 +24,12 @@ use Rattle.lists.specs.declared.Folds.{Folds}
 use Rattle.lists.proofs.Nodes.{nodes_go}
 use Rattle.tags.specs.Items.{start, close, line}
 use Rattle.events.specs.Event.{Event, item, chapter, rawly, element}
-use Rattle.events.specs.Walk.{styled, Place, aRow, aChapter, aSidebar, aPeriph, aBlock, aVerse, dropped, place_of, is_figure, node_in_of, inside, inline_all, table_e, block_turn, blocks_all_of, blocks_on}
+use Rattle.events.specs.Walk.{styled, Place, a_row_of, a_chapter_of, a_sidebar_of, a_periph_of, a_block, a_verse_of, dropped, place_of, is_figure, node_in_of, inside, inline_all, table_e, block_turn, blocks_all_of, blocks_on}
 use Rattle.events.specs.Emit.{Desk, emit, emit_all}
 use Rattle.events.proofs.Emits.{between, then, besides_on}
 use Rattle.events.proofs.Turns.{blocks_turn}
 use Rattle.desk.specs.Desk.{desk_of}
-use Rattle.desk.specs.Stroke.{opens, key, piece, endValue, ends, closes, strokes_of_attr, strokes_of_attrs, strokes_of, Drew}
+use Rattle.desk.specs.Stroke.{opens, key, piece, end_value_of, ends, closes, strokes_of_attr, strokes_of_attrs, strokes_of, Drew}
 use Rattle.desk.proofs.Strokes.{drew_two, drew_item}
 use Rattle.inline_turns.specs.Turn.{behind_of}
 use Rattle.inline_turns.specs.declared.Behind.TheVariants.{Ends}
@@ -77,26 +77,26 @@ not_both e = let no_way : ◌≡◌ {A = ℕ} 0 1 = cc in omega arith
 
 module _ (t : Tape) (k : ℕ) where
   abbrev others : Place
-  others = cond (is_top_level_block_of t k) aBlock (cond (is_verse_of t k) aVerse dropped)
+  others = cond (is_top_level_block_of t k) a_block (cond (is_verse_of t k) a_verse_of dropped)
 
-  pub place_side : holder_of t k ≡ Sidebar → place_of t k ≡ aSidebar
+  pub place_side : holder_of t k ≡ Sidebar → place_of t k ≡ a_sidebar_of
   unfolding holder_of place_of
   place_side e = go (is_row t k) (is_chapter_of t k) (is_element_of 1 (info_at t k)) (is_element_of 2 (info_at t k)) e
     where
       go : (r c p q : Bool) → cond (r || c) Neither (cond p Sidebar (cond q Periph Neither)) ≡ Sidebar
-          → cond r aRow (cond c aChapter (cond p aSidebar (cond q aPeriph others))) ≡ aSidebar
+          → cond r a_row_of (cond c a_chapter_of (cond p a_sidebar_of (cond q a_periph_of others))) ≡ a_sidebar_of
       go true c p q h = absurd (no_side h)
       go false true p q h = absurd (no_side h)
       go false false true q h = refl
       go false false false true h = absurd (not_both h)
       go false false false false h = absurd (no_side h)
 
-  pub place_peri : holder_of t k ≡ Periph → place_of t k ≡ aPeriph
+  pub place_peri : holder_of t k ≡ Periph → place_of t k ≡ a_periph_of
   unfolding holder_of place_of
   place_peri e = go (is_row t k) (is_chapter_of t k) (is_element_of 1 (info_at t k)) (is_element_of 2 (info_at t k)) e
     where
       go : (r c p q : Bool) → cond (r || c) Neither (cond p Sidebar (cond q Periph Neither)) ≡ Periph
-          → cond r aRow (cond c aChapter (cond p aSidebar (cond q aPeriph others))) ≡ aPeriph
+          → cond r a_row_of (cond c a_chapter_of (cond p a_sidebar_of (cond q a_periph_of others))) ≡ a_periph_of
       go true c p q h = absurd (no_peri h)
       go false true p q h = absurd (no_peri h)
       go false false true q h = absurd (not_both (sym h))
@@ -108,18 +108,18 @@ module _ (t : Tape) (k : ℕ) where
   place_others nr nc e = go (is_row t k) (is_chapter_of t k) (is_element_of 1 (info_at t k)) (is_element_of 2 (info_at t k)) nr nc e
     where
       go : (r c p q : Bool) → r ≡ false → c ≡ false → cond (r || c) Neither (cond p Sidebar (cond q Periph Neither)) ≡ Neither
-          → cond r aRow (cond c aChapter (cond p aSidebar (cond q aPeriph others))) ≡ others
+          → cond r a_row_of (cond c a_chapter_of (cond p a_sidebar_of (cond q a_periph_of others))) ≡ others
       go true c p q hr hc h = absurd (let no_way : ◌≡◌ {A = ℕ} 0 1 = cc in omega arith)
       go false true p q hr hc h = absurd (let no_way : ◌≡◌ {A = ℕ} 0 1 = cc in omega arith)
       go false false true q hr hc h = absurd (no_side (sym h))
       go false false false true hr hc h = absurd (no_peri (sym h))
       go false false false false hr hc h = refl
 
-  place_row : is_row t k ≡ true → place_of t k ≡ aRow
+  place_row : is_row t k ≡ true → place_of t k ≡ a_row_of
   unfolding place_of
   place_row h = rw h
 
-  place_chapter : is_row t k ≡ false → is_chapter_of t k ≡ true → place_of t k ≡ aChapter
+  place_chapter : is_row t k ≡ false → is_chapter_of t k ≡ true → place_of t k ≡ a_chapter_of
   unfolding place_of
   place_chapter hr h = rw (hr, h)
 
@@ -130,7 +130,7 @@ pub chapter-turn : (t : Tape) (span : Span) (k d level : ℕ) {z : Kind} {n : St
     → ((source : Bytes) → desk_of source a da mid ≡ emit (desk_of source at desk out) (item (line level))) → m ≡ number_at t k
     → r ≡ emit (desk_of t.source a da mid) (chapter m (folded_number t f.alt) (folded_number t f.published))
     → (B : List ℕ → List Event)
-    → emit_all r (blocks_all_of B t d level (nodes_in t span f.rest)) ≡ emit_all (desk_of t.source at desk out) (blocks_on B t d level k (nodes_in t span (next_sibling t k)) aChapter)
+    → emit_all r (blocks_all_of B t d level (nodes_in t span f.rest)) ≡ emit_all (desk_of t.source at desk out) (blocks_on B t d level k (nodes_in t span (next_sibling t k)) a_chapter_of)
 unfolding blocks_on block_turn folded_in emit_all
 chapter-turn t span k d level {z} {n} f {m} ez en ef at a desk da out mid {r} ea em er B =
     let g : Folded = fold_at t 6 (nodes_in t span (next_sibling t k)) in
@@ -152,7 +152,7 @@ left-next t c en = left-turn t c refl en
 pub block-step : (t : Tape) (span : Span) (k d level : ℕ) {e : ℕ} {n : Step} → (at a : ℕ) (desk da : List ℕ) (out mid : Bytes) {r : Desk}
     → ((source : Bytes) → desk_of source a da mid ≡ emit (desk_of source at desk out) (item (line level)))
     → e ≡ d → r ≡ emit_all (desk_of t.source a da mid) (node_in_of (inside t e) t k false) → n ≡ next_sibling t k
-    → (B : List ℕ → List Event) → emit_all r (blocks_all_of B t d level (nodes_in t span n)) ≡ emit_all (desk_of t.source at desk out) (blocks_on B t d level k (nodes_in t span (next_sibling t k)) aBlock)
+    → (B : List ℕ → List Event) → emit_all r (blocks_all_of B t d level (nodes_in t span n)) ≡ emit_all (desk_of t.source at desk out) (blocks_on B t d level k (nodes_in t span (next_sibling t k)) a_block)
 unfolding blocks_on block_turn emit_all
 block-step t span k d level {n = n} at a desk da out mid {r} ea ed er en B =
     ap (λ (u : Step). emit_all r (blocks_all_of B t d level (nodes_in t span u))) en
@@ -171,7 +171,7 @@ run-nodes t sifted c hm hb =
     ∙ up_to_go (is_top_level_block_of t) c.at (nodes_in t (uncut sifted) (next_sibling t c.at)) hb
 
 pub run_opened : (l at : ℕ) {a z r : ℕ} (d d₁ d₂ d₃ : List ℕ) (out : Bytes) {o₁ o₂ last : Bytes} → ((source : Bytes) → desk_of source a d₁ o₁ ≡ emit (desk_of source at d out) (item (line l)))
-    → Drew a d₁ o₁ (opens 5 ∷ key (b "style") ∷ piece true (b "p") ∷ endValue ∷ []) z d₂ o₂ → Drew z d₂ o₂ (ends ∷ []) r d₃ last
+    → Drew a d₁ o₁ (opens 5 ∷ key (b "style") ∷ piece true (b "p") ∷ end_value_of ∷ []) z d₂ o₂ → Drew z d₂ o₂ (ends ∷ []) r d₃ last
     → (source : Bytes) → desk_of source r d₃ last ≡ emit_all (desk_of source at d out) (run_opens l)
 unfolding run_opens emit_all strokes_of strokes_of_attrs strokes_of_attr styled rawly
 run_opened l at d d₁ d₂ d₃ out ea e₁ e₂ source =
@@ -195,7 +195,7 @@ pub verse-turn : (t : Tape) (sifted : Bool) (c : Cursor) (d level : ℕ) (s r : 
     → (member_of_of t (uncut sifted) c.at ≡ Listed → is_top_level_block_of t c.at ≡ false → r ≡ emit_all s (run_in t d level c.at (nodes_in t (uncut sifted) (next_sibling t c.at))))
     → {n : Step} → n ≡ next_sibling t c.at → (m : Step) → nodes_in t (uncut sifted) m ≡ from_first (is_top_level_block_of t) (nodes_in t (uncut sifted) n)
     → member_of_of t (uncut sifted) c.at ≡ Listed → is_top_level_block_of t c.at ≡ false → (B : List ℕ → List Event)
-    → emit_all r (blocks_all_of B t d level (nodes_in t (uncut sifted) m)) ≡ emit_all s (blocks_on B t d level c.at (nodes_in t (uncut sifted) (next_sibling t c.at)) aVerse)
+    → emit_all r (blocks_all_of B t d level (nodes_in t (uncut sifted) m)) ≡ emit_all s (blocks_on B t d level c.at (nodes_in t (uncut sifted) (next_sibling t c.at)) a_verse_of)
 unfolding blocks_on block_turn run_in
 verse-turn t sifted c d level s r er {n} en m em hm hb B =
     ap (λ (is : List ℕ). emit_all r (blocks_all_of B t d level is)) (em ∙ ap (λ (u : Step). from_first (is_top_level_block_of t) (nodes_in t (uncut sifted) u)) en)
@@ -221,12 +221,12 @@ module _ (t : Tape) (span : Span) (c : Cursor) (d level : ℕ) (s : Desk) {x : B
       → member_of_of t span c.at ≡ Listed → holder_of t c.at ≡ Neither → (B : List ℕ → List Event)
       → emit_all r (blocks_all_of B t d level (nodes_in t span m)) ≡ emit_all s (blocks_all_of B t d level (nodes_in t span (At c)))
   unfolding blocks_on block_turn
-  row_step hx {r} {n} m er en em hm hn B = turn_by t span c d level B aRow s hm (place_row t c.at (sym ex ∙ hx)) body
+  row_step hx {r} {n} m er en em hm hn B = turn_by t span c d level B a_row_of s hm (place_row t c.at (sym ex ∙ hx)) body
     where
       rows : up_to (is_no_row t) (nodes_in t span (At c)) ≡ c.at ∷ up_to (is_no_row t) (nodes_in t span (next_sibling t c.at))
       rows = ap (up_to (is_no_row t)) (nodes_go t span refl (sym hm) refl refl) ∙ up-row t c.at (nodes_in t span (next_sibling t c.at)) (sym ex ∙ hx)
 
-      body : emit_all r (blocks_all_of B t d level (nodes_in t span m)) ≡ emit_all s (blocks_on B t d level c.at (nodes_in t span (next_sibling t c.at)) aRow)
+      body : emit_all r (blocks_all_of B t d level (nodes_in t span m)) ≡ emit_all s (blocks_on B t d level c.at (nodes_in t span (next_sibling t c.at)) a_row_of)
       body =
           ap (λ (ks : List ℕ). emit_all r (blocks_all_of B t d level ks)) (em ∙ ap (λ (u : Step). from_first (is_no_row t) (nodes_in t span u)) en)
           ∙ then s (table_e t d level (c.at ∷ up_to (is_no_row t) (nodes_in t span (next_sibling t c.at)))) (blocks_all_of B t d level (from_first (is_no_row t) (nodes_in t span (next_sibling t c.at))))
@@ -234,28 +234,28 @@ module _ (t : Tape) (span : Span) (c : Cursor) (d level : ℕ) (s : Desk) {x : B
 
   module _ (hx : x ≡ false) {z : Kind} (ek : z.code ≡ kind_at t c.at) (r : Desk) (m : Step) where
     pub chapter-step : z.code ≡ 6
-        → ((B : List ℕ → List Event) → emit_all r (blocks_all_of B t d level (nodes_in t span m)) ≡ emit_all s (blocks_on B t d level c.at (nodes_in t span (next_sibling t c.at)) aChapter))
+        → ((B : List ℕ → List Event) → emit_all r (blocks_all_of B t d level (nodes_in t span m)) ≡ emit_all s (blocks_on B t d level c.at (nodes_in t span (next_sibling t c.at)) a_chapter_of))
         → member_of_of t span c.at ≡ Listed → holder_of t c.at ≡ Neither → (B : List ℕ → List Event)
         → emit_all r (blocks_all_of B t d level (nodes_in t span m)) ≡ emit_all s (blocks_all_of B t d level (nodes_in t span (At c)))
-    chapter-step h er hm hn B = turn_by t span c d level B aChapter s hm (place_chapter t c.at (sym ex ∙ hx) (kind_is t c.at ek 6 h)) (er B)
+    chapter-step h er hm hn B = turn_by t span c d level B a_chapter_of s hm (place_chapter t c.at (sym ex ∙ hx) (kind_is t c.at ek 6 h)) (er B)
 
     module _ (n₆ : z.code ≡ 6 → ⊥) {y : Bool} (ey : y ≡ is_top_level_block_of t c.at) where
-      other_place : holder_of t c.at ≡ Neither → {p : Place} → cond (is_top_level_block_of t c.at) aBlock (cond (is_verse_of t c.at) aVerse dropped) ≡ p → place_of t c.at ≡ p
+      other_place : holder_of t c.at ≡ Neither → {p : Place} → cond (is_top_level_block_of t c.at) a_block (cond (is_verse_of t c.at) a_verse_of dropped) ≡ p → place_of t c.at ≡ p
       other_place hn e = place_others t c.at (sym ex ∙ hx) (kind_not t c.at ek 6 n₆) hn ∙ e
 
       pub block-found : y ≡ true
-          → ((B : List ℕ → List Event) → emit_all r (blocks_all_of B t d level (nodes_in t span m)) ≡ emit_all s (blocks_on B t d level c.at (nodes_in t span (next_sibling t c.at)) aBlock))
+          → ((B : List ℕ → List Event) → emit_all r (blocks_all_of B t d level (nodes_in t span m)) ≡ emit_all s (blocks_on B t d level c.at (nodes_in t span (next_sibling t c.at)) a_block))
           → member_of_of t span c.at ≡ Listed → holder_of t c.at ≡ Neither → (B : List ℕ → List Event)
           → emit_all r (blocks_all_of B t d level (nodes_in t span m)) ≡ emit_all s (blocks_all_of B t d level (nodes_in t span (At c)))
-      block-found h er hm hn B = turn_by t span c d level B aBlock s hm (other_place hn (rw (sym ey ∙ h))) (er B)
+      block-found h er hm hn B = turn_by t span c d level B a_block s hm (other_place hn (rw (sym ey ∙ h))) (er B)
 
       pub verse-step : y ≡ false → z.code ≡ 7
           → (member_of_of t span c.at ≡ Listed → is_top_level_block_of t c.at ≡ false → (B : List ℕ → List Event)
-          → emit_all r (blocks_all_of B t d level (nodes_in t span m)) ≡ emit_all s (blocks_on B t d level c.at (nodes_in t span (next_sibling t c.at)) aVerse))
+          → emit_all r (blocks_all_of B t d level (nodes_in t span m)) ≡ emit_all s (blocks_on B t d level c.at (nodes_in t span (next_sibling t c.at)) a_verse_of))
           → member_of_of t span c.at ≡ Listed → holder_of t c.at ≡ Neither → (B : List ℕ → List Event)
           → emit_all r (blocks_all_of B t d level (nodes_in t span m)) ≡ emit_all s (blocks_all_of B t d level (nodes_in t span (At c)))
       verse-step hy h er hm hn B =
-          turn_by t span c d level B aVerse s hm (other_place hn (rw (sym ey ∙ hy, kind_is t c.at ek 7 h))) (er hm (sym ey ∙ hy) B)
+          turn_by t span c d level B a_verse_of s hm (other_place hn (rw (sym ey ∙ hy, kind_is t c.at ek 7 h))) (er hm (sym ey ∙ hy) B)
 
   pub drop-step : x ≡ false → {z : Kind} → z.code ≡ kind_at t c.at → (z.code ≡ 6 → ⊥) → {y : Bool} → y ≡ is_top_level_block_of t c.at → y ≡ false
       → (z.code ≡ 7 → ⊥) → {m : Step} → m ≡ next_sibling t c.at
@@ -272,16 +272,16 @@ module _ (t : Tape) (span : Span) (c : Cursor) (d level : ℕ) (s : Desk) {x : B
 -- ---- the step behind a node
 
 pub behind-chapter : (t : Tape) (span : Span) (k : ℕ) {z : Kind} → z.code ≡ 6 → {n : Step} → n ≡ next_sibling t k → (f : Folds) → f ≡ folds_at t span z.code n
-    → f.rest ≡ step_behind t span k aChapter
+    → f.rest ≡ step_behind t span k a_chapter_of
 unfolding step_behind
 behind-chapter t span k ez en f e = ap (λ (h : Folds). h.rest) e ∙ rw (ez, en)
 
 module _ (t : Tape) (span : Span) (k : ℕ) {n : Step} (en : n ≡ next_sibling t k) where
-  pub behind-run : {m : Step} → m ≡ run_end_of t span Block n → m ≡ step_behind t span k aVerse
+  pub behind-run : {m : Step} → m ≡ run_end_of t span Block n → m ≡ step_behind t span k a_verse_of
   unfolding step_behind
   behind-run e = e ∙ rw en
 
-  pub behind-block : n ≡ step_behind t span k aBlock
+  pub behind-block : n ≡ step_behind t span k a_block
   unfolding step_behind
   behind-block = en
 
@@ -291,14 +291,14 @@ module _ (t : Tape) (span : Span) (k : ℕ) {x : Bool} (ex : x ≡ is_row t k) w
   row-behind hx en em hn = rw (place_row t k (sym ex ∙ hx)) (em ∙ rw en)
 
   module _ (hx : x ≡ false) {z : Kind} (ek : z.code ≡ kind_at t k) {m : Step} where
-    pub chapter-behind : z.code ≡ 6 → m ≡ step_behind t span k aChapter → holder_of t k ≡ Neither → m ≡ step_behind t span k (place_of t k)
+    pub chapter-behind : z.code ≡ 6 → m ≡ step_behind t span k a_chapter_of → holder_of t k ≡ Neither → m ≡ step_behind t span k (place_of t k)
     chapter-behind h em hn = rw (place_chapter t k (sym ex ∙ hx) (kind_is t k ek 6 h)) em
 
     module _ (n₆ : z.code ≡ 6 → ⊥) {y : Bool} (ey : y ≡ is_top_level_block_of t k) where
-      pub block-behind : y ≡ true → m ≡ step_behind t span k aBlock → holder_of t k ≡ Neither → m ≡ step_behind t span k (place_of t k)
+      pub block-behind : y ≡ true → m ≡ step_behind t span k a_block → holder_of t k ≡ Neither → m ≡ step_behind t span k (place_of t k)
       block-behind hy em hn = rw (place_others t k (sym ex ∙ hx) (kind_not t k ek 6 n₆) hn, sym ey ∙ hy) em
 
-      pub verse-behind : y ≡ false → z.code ≡ 7 → m ≡ step_behind t span k aVerse → holder_of t k ≡ Neither → m ≡ step_behind t span k (place_of t k)
+      pub verse-behind : y ≡ false → z.code ≡ 7 → m ≡ step_behind t span k a_verse_of → holder_of t k ≡ Neither → m ≡ step_behind t span k (place_of t k)
       verse-behind hy h em hn = rw (place_others t k (sym ex ∙ hx) (kind_not t k ek 6 n₆) hn, sym ey ∙ hy, kind_is t k ek 7 h) em
 
       pub drop-behind : y ≡ false → (z.code ≡ 7 → ⊥) → m ≡ next_sibling t k → holder_of t k ≡ Neither → m ≡ step_behind t span k (place_of t k)

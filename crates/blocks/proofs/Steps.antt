@@ -18,7 +18,7 @@ use Rattle.lists.specs.declared.Member.TheVariants.{End, Skipped, Listed}
 use Rattle.lists.proofs.Nodes.{nodes_done, nodes-cut, nodes_skip}
 use Rattle.tags.specs.Items.{start, empty, close, line}
 use Rattle.events.specs.Event.{Event, item}
-use Rattle.events.specs.Walk.{holder, sidebar_in, periph_in, blocks_e, aSidebar, aPeriph, block_turn, blocks_all_of, blocks_on}
+use Rattle.events.specs.Walk.{holder, sidebar_in, periph_in, blocks_e, a_sidebar_of, a_periph_of, block_turn, blocks_all_of, blocks_on}
 use Rattle.events.specs.Emit.{Desk, emit, emit_all}
 use Rattle.events.proofs.Turns.{blocks_none}
 use Rattle.events.proofs.Emits.{between, then}
@@ -122,10 +122,10 @@ module _ (t : Tape) (span : Span) (d level : ℕ) (s s₀ : Desk) (step step₀ 
       pub blocks_side : h ≡ Sidebar → {u : Desk} {n : Step} → u ≡ emit_all s (item (line level) ∷ holder_in t d level true c.at) → n ≡ next_sibling t c.at
           → emit_all u (blocks_all_of (below t d level) t d level (nodes_in t span n)) ≡ emit_all s₀ (blocks_all_of (below t d level) t d level (nodes_in t span step₀))
       unfolding blocks_on block_turn holder_in
-      blocks_side hh {u} {n} eu en = turn_by t span c d level (below t d level) aSidebar s (sym em ∙ hm) (place_side t c.at (sym eh ∙ hh)) (went eu) ∙ here
+      blocks_side hh {u} {n} eu en = turn_by t span c d level (below t d level) a_sidebar_of s (sym em ∙ hm) (place_side t c.at (sym eh ∙ hh)) (went eu) ∙ here
         where
           went : u ≡ emit_all s (item (line level) ∷ holder_in t d level true c.at)
-              → emit_all u (blocks_all_of (below t d level) t d level (nodes_in t span n)) ≡ emit_all s (blocks_on (below t d level) t d level c.at (nodes_in t span (next_sibling t c.at)) aSidebar)
+              → emit_all u (blocks_all_of (below t d level) t d level (nodes_in t span n)) ≡ emit_all s (blocks_on (below t d level) t d level c.at (nodes_in t span (next_sibling t c.at)) a_sidebar_of)
           went e =
               ap (λ (z : Step). emit_all u (blocks_all_of (below t d level) t d level (nodes_in t span z))) en
               ∙ then s (item (line level) ∷ sidebar_in (below t d level) t level c.at) (blocks_all_of (below t d level) t d level (nodes_in t span (next_sibling t c.at))) e
@@ -133,10 +133,10 @@ module _ (t : Tape) (span : Span) (d level : ℕ) (s s₀ : Desk) (step step₀ 
       pub blocks_peri : h ≡ Periph → {u : Desk} {n : Step} → u ≡ emit_all s (item (line level) ∷ holder_in t d level false c.at) → n ≡ next_sibling t c.at
           → emit_all u (blocks_all_of (below t d level) t d level (nodes_in t span n)) ≡ emit_all s₀ (blocks_all_of (below t d level) t d level (nodes_in t span step₀))
       unfolding blocks_on block_turn holder_in
-      blocks_peri hh {u} {n} eu en = turn_by t span c d level (below t d level) aPeriph s (sym em ∙ hm) (place_peri t c.at (sym eh ∙ hh)) (went eu) ∙ here
+      blocks_peri hh {u} {n} eu en = turn_by t span c d level (below t d level) a_periph_of s (sym em ∙ hm) (place_peri t c.at (sym eh ∙ hh)) (went eu) ∙ here
         where
           went : u ≡ emit_all s (item (line level) ∷ holder_in t d level false c.at)
-              → emit_all u (blocks_all_of (below t d level) t d level (nodes_in t span n)) ≡ emit_all s (blocks_on (below t d level) t d level c.at (nodes_in t span (next_sibling t c.at)) aPeriph)
+              → emit_all u (blocks_all_of (below t d level) t d level (nodes_in t span n)) ≡ emit_all s (blocks_on (below t d level) t d level c.at (nodes_in t span (next_sibling t c.at)) a_periph_of)
           went e =
               ap (λ (z : Step). emit_all u (blocks_all_of (below t d level) t d level (nodes_in t span z))) en
               ∙ then s (item (line level) ∷ periph_in (below t d level) t level c.at) (blocks_all_of (below t d level) t d level (nodes_in t span (next_sibling t c.at))) e

@@ -10,7 +10,7 @@ use Rattle.lists.specs.Span.{run_end_of, folds_at}
 use Rattle.lists.specs.declared.Span.{Span}
 use Rattle.lists.specs.declared.Stop.TheVariants.{Block, NoRow}
 use Rattle.events.specs.Event.{Event, item, element}
-use Rattle.events.specs.Walk.{styled, unfollowed, trimming, node_in_of, inside, inline_all, sidebar_in, periph_in, Place, aRow, aChapter, aSidebar, aPeriph, aBlock, aVerse, dropped, blocks_e}
+use Rattle.events.specs.Walk.{styled, unfollowed, trimming, node_in_of, inside, inline_all, sidebar_in, periph_in, Place, a_row_of, a_chapter_of, a_sidebar_of, a_periph_of, a_block, a_verse_of, dropped, blocks_e}
 use Rattle.blocks.specs.declared.Holder.{Holder}
 use Rattle.blocks.specs.declared.Holder.TheVariants.{Sidebar, Periph, Neither}
 use Rattle.tape.specs.Kind as kinds
@@ -47,10 +47,10 @@ run_in t d level k ks = item (line level) ∷ element el.para (styled (b "p")) (
 
 -- the step behind a node at block level, by what it is there: past the rows or the run that it starts, or where its fold stops
 unfoldable pub step_behind : Tape → Span → ℕ → Place → Step
-step_behind t span k aRow = run_end_of t span NoRow (next_sibling t k)
-step_behind t span k aChapter = (folds_at t span kinds.chapter (next_sibling t k)).rest
-step_behind t span k aSidebar = next_sibling t k
-step_behind t span k aPeriph = next_sibling t k
-step_behind t span k aBlock = next_sibling t k
-step_behind t span k aVerse = run_end_of t span Block (next_sibling t k)
+step_behind t span k a_row_of = run_end_of t span NoRow (next_sibling t k)
+step_behind t span k a_chapter_of = (folds_at t span kinds.chapter (next_sibling t k)).rest
+step_behind t span k a_sidebar_of = next_sibling t k
+step_behind t span k a_periph_of = next_sibling t k
+step_behind t span k a_block = next_sibling t k
+step_behind t span k a_verse_of = run_end_of t span Block (next_sibling t k)
 step_behind t span k dropped = next_sibling t k

@@ -9,7 +9,7 @@ ghost use Rattle.tape.specs.declared.Step.TheVariants.{At};
 ghost use Rattle.render.specs.Shape.{is_top_level_block_of};
 ghost use Rattle.tags.specs.Items.{line as line_item, close, start};
 ghost use Rattle.events.specs.Event.{Event, item};
-ghost use Rattle.events.specs.Walk.{aChapter, aBlock, aVerse, place_of, blocks_all_of, blocks_on, blocks_e};
+ghost use Rattle.events.specs.Walk.{a_chapter_of, a_block, a_verse_of, place_of, blocks_all_of, blocks_on, blocks_e};
 ghost use Rattle.events.specs.Emit.{emit_all};
 ghost use Rattle.desk.specs.Desk.{desk_of};
 ghost use Rattle.lists.specs.Span.{nodes_in, member_of_of};
@@ -73,9 +73,9 @@ fn chapter(
     out: &mut [u8],
 ) -> Going
     requires { Solids (tape_in tape file.now) solids.now }
-    ensures by_index { (B : List ℕ → List Event) → emit_all (desk_of (tape_in tape file.now).source result.at desk.new out.new) (blocks_all_of B (tape_in tape file.now) (depth_at level) level (nodes_in (tape_in tape file.now) span result.next)) ≡ emit_all (desk_of (tape_in tape file.now).source at desk.old out.old) (blocks_on B (tape_in tape file.now) (depth_at level) level c.at (nodes_in (tape_in tape file.now) span (next_sibling (tape_in tape file.now) c.at)) aChapter) }
+    ensures by_index { (B : List ℕ → List Event) → emit_all (desk_of (tape_in tape file.now).source result.at desk.new out.new) (blocks_all_of B (tape_in tape file.now) (depth_at level) level (nodes_in (tape_in tape file.now) span result.next)) ≡ emit_all (desk_of (tape_in tape file.now).source at desk.old out.old) (blocks_on B (tape_in tape file.now) (depth_at level) level c.at (nodes_in (tape_in tape file.now) span (next_sibling (tape_in tape file.now) c.at)) a_chapter_of) }
     ensures next_bound { left (tape_in tape file.now) result.next < left (tape_in tape file.now) (At c) }
-    ensures next_value { result.next ≡ step_behind (tape_in tape file.now) span c.at aChapter }
+    ensures next_value { result.next ≡ step_behind (tape_in tape file.now) span c.at a_chapter_of }
 {
     let f = fold_in(
         file,
@@ -159,9 +159,9 @@ fn verse_run(
     out: &mut [u8],
 ) -> Going
     requires { Solids (tape_in tape file.now) solids.now }
-    ensures next_after { member_of_of (tape_in tape file.now) (uncut sifted) c.at ≡ Listed → is_top_level_block_of (tape_in tape file.now) c.at ≡ false → (B : List ℕ → List Event) → emit_all (desk_of (tape_in tape file.now).source result.at desk.new out.new) (blocks_all_of B (tape_in tape file.now) (depth_at level) level (nodes_in (tape_in tape file.now) (uncut sifted) result.next)) ≡ emit_all (desk_of (tape_in tape file.now).source at desk.old out.old) (blocks_on B (tape_in tape file.now) (depth_at level) level c.at (nodes_in (tape_in tape file.now) (uncut sifted) (next_sibling (tape_in tape file.now) c.at)) aVerse) }
+    ensures next_after { member_of_of (tape_in tape file.now) (uncut sifted) c.at ≡ Listed → is_top_level_block_of (tape_in tape file.now) c.at ≡ false → (B : List ℕ → List Event) → emit_all (desk_of (tape_in tape file.now).source result.at desk.new out.new) (blocks_all_of B (tape_in tape file.now) (depth_at level) level (nodes_in (tape_in tape file.now) (uncut sifted) result.next)) ≡ emit_all (desk_of (tape_in tape file.now).source at desk.old out.old) (blocks_on B (tape_in tape file.now) (depth_at level) level c.at (nodes_in (tape_in tape file.now) (uncut sifted) (next_sibling (tape_in tape file.now) c.at)) a_verse_of) }
     ensures next_bound { left (tape_in tape file.now) result.next < left (tape_in tape file.now) (At c) }
-    ensures next_value { result.next ≡ step_behind (tape_in tape file.now) (uncut sifted) c.at aVerse }
+    ensures next_value { result.next ≡ step_behind (tape_in tape file.now) (uncut sifted) c.at a_verse_of }
 {
     let span = Span { cut: false, sifted };
     let s = verse_para(file, tape, solids, sifted, c, level, at, desk, out);
@@ -182,9 +182,9 @@ fn block(
     out: &mut [u8],
 ) -> Going
     requires { Solids (tape_in tape file.now) solids.now }
-    ensures by_index { (B : List ℕ → List Event) → emit_all (desk_of (tape_in tape file.now).source result.at desk.new out.new) (blocks_all_of B (tape_in tape file.now) (depth_at level) level (nodes_in (tape_in tape file.now) span result.next)) ≡ emit_all (desk_of (tape_in tape file.now).source at desk.old out.old) (blocks_on B (tape_in tape file.now) (depth_at level) level c.at (nodes_in (tape_in tape file.now) span (next_sibling (tape_in tape file.now) c.at)) aBlock) }
+    ensures by_index { (B : List ℕ → List Event) → emit_all (desk_of (tape_in tape file.now).source result.at desk.new out.new) (blocks_all_of B (tape_in tape file.now) (depth_at level) level (nodes_in (tape_in tape file.now) span result.next)) ≡ emit_all (desk_of (tape_in tape file.now).source at desk.old out.old) (blocks_on B (tape_in tape file.now) (depth_at level) level c.at (nodes_in (tape_in tape file.now) span (next_sibling (tape_in tape file.now) c.at)) a_block) }
     ensures next_bound { left (tape_in tape file.now) result.next < left (tape_in tape file.now) (At c) }
-    ensures next_value { result.next ≡ step_behind (tape_in tape file.now) span c.at aBlock }
+    ensures next_value { result.next ≡ step_behind (tape_in tape file.now) span c.at a_block }
 {
     let a = line(at, desk, out, level as usize);
     Going {

@@ -20,7 +20,7 @@ use Rattle.fold.specs.Fold.{fold_at}
 use Rattle.tags.specs.Items.{Attr, start, empty, close, line, bytes_of}
 use Rattle.admit.specs.Refusal.{Kept₇}
 use Rattle.events.specs.Event.{Event, item, chapter, rawly, escaped, perhaps, collected, element}
-use Rattle.events.specs.Walk.{style, styled, unclosed, asInline, node_in_of, inside, is_cell_of, cell_in, cells_along, cells, row_e, rows_e, table_e, holder, sidebar_in, periph_in, Place, aRow, aChapter, aSidebar, aPeriph, aBlock, aVerse, dropped, place_of, is_figure, Blocks, block_turn, blocks_from, blocks_all_of, blocks_e}
+use Rattle.events.specs.Walk.{style, styled, unclosed, as_inline, node_in_of, inside, is_cell_of, cell_in, cells_along, cells, row_e, rows_e, table_e, holder, sidebar_in, periph_in, Place, a_row_of, a_chapter_of, a_sidebar_of, a_periph_of, a_block, a_verse_of, dropped, place_of, is_figure, Blocks, block_turn, blocks_from, blocks_all_of, blocks_e}
 use Rattle.bounds.proofs.Items.{attr_cost, attrs_cost, attrs_append, start_most, empty_most, close_most, line_most}
 use Rattle.bounds.proofs.Light.{size_or, Light, nil, more, light_most, light_append, light_item, light_one, light_element, light_besides, perhaps_most}
 use Rattle.bounds.proofs.Mass.{cost, under, size_of, sizes, mass, mass_is, cost-next, size_some, without-mass, cut-mass}
@@ -85,8 +85,8 @@ module _ (file : Bytes) (z : Kept₇ file) where
       qs_cost : attrs_cost qs ≤ 40000000
       qs_cost = omega (arith, two-cost (style t k) (escaped (b "align") w), escaped-cost (b "align") w, align_most (cell_align_of (marker_name t k)), style_limit file z k)
 
-      go : (x : Bool) → Light (1000000000 + under d (inner k)) (cond x (element 12 qs (inside t d asInline k false)) (item (empty 12 qs) ∷ []))
-      go true = light_element 12 qs (inside_light file z d asInline k false) (omega (arith, qs_cost))
+      go : (x : Bool) → Light (1000000000 + under d (inner k)) (cond x (element 12 qs (inside t d as_inline k false)) (item (empty 12 qs) ∷ []))
+      go true = light_element 12 qs (inside_light file z d as_inline k false) (omega (arith, qs_cost))
       go false = light_item (empty 12 qs) (omega (arith, qs_cost, empty_most 12 qs))
 
   along_light : (d level : ℕ) → level ≤ 100 → (ks : List ℕ) → Light (mass t d ks) (cells_along (inside t d) t level ks)
@@ -173,7 +173,7 @@ module _ (file : Bytes) (z : Kept₇ file) where
 
     turn_light : (level : ℕ) → level + 2 ≤ 100 → (k : ℕ) (ks : List ℕ) (p : Place) → Turned k ks (block_turn blocks t d level k ks p)
     unfolding block_turn
-    turn_light level low k ks aRow =
+    turn_light level low k ks a_row_of =
         let p : ℕ → Bool = λ i. not (is_row t i) in
         record {
           weight = 10000 + mass t d (k ∷ up_to p ks);
@@ -189,7 +189,7 @@ module _ (file : Bytes) (z : Kept₇ file) where
                 size_some file z k,
               );
         }
-    turn_light level low k ks aChapter =
+    turn_light level low k ks a_chapter_of =
         let f = fold_at t 6 ks in
         let w = 400000000 + 6 * (size_or f.alt + size_or f.published) in
         record {
@@ -197,25 +197,25 @@ module _ (file : Bytes) (z : Kept₇ file) where
           written = line_light {m = w} level (omega arith) (light_one {e = chapter (number_at t k) f.alt f.published} (omega arith)) (omega arith);
           left = omega (arith, mass-more file z (suc d) k ks, text-cost file z (suc d) k, fold_limit file z (suc d) 6 ks);
         }
-    turn_light level low k ks aSidebar =
+    turn_light level low k ks a_sidebar_of =
         record {
           weight = 2000000000 + mass t d (children t k);
           written = line_light level (omega arith) (sidebar_light level k (omega arith)) (omega arith);
           left = omega (arith, mass-more file z (suc d) k ks, around d k);
         }
-    turn_light level low k ks aPeriph =
+    turn_light level low k ks a_periph_of =
         record {
           weight = 2000000000 + 50000000 * inner k + mass t d (children t k);
           written = line_light level (omega arith) (periph_light level k (omega arith)) (omega arith);
           left = omega (arith, mass-more file z (suc d) k ks, around d k);
         }
-    turn_light level low k ks aBlock =
+    turn_light level low k ks a_block =
         record {
           weight = 1000 + cost d (size_of t k);
           written = light_besides (is_figure t (info_at t k)) (line_light level (omega arith) (node_light file z d (inside t d) (inside_light file z d) k false) (omega arith));
           left = omega (arith, mass-more file z (suc d) k ks, cost-next d (size_of t k), size_some file z k);
         }
-    turn_light level low k ks aVerse =
+    turn_light level low k ks a_verse_of =
         let p = is_top_level_block_of t in
         let run = k ∷ up_to p ks in
         record {

@@ -27,7 +27,7 @@ use Rattle.figure.specs.Figure.{legacy_at, legacy_pairs, caption_of, field_at}
 use Rattle.tags.specs.Items.{Attr, empty, text, bytes_of}
 use Rattle.admit.specs.Refusal.{Kept₇}
 use Rattle.events.specs.Event.{Event, item, chapter, verse, book, rawly, escaped, perhaps, collected, element}
-use Rattle.events.specs.Walk.{unbroken, breaks, segmented, broken, style, styled, unclosed, Manner, asInline, asNote, Role, unknownBlock, unknownInline, unwritten, figure, ref, id, note, ms, char, para, role_of, can_link, link_of, linked, figure_as, marker_as, node_in_of, Child, anchor, words, passed, marker, child_of, note_child_of, Turn, normalized, inline_turn, inline_from, inline_all, note_text, note_turn_of, note_all, inside, NoteChild, direct, leftOut, entered, Noted}
+use Rattle.events.specs.Walk.{unbroken, breaks, segmented, broken, style, styled, unclosed, Manner, as_inline, as_note, Role, unknown_block, unknown_inline, unwritten, figure, ref, id, note, ms, char, para, role_of, can_link, link_of, linked, figure_as, marker_as, node_in_of, Child, anchor, words, passed, marker, child_of, note_child_of, Turn, normalized, inline_turn, inline_from, inline_all, note_text, note_turn_of, note_all, inside, NoteChild, direct, left_out, entered, Noted}
 use Rattle.bounds.proofs.Items.{attr_cost, attrs_cost, attrs_append, empty_most, text_most}
 use Rattle.bounds.proofs.Light.{size_or, Light, nil, more, light_most, light_append, light_item, light_one, light_element, light_asided, perhaps_most}
 use Rattle.bounds.proofs.Mass.{cost, cost_least, cost_most, under, cost-under, under_most, size_of, sizes, mass, mass_is, size_some, inner_size}
@@ -112,7 +112,7 @@ module _ (file : Bytes) (z : Kept₇ file) where
         (omega (arith, fig-cost, legacy_limit file z k a.at, field_limit file z a.at 4, attrs_append (styled (b "fig")) (collected (legacy_pairs t k a.at)))))
     figure_light k outer Done =
         light_asided
-        (light_element 9 (styled (b "fig") ++ collected (attributes_of t k (b "fig"))) (light asInline k outer)
+        (light_element 9 (styled (b "fig") ++ collected (attributes_of t k (b "fig"))) (light as_inline k outer)
         (omega (arith, fig-cost, attributes_limit file z k (b "fig"), attrs_append (styled (b "fig")) (collected (attributes_of t k (b "fig"))))))
 
     link_limit : (k : ℕ) → size_or (link_of t k) ≤ 50000000 * inner k
@@ -128,22 +128,22 @@ module _ (file : Bytes) (z : Kept₇ file) where
 
     marker_light : (k : ℕ) (outer : Bool) (r : Role) → Light (1000000000 + 1000000000 * inner k + under d (inner k)) (marker_as f t k outer r)
     unfolding marker_as
-    marker_light k outer unknownBlock =
-        light_element 5 (style t k ∷ escaped (b "status") (b "unknown") ∷ []) (light asInline k outer) (omega (arith, unknown-cost k))
-    marker_light k outer unknownInline =
-        light_element 6 (style t k ∷ escaped (b "status") (b "unknown") ∷ []) (light asInline k outer) (omega (arith, unknown-cost k))
+    marker_light k outer unknown_block =
+        light_element 5 (style t k ∷ escaped (b "status") (b "unknown") ∷ []) (light as_inline k outer) (omega (arith, unknown-cost k))
+    marker_light k outer unknown_inline =
+        light_element 6 (style t k ∷ escaped (b "status") (b "unknown") ∷ []) (light as_inline k outer) (omega (arith, unknown-cost k))
     marker_light k outer unwritten = nil
     marker_light k outer figure = figure_light k outer (legacy_at t k)
     marker_light k outer ref =
         let v = first_of (b "loc") (attributes_of t k (b "ref")) in
-        light_element 16 (perhaps (b "loc") v) (light asInline k outer) (omega (arith, perhaps_most (b "loc") v, first_limit file z (b "loc") k (b "ref")))
+        light_element 16 (perhaps (b "loc") v) (light as_inline k outer) (omega (arith, perhaps_most (b "loc") v, first_limit file z (b "loc") k (b "ref")))
     marker_light k outer id =
         light_one {e = book (book_code_of t k) (book_rest_of t k)} (code_limit file z k, omega (arith, rest_limit file z k))
     marker_light k outer note =
         let c = escaped (b "caller") (note_caller_of t k) in
         let q = perhaps (b "category") (written_category t k) in
         light_asided
-        (light_element 7 (c ∷ style t k ∷ q) (light asNote k outer)
+        (light_element 7 (c ∷ style t k ∷ q) (light as_note k outer)
         (omega (
           arith,
           more-cost c (style t k ∷ q),
@@ -159,12 +159,12 @@ module _ (file : Bytes) (z : Kept₇ file) where
         light_item (empty 8 (style t k ∷ q)) (omega (arith, empty_most 8 (style t k ∷ q), more-cost (style t k) q, style_limit file z k, attributes_limit file z k (marker_name t k)))
     marker_light k outer char =
         let q = collected (attributes_of t k (marker_name t k)) in
-        light_element 6 (style t k ∷ (unclosed t k ++ q)) (linked_light k (link_of t k) (link_limit k) (light asInline k outer))
+        light_element 6 (style t k ∷ (unclosed t k ++ q)) (linked_light k (link_of t k) (link_limit k) (light as_inline k outer))
         (omega (arith, more-cost (style t k) (unclosed t k ++ q), attrs_append (unclosed t k) q, style_limit file z k, unclosed_limit file z k, attributes_limit file z k (marker_name t k)))
     marker_light k outer para = go (found (first_child t k))
       where
-        go : (x : Bool) → Light (1000000000 + 1000000000 * inner k + under d (inner k)) (cond x (element 5 (style t k ∷ []) (f asInline k outer)) (item (empty 5 (style t k ∷ [])) ∷ []))
-        go true = light_element 5 (style t k ∷ []) (light asInline k outer) (omega (arith, one_cost (style t k), style_limit file z k))
+        go : (x : Bool) → Light (1000000000 + 1000000000 * inner k + under d (inner k)) (cond x (element 5 (style t k ∷ []) (f as_inline k outer)) (item (empty 5 (style t k ∷ [])) ∷ []))
+        go true = light_element 5 (style t k ∷ []) (light as_inline k outer) (omega (arith, one_cost (style t k), style_limit file z k))
         go false = light_item (empty 5 (style t k ∷ [])) (omega (arith, empty_most 5 (style t k ∷ []), one_cost (style t k), style_limit file z k))
 
     -- what a node and its children may cost is what its nodes may cost
@@ -247,7 +247,7 @@ module _ (file : Bytes) (z : Kept₇ file) where
     unfolding note_turn_of
     note-turn first trim k direct =
         light_most (unbroken_light (note_text t first k) (normalized t k (note_text t first k) trim behind) (note-text first k)) (text-cost d k)
-    note-turn first trim k leftOut = nil
+    note-turn first trim k left_out = nil
     note-turn first trim k entered = light k behind
 
     pub note_light : (first : ℕ) (trim : Bool) (ks : List ℕ) → Light (mass t d ks) (note_all node t first behind trim ks)
@@ -266,8 +266,8 @@ module _ (file : Bytes) (z : Kept₇ file) where
   pub inside_light : (d : ℕ) (m : Manner) (k : ℕ) (outer : Bool) → Light (under d (inner k)) (inside t d m k outer)
   unfolding inside
   inside_light zero m k outer = nil
-  inside_light (suc d) asInline k outer =
+  inside_light (suc d) as_inline k outer =
       light_most (inline_light d (node_in_of (inside t d) t) (node_light d (inside t d) (inside_light d)) (followed t k outer) true (children t k)) (omega (arith, under_next d (children t k)))
-  inside_light (suc d) asNote k outer =
+  inside_light (suc d) as_note k outer =
       light_most (note_light d (node_in_of (inside t d) t) (node_light d (inside t d) (inside_light d)) (followed t k outer) (k + 1) true (children t k))
       (omega (arith, under_next d (children t k)))

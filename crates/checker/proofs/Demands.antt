@@ -237,8 +237,8 @@ ends_here k i v vs x r =
     later : (m : List View) (u : View) (n : List View) → vs ≡ m ++ u ∷ n → Ends k u → None (Starts k) m → ⊥
     later m u n e w s =
         let behind : open_behind k (held i) (v ∷ m) ≡ held w.0 = r.at_end (v ∷ m) w.0 n (ap (λ (l : List View). v ∷ l) (e ∙ ap (λ (z : View). m ++ z ∷ n) w.1)) in
-        let closed-by : since k (held i) v ≡ shut = since_end k (held i) i v x in
-        no_held (sym (stays_shut k m s) ∙ ap (λ (h : Held). open_behind k h m) (sym closed-by) ∙ behind)
+        let closed_by_lem : since k (held i) v ≡ shut = since_end k (held i) i v x in
+        no_held (sym (stays_shut k m s) ∙ ap (λ (h : Held). open_behind k h m) (sym closed_by_lem) ∙ behind)
 
 -- a tag of another sort in front changes nothing
 ends-later : (k : ℕ) (i : Bytes) (v : View) (vs : List View) → (Starts k v → ⊥) → (Ends k v → ⊥) → HasEnd k i vs → HasEnd k i (v ∷ vs)

@@ -47,9 +47,9 @@ module _ (x : List ℕ) (i : ℕ) {p : Found} (e : p ≡ pair_at (drop i x)) whe
     attrs_mark f {s} {key} g es ek eg inv =
         let a : Pair = pair_of (drop i x) k v in
         let L : List Pair = (pairs_row (drop (pair_len k v) (drop i x))).list in
-        let is-a : record { key = key; value = take v (drop (i + (k + 3)) x) } ≡ a =
+        let is_a : record { key = key; value = take v (drop (i + (k + 3)) x) } ≡ a =
         rw (ek, es, ← drop-drop (k + 3) i x) in
-        rw (← drop-drop (pair_len k v) i x, eg x, is-a) (sym (ap (λ (a : Row). mark_on (mark_in x f) a.list) more) ∙ inv)
+        rw (← drop-drop (pair_len k v) i x, eg x, is_a) (sym (ap (λ (a : Row). mark_on (mark_in x f) a.list) more) ∙ inv)
 
   pub attrs_end : (f : Form) {r : List ℕ} {m : Mark} → p ≡ Nothing → mark_on (mark_in x f) (pairs_row (drop i x)).list ≡ m → (pairs_row (drop i x)).rest ≡ r
       → (drop i x ≡ r) × (mark_in x f ≡ m)

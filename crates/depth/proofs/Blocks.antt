@@ -12,7 +12,7 @@ use Rattle.nest.specs.Walk.{In}
 use Rattle.render.specs.Shape.{is_row, is_top_level_block_of, is_category_marker_of}
 use Rattle.tags.specs.Items.{Attr}
 use Rattle.events.specs.Event.{Event}
-use Rattle.events.specs.Walk.{Manner, asInline, node_in_of, inside, cell_in, cells_along, cells, row_e, rows_e, table_e, holder, sidebar_in, periph_in, Place, aRow, aChapter, aSidebar, aPeriph, aBlock, aVerse, dropped, place_of, Blocks, block_turn, blocks_from, blocks_all_of, unfollowed, trimming}
+use Rattle.events.specs.Walk.{Manner, as_inline, node_in_of, inside, cell_in, cells_along, cells, row_e, rows_e, table_e, holder, sidebar_in, periph_in, Place, a_row_of, a_chapter_of, a_sidebar_of, a_periph_of, a_block, a_verse_of, dropped, place_of, Blocks, block_turn, blocks_from, blocks_all_of, unfollowed, trimming}
 use Rattle.depth.proofs.Members.{Within, all-within, both_within, cut-within, from_within, fold_within}
 use Rattle.depth.proofs.Inline.{node-same, inline-same}
 
@@ -22,7 +22,7 @@ module _ (t : Tape) (f g : Manner → ℕ → Bool → List Event) (level : ℕ)
   pub cells_same : (ks : List ℕ) → ((c : ℕ) → In c ks → (m : Manner) (outer : Bool) → f m c outer ≡ g m c outer) → cells_along f t level ks ≡ cells_along g t level ks
   unfolding cells_along cell_in
   cells_same [] same = refl
-  cells_same (k ∷ ks) same = rw (same k (inl refl) asInline unfollowed, cells_same ks (λ c i. same c (inr i)))
+  cells_same (k ∷ ks) same = rw (same k (inl refl) as_inline unfollowed, cells_same ks (λ c i. same c (inr i)))
 
 -- ---- rows and tables
 
@@ -67,14 +67,14 @@ module _ (t : Tape) (f g : List ℕ → List Event) (d e level : ℕ) where
 
   turn-same : (k : ℕ) (ks : List ℕ) → AllAlike (k ∷ ks) → (p : Place) → block_turn f t d level k ks p ≡ block_turn g t e level k ks p
   unfolding block_turn
-  turn-same k ks same aRow =
+  turn-same k ks same a_row_of =
       let row = both_within k (cut-within (λ i. not (is_row t i)) ks) in
       rw (table_same t d e level (k ∷ up_to (λ i. not (is_row t i)) ks) (λ c i. (same c (row.each c i)).cell))
-  turn-same k ks same aChapter = refl
-  turn-same k ks same aSidebar = rw (sidebar-same t f g level k (same k (inl refl)).sifted)
-  turn-same k ks same aPeriph = rw (periph-same t f g level k (same k (inl refl)).plain)
-  turn-same k ks same aBlock = rw (node-same t (inside t d) (inside t e) k unfollowed (λ m. (same k (inl refl)).within m unfollowed))
-  turn-same k ks same aVerse =
+  turn-same k ks same a_chapter_of = refl
+  turn-same k ks same a_sidebar_of = rw (sidebar-same t f g level k (same k (inl refl)).sifted)
+  turn-same k ks same a_periph_of = rw (periph-same t f g level k (same k (inl refl)).plain)
+  turn-same k ks same a_block = rw (node-same t (inside t d) (inside t e) k unfollowed (λ m. (same k (inl refl)).within m unfollowed))
+  turn-same k ks same a_verse_of =
       let run = both_within k (cut-within (is_top_level_block_of t) ks) in
       rw (inline-same t (node_in_of (inside t d) t) (node_in_of (inside t e) t) unfollowed trimming (k ∷ up_to (is_top_level_block_of t) ks)
       (λ c i. node-same t (inside t d) (inside t e) c unfollowed (λ m. (same c (run.each c i)).within m unfollowed)))
@@ -82,12 +82,12 @@ module _ (t : Tape) (f g : List ℕ → List Event) (d e level : ℕ) where
 
   turn-within : (k : ℕ) (ks : List ℕ) (p : Place) → Within (block_turn g t e level k ks p).rest ks
   unfolding block_turn
-  turn-within k ks aRow = from_within (λ i. not (is_row t i)) ks
-  turn-within k ks aChapter = fold_within t kinds.chapter ks
-  turn-within k ks aSidebar = all-within ks
-  turn-within k ks aPeriph = all-within ks
-  turn-within k ks aBlock = all-within ks
-  turn-within k ks aVerse = from_within (is_top_level_block_of t) ks
+  turn-within k ks a_row_of = from_within (λ i. not (is_row t i)) ks
+  turn-within k ks a_chapter_of = fold_within t kinds.chapter ks
+  turn-within k ks a_sidebar_of = all-within ks
+  turn-within k ks a_periph_of = all-within ks
+  turn-within k ks a_block = all-within ks
+  turn-within k ks a_verse_of = from_within (is_top_level_block_of t) ks
   turn-within k ks dropped = all-within ks
 
   from_same : (n : ℕ) (ks : List ℕ) → AllAlike ks → blocks_from f t d level n ks ≡ blocks_from g t e level n ks

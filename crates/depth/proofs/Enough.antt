@@ -18,7 +18,7 @@ use Rattle.admit.proofs.Gives.{leaf-children, children_cover, root_cover, root_d
 use Rattle.render.specs.Shape.{is_category_marker_of}
 use Rattle.render.specs.Follow.{followed}
 use Rattle.events.specs.Event.{Event}
-use Rattle.events.specs.Walk.{Manner, asInline, asNote, node_in_of, note_all, inside, cells_along, cells, blocks_all_of, blocks_e, events_within, events_of, trimming}
+use Rattle.events.specs.Walk.{Manner, as_inline, as_note, node_in_of, note_all, inside, cells_along, cells, blocks_all_of, blocks_e, events_within, events_of, trimming}
 use Rattle.events.proofs.Turns.{inline-none, blocks_none}
 use Rattle.depth.proofs.Members.{Within, all-within, without-within}
 use Rattle.depth.proofs.Inline.{node-same, inline-same, note-same}
@@ -56,8 +56,8 @@ module _ (file : Bytes) (z : Kept₇ file) where
   empty-inside : (d : ℕ) (m : Manner) (k : ℕ) (outer : Bool) → children t k ≡ [] → inside t d m k outer ≡ []
   unfolding inside note_all
   empty-inside zero m k outer e = refl
-  empty-inside (suc d) asInline k outer e = rw e (inline-none (node_in_of (inside t d) t) t (followed t k outer) trimming)
-  empty-inside (suc d) asNote k outer e = rw e
+  empty-inside (suc d) as_inline k outer e = rw e (inline-none (node_in_of (inside t d) t) t (followed t k outer) trimming)
+  empty-inside (suc d) as_note k outer e = rw e
 
   leaf-same : (d e h k : ℕ) → At h k → container t.nodes k ≡ false → (m : Manner) (outer : Bool) → inside t d m k outer ≡ inside t e m k outer
   leaf-same d e h k a o m outer =
@@ -67,10 +67,10 @@ module _ (file : Bytes) (z : Kept₇ file) where
   inside-step : (d e k : ℕ) (outer : Bool) → ((c : ℕ) → In c (children t k) → (m : Manner) (behind : Bool) → inside t d m c behind ≡ inside t e m c behind)
       → (m : Manner) → inside t (suc d) m k outer ≡ inside t (suc e) m k outer
   unfolding inside
-  inside-step d e k outer same asInline =
+  inside-step d e k outer same as_inline =
       let f = followed t k outer in
       inline-same t (node_in_of (inside t d) t) (node_in_of (inside t e) t) f trimming (children t k) (λ c i. node-same t (inside t d) (inside t e) c f (λ m. same c i m f))
-  inside-step d e k outer same asNote =
+  inside-step d e k outer same as_note =
       let f = followed t k outer in
       note-same t (node_in_of (inside t d) t) (node_in_of (inside t e) t) f (k + 1) trimming (children t k) (λ c i. node-same t (inside t d) (inside t e) c f (λ m. same c i m f))
 

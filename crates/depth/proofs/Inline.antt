@@ -13,7 +13,7 @@ use Rattle.nest.specs.Walk.{In}
 use Rattle.figure.specs.Figure.{legacy_at}
 use Rattle.tags.specs.Element as el
 use Rattle.events.specs.Event.{Event, verse}
-use Rattle.events.specs.Walk.{Manner, asInline, asNote, Role, unknownBlock, unknownInline, unwritten, figure, ref, id, note, ms, char, para, role_of, figure_as, marker_as, node_in_of, Child, anchor, words, passed, marker, child_of, Turn, inline_turn, inline_from, inline_all, NoteChild, direct, leftOut, entered, note_child_of, Noted, note_turn_of, note_all}
+use Rattle.events.specs.Walk.{Manner, as_inline, as_note, Role, unknown_block, unknown_inline, unwritten, figure, ref, id, note, ms, char, para, role_of, figure_as, marker_as, node_in_of, Child, anchor, words, passed, marker, child_of, Turn, inline_turn, inline_from, inline_all, NoteChild, direct, left_out, entered, note_child_of, Noted, note_turn_of, note_all}
 use Rattle.depth.proofs.Members.{Within, all-within, fold_within}
 
 -- ---- one node
@@ -22,20 +22,20 @@ module _ (t : Tape) (f g : Manner → ℕ → Bool → List Event) (k : ℕ) (ou
   figure-same : (s : Step) → figure_as f t k outer s ≡ figure_as g t k outer s
   unfolding figure_as
   figure-same (At a) = refl
-  figure-same Done = rw (same asInline)
+  figure-same Done = rw (same as_inline)
 
   marker-same : (r : Role) → marker_as f t k outer r ≡ marker_as g t k outer r
   unfolding marker_as
-  marker-same unknownBlock = rw (same asInline)
-  marker-same unknownInline = rw (same asInline)
+  marker-same unknown_block = rw (same as_inline)
+  marker-same unknown_inline = rw (same as_inline)
   marker-same unwritten = refl
   marker-same figure = figure-same (legacy_at t k)
-  marker-same ref = rw (same asInline)
+  marker-same ref = rw (same as_inline)
   marker-same id = refl
-  marker-same note = rw (same asNote)
+  marker-same note = rw (same as_note)
   marker-same ms = refl
-  marker-same char = rw (same asInline)
-  marker-same para = rw (same asInline)
+  marker-same char = rw (same as_inline)
+  marker-same para = rw (same as_inline)
 
   -- a node is the same where what stands inside it is
   pub node-same : node_in_of f t k outer ≡ node_in_of g t k outer
@@ -80,7 +80,7 @@ module _ (t : Tape) (f g : ℕ → Bool → List Event) (behind : Bool) where
   note_turn_same : (first : ℕ) (trim : Bool) (k : ℕ) (c : NoteChild) → f k behind ≡ g k behind → note_turn_of f t first behind trim k c ≡ note_turn_of g t first behind trim k c
   unfolding note_turn_of
   note_turn_same first trim k direct e = refl
-  note_turn_same first trim k leftOut e = refl
+  note_turn_same first trim k left_out e = refl
   note_turn_same first trim k entered e = rw e
 
   pub note-same : (first : ℕ) (trim : Bool) (ks : List ℕ) → Same ks → note_all f t first behind trim ks ≡ note_all g t first behind trim ks

@@ -21,7 +21,7 @@ use Rattle.desk.specs.Desk.{profile_of, desk_of, put_on, shown_as}
 use Rattle.desk.specs.Named.{number_of, row, start_of, len_of}
 use Rattle.desk.specs.declared.stroke.Element.{Element}
 use Rattle.desk.specs.declared.stroke.Element.TheVariants.{Usx, Book, Chapter, Verse, Para, Char, Note, Ms, Figure, Table, Row, Cell, Sidebar, Periph, Optbreak, Ref}
-use Rattle.desk.specs.Stroke.{Stroke, opens, key, piece, endValue, ends, shuts, closes, strokes_of_attr, strokes_of_attrs, strokes_of, strokes_of_all, ink, ink_all, strokes, Drew}
+use Rattle.desk.specs.Stroke.{Stroke, opens, key, piece, end_value_of, ends, shuts, closes, strokes_of_attr, strokes_of_attrs, strokes_of, strokes_of_all, ink, ink_all, strokes, Drew}
 use Rattle.desk.proofs.Chains.{paint_three, paint-four, desk_on, item_on}
 use Rattle.desk.proofs.Shown.{shown-decimal}
 
@@ -117,18 +117,18 @@ digits_bytes p raw n e = piece_bytes p raw (decimal n) (e ∙ ap (paint p) (sym 
 
 -- a front of a tag and its style from their runs
 pub styled_bytes : (p : Page) {q r s t : Page} (n : ℕ) (v : Bytes) → q ≡ paint p (ink rust (opens n)) → r ≡ paint q (b " style=\"") → s ≡ paint r v → t ≡ paint s (b "\"")
-    → t ≡ paint p (ink_all rust (opens n ∷ key (b "style") ∷ piece true v ∷ endValue ∷ []))
+    → t ≡ paint p (ink_all rust (opens n ∷ key (b "style") ∷ piece true v ∷ end_value_of ∷ []))
 unfolding ink ink_all
 styled_bytes p n v e₁ e₂ e₃ e₄ = paint-four p (ink rust (opens n)) (b " style=\"") v (b "\"") e₁ e₂ e₃ e₄
 
 pub drew_styled : (at : ℕ) {w v u z : Window} (d : List ℕ) (out : Bytes) {o₁ o₂ o₃ last : Bytes} (n : ℕ) (s : Bytes)
     → page_of w o₁ ≡ paint (record { at = at; from = get_or d 0 0; buf = out }) (ink rust (opens n)) → page_of v o₂ ≡ paint (page_of w o₁) (b " style=\"") → page_of u o₃ ≡ paint (page_of v o₂) s → page_of z last ≡ paint (page_of u o₃) (b "\"")
-    → Drew at d out (opens n ∷ key (b "style") ∷ piece true s ∷ endValue ∷ []) z.at d last
+    → Drew at d out (opens n ∷ key (b "style") ∷ piece true s ∷ end_value_of ∷ []) z.at d last
 drew_styled at d out n s e₁ e₂ e₃ e₄ = drew_run at d out _ refl (styled_bytes _ n s e₁ e₂ e₃ e₄)
 
 -- an attribute from its strokes
 pub drew_attr : {at a z r : ℕ} (d d₁ d₂ d₃ : List ℕ) {out o₁ o₂ last : Bytes} (k : Bytes) (raw : Bool) (v : Bytes)
-    → Drew at d out (key k ∷ []) a d₁ o₁ → Drew a d₁ o₁ (piece raw v ∷ []) z d₂ o₂ → Drew z d₂ o₂ (endValue ∷ []) r d₃ last → Drew at d out (key k ∷ piece raw v ∷ endValue ∷ []) r d₃ last
+    → Drew at d out (key k ∷ []) a d₁ o₁ → Drew a d₁ o₁ (piece raw v ∷ []) z d₂ o₂ → Drew z d₂ o₂ (end_value_of ∷ []) r d₃ last → Drew at d out (key k ∷ piece raw v ∷ end_value_of ∷ []) r d₃ last
 drew_attr d d₁ d₂ d₃ k raw v e₁ e₂ e₃ = drew_two d d₁ d₃ e₁ (drew_two d₁ d₂ d₃ e₂ e₃)
 
 -- ---- items

@@ -13,7 +13,7 @@ pub data Stroke : Type 0 where
   opens : ℕ → Stroke
   key : Bytes → Stroke
   piece : Bool → Bytes → Stroke
-  endValue ends shuts : Stroke
+  end_value_of ends shuts : Stroke
   closes : ℕ → Stroke
   words : Bytes → Stroke
   breaks : ℕ → Stroke
@@ -22,7 +22,7 @@ pub data Stroke : Type 0 where
 
 -- a key, its value in one piece, the value's end
 unfoldable pub strokes_of_attr : Attr → List Stroke
-strokes_of_attr a = key a.key ∷ piece a.raw a.value ∷ endValue ∷ []
+strokes_of_attr a = key a.key ∷ piece a.raw a.value ∷ end_value_of ∷ []
 
 -- attributes in a row
 unfoldable pub strokes_of_attrs : List Attr → List Stroke
@@ -49,7 +49,7 @@ unfoldable pub ink : Profile → Stroke → Bytes
 ink rust (opens n) = b "<" ++ name_of n
 ink rust (key k) = b " " ++ (k ++ b "=\"")
 ink rust (piece raw v) = cond raw v (escape true v)
-ink rust endValue = b "\""
+ink rust end_value_of = b "\""
 ink rust ends = b ">"
 ink rust shuts = b " />"
 ink rust (closes n) = b "</" ++ (name_of n ++ b ">")

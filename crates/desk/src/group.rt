@@ -1,7 +1,7 @@
 // Rows of strokes that are frequent, each written by few runs.
 ghost use Rattle.std.specs.Prelude.{◌≡◌, true, false, List, [], ◌∷◌, ◌++◌};
 ghost use Rattle.parts.specs.Bytes.{b};
-ghost use Rattle.desk.specs.Stroke.{opens, key, piece, endValue, shuts, closes, strokes_of_attrs, Drew};
+ghost use Rattle.desk.specs.Stroke.{opens, key, piece, end_value_of, shuts, closes, strokes_of_attrs, Drew};
 ghost use Rattle.tags.specs.Items.{Attr, attrs_bytes};
 
 use crate::held::Numbers;
@@ -9,7 +9,7 @@ use window::{Window, escape_xml_attr, put_run};
 
 // The front of a char's tag with its style, which is a name.
 pub fn open_char(at: usize, desk: &mut Numbers, out: &mut [u8], style: &[u8]) -> usize
-    ensures { Drew at desk.old out.old (opens 6 ∷ key (b "style") ∷ piece true style.now ∷ endValue ∷ []) result desk.new out.new }
+    ensures { Drew at desk.old out.old (opens 6 ∷ key (b "style") ∷ piece true style.now ∷ end_value_of ∷ []) result desk.new out.new }
 {
     let w = put_run(Window { at, from: desk[0] }, out, b"<char style=\"");
     let v = put_run(w, out, style);
@@ -19,7 +19,7 @@ pub fn open_char(at: usize, desk: &mut Numbers, out: &mut [u8], style: &[u8]) ->
 
 // The same of a paragraph.
 pub fn open_para(at: usize, desk: &mut Numbers, out: &mut [u8], style: &[u8]) -> usize
-    ensures { Drew at desk.old out.old (opens 5 ∷ key (b "style") ∷ piece true style.now ∷ endValue ∷ []) result desk.new out.new }
+    ensures { Drew at desk.old out.old (opens 5 ∷ key (b "style") ∷ piece true style.now ∷ end_value_of ∷ []) result desk.new out.new }
 {
     let w = put_run(Window { at, from: desk[0] }, out, b"<para style=\"");
     let v = put_run(w, out, style);
@@ -45,7 +45,7 @@ pub fn close_para(at: usize, desk: &mut Numbers, out: &mut [u8]) -> usize
 
 // The front of a verse's tag: its number and style.
 pub fn open_verse(at: usize, desk: &mut Numbers, out: &mut [u8], label: &[u8]) -> usize
-    ensures { Drew at desk.old out.old (opens 4 ∷ key (b "number") ∷ piece false label.now ∷ endValue ∷ key (b "style") ∷ piece true (b "v") ∷ endValue ∷ []) result desk.new out.new }
+    ensures { Drew at desk.old out.old (opens 4 ∷ key (b "number") ∷ piece false label.now ∷ end_value_of ∷ key (b "style") ∷ piece true (b "v") ∷ end_value_of ∷ []) result desk.new out.new }
 {
     let w = put_run(Window { at, from: desk[0] }, out, b"<verse number=\"");
     let v = escape_xml_attr(w, out, label);
@@ -71,7 +71,7 @@ pub fn open_verse_end(at: usize, desk: &mut Numbers, out: &mut [u8]) -> usize
 
 // The end of the last value of a tag that holds nothing, and the tag's end.
 pub fn shut_value(at: usize, desk: &mut Numbers, out: &mut [u8]) -> usize
-    ensures { Drew at desk.old out.old (endValue ∷ shuts ∷ []) result desk.new out.new }
+    ensures { Drew at desk.old out.old (end_value_of ∷ shuts ∷ []) result desk.new out.new }
 {
     let w = put_run(Window { at, from: desk[0] }, out, b"\" />");
     w.at

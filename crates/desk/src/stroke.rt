@@ -8,7 +8,7 @@ ghost use Rattle.tags.specs.Names.{name_of};
 ghost use Rattle.events.specs.Profile.{rust};
 ghost use Rattle.desk.specs.Desk.{shown_as};
 ghost use Rattle.desk.specs.Named.{number_of, start_of, len_of};
-ghost use Rattle.desk.specs.Stroke.{opens, key as key_stroke, piece as piece_stroke, endValue, ends, shuts, closes, ink, Drew};
+ghost use Rattle.desk.specs.Stroke.{opens, key as key_stroke, piece as piece_stroke, end_value_of, ends, shuts, closes, ink, Drew};
 
 use crate::held::Numbers;
 use window::{Window, escape_xml_attr, put_number, put_run};
@@ -191,7 +191,7 @@ pub fn digits(at: usize, desk: &mut Numbers, out: &mut [u8], n: u32) -> usize
 
 // The end of a value.
 pub fn end_value(at: usize, desk: &mut Numbers, out: &mut [u8]) -> usize
-    ensures { Drew at desk.old out.old (endValue ∷ []) result desk.new out.new }
+    ensures { Drew at desk.old out.old (end_value_of ∷ []) result desk.new out.new }
 {
     let w = put_run(Window { at, from: desk[0] }, out, b"\"");
     w.at
@@ -206,7 +206,7 @@ pub fn attr(
     value: &[u8],
     raw: bool,
 ) -> usize
-    ensures { Drew at desk.old out.old (key_stroke name.now ∷ piece_stroke raw value.now ∷ endValue ∷ []) result desk.new out.new }
+    ensures { Drew at desk.old out.old (key_stroke name.now ∷ piece_stroke raw value.now ∷ end_value_of ∷ []) result desk.new out.new }
 {
     let a = key(at, desk, out, name);
     let z = piece(a, desk, out, value, raw);
@@ -215,7 +215,7 @@ pub fn attr(
 
 // The front of a tag with its style, which is a name.
 pub fn open_styled(at: usize, desk: &mut Numbers, out: &mut [u8], e: Element, style: &[u8]) -> usize
-    ensures { Drew at desk.old out.old (opens (number_of e) ∷ key_stroke (b "style") ∷ piece_stroke true style.now ∷ endValue ∷ []) result desk.new out.new }
+    ensures { Drew at desk.old out.old (opens (number_of e) ∷ key_stroke (b "style") ∷ piece_stroke true style.now ∷ end_value_of ∷ []) result desk.new out.new }
 {
     let w = put_open(Window { at, from: desk[0] }, out, e);
     let v = put_run(w, out, b" style=\"");

@@ -15,7 +15,7 @@ use Rattle.fold.specs.declared.Claim.{Claim}
 use Rattle.fold.specs.declared.Claim.TheVariants.{Blank, Alt, Pub, Stops}
 use Rattle.fold.proofs.Folding.{fold_blank, fold_alt, fold_pub, fold_stops, fold_nil}
 use Rattle.events.specs.Event.{Event}
-use Rattle.events.specs.Walk.{Child, anchor, words, passed, marker, child_of, Turn, inline_turn, inline_from, inline_all, inline_on, Place, aRow, aChapter, aSidebar, aPeriph, aBlock, aVerse, dropped, place_of, Blocks, block_turn, blocks_from, blocks_all_of, blocks_on}
+use Rattle.events.specs.Walk.{Child, anchor, words, passed, marker, child_of, Turn, inline_turn, inline_from, inline_all, inline_on, Place, a_row_of, a_chapter_of, a_sidebar_of, a_periph_of, a_block, a_verse_of, dropped, place_of, Blocks, block_turn, blocks_from, blocks_all_of, blocks_on}
 
 -- ---- a fold goes on in its list
 
@@ -82,12 +82,12 @@ from_short p (k ∷ ks) = go (p k) (from_short p ks)
 module _ (blocks : List ℕ → List Event) (t : Tape) (d level : ℕ) where
   block_short : (k : ℕ) (ks : List ℕ) (p : Place) → length (block_turn blocks t d level k ks p).rest ≤ length ks
   unfolding block_turn
-  block_short k ks aRow = from_short (λ i. not (is_row t i)) ks
-  block_short k ks aChapter = fold_within t 6 ks
-  block_short k ks aSidebar = omega arith
-  block_short k ks aPeriph = omega arith
-  block_short k ks aBlock = omega arith
-  block_short k ks aVerse = from_short (is_top_level_block_of t) ks
+  block_short k ks a_row_of = from_short (λ i. not (is_row t i)) ks
+  block_short k ks a_chapter_of = fold_within t 6 ks
+  block_short k ks a_sidebar_of = omega arith
+  block_short k ks a_periph_of = omega arith
+  block_short k ks a_block = omega arith
+  block_short k ks a_verse_of = from_short (is_top_level_block_of t) ks
   block_short k ks dropped = omega arith
 
   enough_blocks : (n m : ℕ) (ks : List ℕ) → length ks ≤ n → length ks ≤ m → blocks_from blocks t d level n ks ≡ blocks_from blocks t d level m ks

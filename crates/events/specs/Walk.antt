@@ -68,16 +68,16 @@ unclosed t k = cond (is_synthetic t (node_at t k).link) (escaped (b "closed") (b
 
 -- how the children of a container are written
 pub data Manner : Type 0 where
-  asInline asNote : Manner
+  as_inline as_note : Manner
 
 -- what a MarkerOpen is written as
 pub data Role : Type 0 where
-  unknownBlock unknownInline unwritten figure ref id note ms char para : Role
+  unknown_block unknown_inline unwritten figure ref id note ms char para : Role
 
 -- an unknown marker by its shape: a leaf is not written
 unfoldable pub role_of_shape : Shape → Role
-role_of_shape Block = unknownBlock
-role_of_shape Inline = unknownInline
+role_of_shape Block = unknown_block
+role_of_shape Inline = unknown_inline
 role_of_shape Leaf = unwritten
 role_of_shape Other = unwritten
 
@@ -118,23 +118,23 @@ linked (some loc) es = element el.ref (escaped (b "loc") loc ∷ []) es
 -- `write_figure`: the positional form of old writes no child
 unfoldable pub figure_as : (Manner → ℕ → Bool → List Event) → Tape → ℕ → Bool → Step → List Event
 figure_as inside t k outer (At a) = asided (element el.figure (styled (b "fig") ++ collected (legacy_pairs t k a.at)) (item (text (caption_of t a.at)) ∷ []))
-figure_as inside t k outer Done = asided (element el.figure (styled (b "fig") ++ collected (attributes_of t k (b "fig"))) (inside asInline k outer))
+figure_as inside t k outer Done = asided (element el.figure (styled (b "fig") ++ collected (attributes_of t k (b "fig"))) (inside as_inline k outer))
 
 -- a MarkerOpen by its role; `inside` has the events inside a container, `outer` says whether inline content follows the parent
 unfoldable pub marker_as : (Manner → ℕ → Bool → List Event) → Tape → ℕ → Bool → Role → List Event
-marker_as inside t k outer unknownBlock = element el.para (style t k ∷ escaped (b "status") (b "unknown") ∷ []) (inside asInline k outer)
-marker_as inside t k outer unknownInline = element el.char (style t k ∷ escaped (b "status") (b "unknown") ∷ []) (inside asInline k outer)
+marker_as inside t k outer unknown_block = element el.para (style t k ∷ escaped (b "status") (b "unknown") ∷ []) (inside as_inline k outer)
+marker_as inside t k outer unknown_inline = element el.char (style t k ∷ escaped (b "status") (b "unknown") ∷ []) (inside as_inline k outer)
 marker_as inside t k outer unwritten = []
 marker_as inside t k outer figure = figure_as inside t k outer (legacy_at t k)
-marker_as inside t k outer ref = element el.ref (perhaps (b "loc") (first_of (b "loc") (attributes_of t k (b "ref")))) (inside asInline k outer)
+marker_as inside t k outer ref = element el.ref (perhaps (b "loc") (first_of (b "loc") (attributes_of t k (b "ref")))) (inside as_inline k outer)
 marker_as inside t k outer id = book (book_code_of t k) (book_rest_of t k) ∷ []
 marker_as inside t k outer note =
-    asided (element el.note (escaped (b "caller") (note_caller_of t k) ∷ style t k ∷ perhaps (b "category") (written_category t k)) (inside asNote k outer))
+    asided (element el.note (escaped (b "caller") (note_caller_of t k) ∷ style t k ∷ perhaps (b "category") (written_category t k)) (inside as_note k outer))
 marker_as inside t k outer ms = item (empty el.ms (style t k ∷ collected (attributes_of t k (marker_name t k)))) ∷ []
 marker_as inside t k outer char =
-    element el.char (style t k ∷ (unclosed t k ++ collected (attributes_of t k (marker_name t k)))) (linked (link_of t k) (inside asInline k outer))
+    element el.char (style t k ∷ (unclosed t k ++ collected (attributes_of t k (marker_name t k)))) (linked (link_of t k) (inside as_inline k outer))
 marker_as inside t k outer para =
-    cond (found (first_child t k)) (element el.para (style t k ∷ []) (inside asInline k outer)) (item (empty el.para (style t k ∷ [])) ∷ [])
+    cond (found (first_child t k)) (element el.para (style t k ∷ []) (inside as_inline k outer)) (item (empty el.para (style t k ∷ [])) ∷ [])
 
 -- one node that is no text; a Chapter or Verse here folds nothing
 unfoldable pub node_in_of : (Manner → ℕ → Bool → List Event) → Tape → ℕ → Bool → List Event
@@ -163,13 +163,13 @@ child_of kind = cond (eqb kind kinds.verse) anchor (cond (eqb kind kinds.text) w
 
 -- what a child is to a note
 pub data NoteChild : Type 0 where
-  direct leftOut entered : NoteChild
+  direct left_out entered : NoteChild
 
 -- `cat`, Attribute and Error are left out; a Verse is entered as a marker is, and folds nothing
 unfoldable pub note_child_of : Tape → ℕ → NoteChild
 note_child_of t k =
-    cond (is_category_marker_of t k) leftOut
-    (cond (eqb (kind_at t k) kinds.text) direct (cond (eqb (kind_at t k) kinds.attribute || eqb (kind_at t k) kinds.error) leftOut entered))
+    cond (is_category_marker_of t k) left_out
+    (cond (eqb (kind_at t k) kinds.text) direct (cond (eqb (kind_at t k) kinds.attribute || eqb (kind_at t k) kinds.error) left_out entered))
 
 -- one turn along a list: what is written, whether a text behind it loses its leading space, and where the list goes on
 pub record Turn : Type 0 where
@@ -221,7 +221,7 @@ unfoldable pub note_turn_of : (ℕ → Bool → List Event) → Tape → ℕ →
 note_turn_of node t first behind trim k direct =
     let n = normalized t k (note_text t first k) trim behind in
     record { written = unbroken (note_text t first k) n; trim = trim && not n.shows }
-note_turn_of node t first behind trim k leftOut = record { written = []; trim = trim }
+note_turn_of node t first behind trim k left_out = record { written = []; trim = trim }
 note_turn_of node t first behind trim k entered = record { written = node k behind; trim = trims_after_of t k }
 
 -- the events of a note's children, of which the first has this index
@@ -235,8 +235,8 @@ note_all node t first behind trim (k ∷ ks) =
 -- the events inside a container, by the depth that is left at it
 unfoldable pub inside : Tape → ℕ → Manner → ℕ → Bool → List Event
 inside t zero m k outer = []
-inside t (suc d) asInline k outer = inline_all (node_in_of (inside t d) t) t (followed t k outer) trimming (children t k)
-inside t (suc d) asNote k outer = note_all (node_in_of (inside t d) t) t (k + 1) (followed t k outer) trimming (children t k)
+inside t (suc d) as_inline k outer = inline_all (node_in_of (inside t d) t) t (followed t k outer) trimming (children t k)
+inside t (suc d) as_note k outer = note_all (node_in_of (inside t d) t) t (k + 1) (followed t k outer) trimming (children t k)
 
 -- one node
 abbrev pub node_e : Tape → ℕ → ℕ → Bool → List Event
@@ -257,7 +257,7 @@ is_cell_of t k = is_open t k && is_known (info_at t k)
 unfoldable pub cell_in : (Manner → ℕ → Bool → List Event) → Tape → ℕ → ℕ → List Event
 cell_in inside t level k =
     let attrs = style t k ∷ escaped (b "align") (align_word (cell_align_of (marker_name t k))) ∷ [] in
-    item (line level) ∷ cond (has_content_of t k) (element el.cell attrs (inside asInline k unfollowed)) (item (empty el.cell attrs) ∷ [])
+    item (line level) ∷ cond (has_content_of t k) (element el.cell attrs (inside as_inline k unfollowed)) (item (empty el.cell attrs) ∷ [])
 
 -- the cells of a list; what is no cell is dropped
 unfoldable pub cells_along : (Manner → ℕ → Bool → List Event) → Tape → ℕ → List ℕ → List Event
@@ -304,16 +304,16 @@ periph_in blocks t level k =
 
 -- what a node is at block level
 pub data Place : Type 0 where
-  aRow aChapter aSidebar aPeriph aBlock aVerse dropped : Place
+  a_row_of a_chapter_of a_sidebar_of a_periph_of a_block a_verse_of dropped : Place
 
 -- at block level, the first that fits: row; Chapter; sidebar, periph; top-level block; Verse; all else is dropped
 unfoldable pub place_of : Tape → ℕ → Place
 place_of t k =
-    cond (is_row t k) aRow
-    (cond (is_chapter_of t k) aChapter
-    (cond (is_element_of elements.sidebar (info_at t k)) aSidebar
-    (cond (is_element_of elements.periph (info_at t k)) aPeriph
-    (cond (is_top_level_block_of t k) aBlock (cond (is_verse_of t k) aVerse dropped)))))
+    cond (is_row t k) a_row_of
+    (cond (is_chapter_of t k) a_chapter_of
+    (cond (is_element_of elements.sidebar (info_at t k)) a_sidebar_of
+    (cond (is_element_of elements.periph (info_at t k)) a_periph_of
+    (cond (is_top_level_block_of t k) a_block (cond (is_verse_of t k) a_verse_of dropped)))))
 
 -- what is written as a figure, by the entry's name, may stand as a block; by its category no note does
 unfoldable pub is_figure : Tape → Info → Bool
@@ -327,15 +327,15 @@ pub record Blocks : Type 0 where
 
 -- `write_blocks`: each starts on a new line at its level, a figure's between its `aside` and `back`; a verse starts a run in a paragraph of its own, cut at the next block
 unfoldable pub block_turn : (List ℕ → List Event) → Tape → ℕ → ℕ → ℕ → List ℕ → Place → Blocks
-block_turn blocks t d level k ks aRow =
+block_turn blocks t d level k ks a_row_of =
     record { written = table_e t d level (k ∷ up_to (λ i. not (is_row t i)) ks); rest = from_first (λ i. not (is_row t i)) ks }
-block_turn blocks t d level k ks aChapter =
+block_turn blocks t d level k ks a_chapter_of =
     let f = fold_at t kinds.chapter ks in
     record { written = item (line level) ∷ chapter (number_at t k) f.alt f.published ∷ []; rest = f.rest }
-block_turn blocks t d level k ks aSidebar = record { written = item (line level) ∷ sidebar_in blocks t level k; rest = ks }
-block_turn blocks t d level k ks aPeriph = record { written = item (line level) ∷ periph_in blocks t level k; rest = ks }
-block_turn blocks t d level k ks aBlock = record { written = besides (is_figure t (info_at t k)) (item (line level) ∷ node_e t d k unfollowed); rest = ks }
-block_turn blocks t d level k ks aVerse =
+block_turn blocks t d level k ks a_sidebar_of = record { written = item (line level) ∷ sidebar_in blocks t level k; rest = ks }
+block_turn blocks t d level k ks a_periph_of = record { written = item (line level) ∷ periph_in blocks t level k; rest = ks }
+block_turn blocks t d level k ks a_block = record { written = besides (is_figure t (info_at t k)) (item (line level) ∷ node_e t d k unfollowed); rest = ks }
+block_turn blocks t d level k ks a_verse_of =
     record {
       written = item (line level) ∷ element el.para (styled (b "p")) (inline_all (node_in_of (inside t d) t) t unfollowed trimming (k ∷ up_to (is_top_level_block_of t) ks));
       rest = from_first (is_top_level_block_of t) ks;

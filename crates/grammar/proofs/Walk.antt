@@ -24,7 +24,7 @@ use Rattle.render.specs.Children.{has_content_of}
 use Rattle.figure.specs.Figure.{legacy_at}
 use Rattle.tags.specs.Items.{Attr, start, close, line}
 use Rattle.events.specs.Event.{Event, item, element, asided, besides}
-use Rattle.events.specs.Walk.{unbroken, breaks, segmented, broken, Manner, asInline, asNote, Role, unknownBlock, unknownInline, unwritten, figure, ref, id, note, ms, char, para, role_of, link_of, linked, figure_as, marker_as, node_in_of, Child, anchor, words, passed, marker, child_of, note_child_of, normalized, inline_turn, inline_from, inline_all, note_text, note_turn_of, note_all, inside, is_cell_of, is_known, cell_in, cells_along, cells, row_e, rows_e, table_e, holder, sidebar_in, periph_in, Place, aRow, aChapter, aSidebar, aPeriph, aBlock, aVerse, dropped, place_of, is_figure, block_turn, blocks_from, blocks_all_of, blocks_e, events_within, events_of, NoteChild, direct, leftOut, entered}
+use Rattle.events.specs.Walk.{unbroken, breaks, segmented, broken, Manner, as_inline, as_note, Role, unknown_block, unknown_inline, unwritten, figure, ref, id, note, ms, char, para, role_of, link_of, linked, figure_as, marker_as, node_in_of, Child, anchor, words, passed, marker, child_of, note_child_of, normalized, inline_turn, inline_from, inline_all, note_text, note_turn_of, note_all, inside, is_cell_of, is_known, cell_in, cells_along, cells, row_e, rows_e, table_e, holder, sidebar_in, periph_in, Place, a_row_of, a_chapter_of, a_sidebar_of, a_periph_of, a_block, a_verse_of, dropped, place_of, is_figure, block_turn, blocks_from, blocks_all_of, blocks_e, events_within, events_of, NoteChild, direct, left_out, entered}
 use Rattle.grammar.specs.Grammar.{Marked, Given, unknown-para, unknown-char, old_figure, a_figure, a_ref, a_link, a_note, an_ms, a_char, a_para, a_run, a_table, a_row, a_cell, a_sidebar, a_periph, a_break, a_text, a_line, an_empty, a_chapter, a_verse, an_aside, a_back, Grown, none, leaf, a_book, around, twice}
 
 -- ---- lists of events
@@ -80,11 +80,11 @@ element-marked t k n e = go (bears_marker (kind_at t k)) (ltb (node_at t k).mark
     go true w e = refl
     go false w e = absurd (let no_way : ◌≡◌ {A = ℕ} 0 1 = cc in omega arith)
 
-sidebar-marked : (t : Tape) (k : ℕ) → place_of t k ≡ aSidebar → Marked t k
+sidebar-marked : (t : Tape) (k : ℕ) → place_of t k ≡ a_sidebar_of → Marked t k
 unfolding place_of
 sidebar-marked t k e = element-marked t k 1 (go (is_row t k) (is_chapter_of t k) (is_element_of 1 (info_at t k)) (is_element_of 2 (info_at t k)) (is_top_level_block_of t k) (is_verse_of t k) e)
   where
-    go : (r c s p i v : Bool) → cond r aRow (cond c aChapter (cond s aSidebar (cond p aPeriph (cond i aBlock (cond v aVerse dropped))))) ≡ aSidebar → s ≡ true
+    go : (r c s p i v : Bool) → cond r a_row_of (cond c a_chapter_of (cond s a_sidebar_of (cond p a_periph_of (cond i a_block (cond v a_verse_of dropped))))) ≡ a_sidebar_of → s ≡ true
     go true c s p i v e = absurd (let no_way : ◌≡◌ {A = ℕ} 0 1 = cc in omega arith)
     go false true s p i v e = absurd (let no_way : ◌≡◌ {A = ℕ} 0 1 = cc in omega arith)
     go false false true p i v e = refl
@@ -135,22 +135,22 @@ module _ (t : Tape) where
     grown_figure : (k : ℕ) (outer : Bool) (s : Step) → Grown t (suc h) (figure_as within t k outer s)
     unfolding figure_as
     grown_figure k outer (At a) = grown_asided (grown_element (old_figure k a.at) (leaf a_text none))
-    grown_figure k outer Done = grown_asided (grown_element (a_figure k) (g asInline k outer))
+    grown_figure k outer Done = grown_asided (grown_element (a_figure k) (g as_inline k outer))
 
     grown_marker : (k : ℕ) (outer : Bool) → is_open t k ≡ true → (r : Role) → role_of t k ≡ r → Grown t (suc (suc h)) (marker_as within t k outer r)
     unfolding marker_as
-    grown_marker k outer o unknownBlock e = taller (grown_element (unknown-para k (open_marked t k o)) (g asInline k outer))
-    grown_marker k outer o unknownInline e = taller (grown_element (unknown-char k (open_marked t k o)) (g asInline k outer))
+    grown_marker k outer o unknown_block e = taller (grown_element (unknown-para k (open_marked t k o)) (g as_inline k outer))
+    grown_marker k outer o unknown_inline e = taller (grown_element (unknown-char k (open_marked t k o)) (g as_inline k outer))
     grown_marker k outer o unwritten e = none
     grown_marker k outer o figure e = taller (grown_figure k outer (legacy_at t k))
-    grown_marker k outer o ref e = taller (grown_element (a_ref k) (g asInline k outer))
+    grown_marker k outer o ref e = taller (grown_element (a_ref k) (g as_inline k outer))
     grown_marker k outer o id e = a_book k o e none
-    grown_marker k outer o note e = taller (grown_asided (grown_element (a_note k (open_marked t k o)) (g asNote k outer)))
+    grown_marker k outer o note e = taller (grown_asided (grown_element (a_note k (open_marked t k o)) (g as_note k outer)))
     grown_marker k outer o ms e = leaf (an_empty (an_ms k (open_marked t k o))) none
-    grown_marker k outer o char e = grown_element (a_char k (open_marked t k o)) (grown_linked (link_of t k) _ (g asInline k outer))
+    grown_marker k outer o char e = grown_element (a_char k (open_marked t k o)) (grown_linked (link_of t k) _ (g as_inline k outer))
     grown_marker k outer o para e =
         let a : Given t 5 _ = a_para k (open_marked t k o) in
-        grown_if (found (first_child t k)) _ _ (λ _. taller (grown_element a (g asInline k outer))) (leaf (an_empty a) none)
+        grown_if (found (first_child t k)) _ _ (λ _. taller (grown_element a (g as_inline k outer))) (leaf (an_empty a) none)
 
     grown_node : (k : ℕ) (outer : Bool) → Grown t (suc (suc h)) (node_in_of within t k outer)
     unfolding node_in_of
@@ -182,7 +182,7 @@ module _ (t : Tape) where
     grown_note_turn : (first : ℕ) (behind trim : Bool) (k : ℕ) (c : NoteChild) → Grown t h (note_turn_of node t first behind trim k c).written
     unfolding note_turn_of
     grown_note_turn first behind trim k direct = grown_unbroken (note_text t first k) (normalized t k (note_text t first k) trim behind)
-    grown_note_turn first behind trim k leftOut = none
+    grown_note_turn first behind trim k left_out = none
     grown_note_turn first behind trim k entered = g k behind
 
     grown_note : (first : ℕ) (behind trim : Bool) (ks : List ℕ) → Grown t h (note_all node t first behind trim ks)
@@ -196,9 +196,9 @@ module _ (t : Tape) where
   grown_inside : (d : ℕ) (m : Manner) (k : ℕ) (outer : Bool) → Grown t (twice d) (inside t d m k outer)
   unfolding inside twice
   grown_inside zero m k outer = none
-  grown_inside (suc d) asInline k outer =
+  grown_inside (suc d) as_inline k outer =
       grown_all (twice (suc d)) (node_in_of (inside t d) t) (grown_node (twice d) (inside t d) (grown_inside d)) (followed t k outer) true (children t k)
-  grown_inside (suc d) asNote k outer =
+  grown_inside (suc d) as_note k outer =
       grown_note (twice (suc d)) (node_in_of (inside t d) t) (grown_node (twice d) (inside t d) (grown_inside d)) (k + 1) (followed t k outer) true (children t k)
 
   -- ---- blocks
@@ -207,7 +207,7 @@ module _ (t : Tape) where
   unfolding cell_in
   grown_cell d level k o =
       let a : Given t 12 _ = a_cell k (open_marked t k o) in
-      leaf a_line (grown_if (has_content_of t k) _ _ (λ _. grown_element a (grown_inside d asInline k false)) (leaf (an_empty a) none))
+      leaf a_line (grown_if (has_content_of t k) _ _ (λ _. grown_element a (grown_inside d as_inline k false)) (leaf (an_empty a) none))
 
   grown_along : (d level : ℕ) (ks : List ℕ) → Grown t (suc (twice d)) (cells_along (inside t d) t level ks)
   unfolding cells_along is_cell_of
@@ -241,13 +241,13 @@ module _ (t : Tape) where
 
     grown_block : (k : ℕ) (ks : List ℕ) (p : Place) → place_of t k ≡ p → Grown t (suc (suc (suc (twice d)))) (block_turn blocks t d level k ks p).written
     unfolding block_turn sidebar_in periph_in
-    grown_block k ks aRow e = grown_table d level (k ∷ up_to (λ i. not (is_row t i)) ks)
-    grown_block k ks aChapter e = leaf a_line (leaf a_chapter none)
-    grown_block k ks aSidebar e =
+    grown_block k ks a_row_of e = grown_table d level (k ∷ up_to (λ i. not (is_row t i)) ks)
+    grown_block k ks a_chapter_of e = leaf a_line (leaf a_chapter none)
+    grown_block k ks a_sidebar_of e =
         leaf a_line (grown_holder 13 _ (without (is_category_marker_of t) (children t k)) (a_sidebar k (sidebar-marked t k e)))
-    grown_block k ks aPeriph e = leaf a_line (grown_holder 14 _ (children t k) (a_periph k))
-    grown_block k ks aBlock e = grown_besides (is_figure t (info_at t k)) (leaf a_line (taller (grown_node (twice d) (inside t d) (grown_inside d) k false)))
-    grown_block k ks aVerse e =
+    grown_block k ks a_periph_of e = leaf a_line (grown_holder 14 _ (children t k) (a_periph k))
+    grown_block k ks a_block e = grown_besides (is_figure t (info_at t k)) (leaf a_line (taller (grown_node (twice d) (inside t d) (grown_inside d) k false)))
+    grown_block k ks a_verse_of e =
         leaf a_line (grown_element a_run
         (grown_all (suc (suc (twice d))) (node_in_of (inside t d) t) (grown_node (twice d) (inside t d) (grown_inside d)) false true (k ∷ up_to (is_top_level_block_of t) ks)))
     grown_block k ks dropped e = none

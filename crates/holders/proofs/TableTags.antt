@@ -19,7 +19,7 @@ use Rattle.events.specs.Event.{item, rawly, escaped}
 use Rattle.events.specs.Walk.{is_known, is_cell_of, style, styled}
 use Rattle.events.specs.Emit.{Desk, emit, emit_all}
 use Rattle.desk.specs.Desk.{desk_of}
-use Rattle.desk.specs.Stroke.{opens, key, piece, endValue, ends, shuts, closes, strokes_of_attr, strokes_of_attrs, strokes_of, Drew}
+use Rattle.desk.specs.Stroke.{opens, key, piece, end_value_of, ends, shuts, closes, strokes_of_attr, strokes_of_attrs, strokes_of, Drew}
 use Rattle.desk.proofs.Strokes.{drew_two}
 use Rattle.holders.specs.Rows.{cell_attrs, row_opens, row_closes, table_opens, table_closes}
 use Rattle.holders.proofs.Tags.{tag_started, tag_emptied, on_line}
@@ -46,20 +46,20 @@ module _ (t : Tape) (k : ℕ) {z : Kind} (ek : z.code ≡ kind_at t k) where
 -- ---- the tag of a cell
 
 module _ {at r : ℕ} (d last-d : List ℕ) {out last : Bytes} {a : Align} where
-  pub align_start : a ≡ Start → Drew at d out (key (b "align") ∷ piece false (b "start") ∷ endValue ∷ []) r last-d last → Drew at d out (strokes_of_attr (escaped (b "align") (align_word a))) r last-d last
+  pub align_start : a ≡ Start → Drew at d out (key (b "align") ∷ piece false (b "start") ∷ end_value_of ∷ []) r last-d last → Drew at d out (strokes_of_attr (escaped (b "align") (align_word a))) r last-d last
   unfolding align_word strokes_of_attr escaped
   align_start h e = rw h e
 
-  pub align_center : a ≡ Center → Drew at d out (key (b "align") ∷ piece false (b "center") ∷ endValue ∷ []) r last-d last → Drew at d out (strokes_of_attr (escaped (b "align") (align_word a))) r last-d last
+  pub align_center : a ≡ Center → Drew at d out (key (b "align") ∷ piece false (b "center") ∷ end_value_of ∷ []) r last-d last → Drew at d out (strokes_of_attr (escaped (b "align") (align_word a))) r last-d last
   unfolding align_word strokes_of_attr escaped
   align_center h e = rw h e
 
-  pub align_end : a ≡ End → Drew at d out (key (b "align") ∷ piece false (b "end") ∷ endValue ∷ []) r last-d last → Drew at d out (strokes_of_attr (escaped (b "align") (align_word a))) r last-d last
+  pub align_end : a ≡ End → Drew at d out (key (b "align") ∷ piece false (b "end") ∷ end_value_of ∷ []) r last-d last → Drew at d out (strokes_of_attr (escaped (b "align") (align_word a))) r last-d last
   unfolding align_word strokes_of_attr escaped
   align_end h e = rw h e
 
 module _ {at a r : ℕ} (d d₁ d₂ : List ℕ) {out mid last : Bytes} where
-  pub cell_front : (name : Bytes) {x : Align} → Drew at d out (opens 12 ∷ key (b "style") ∷ piece true name ∷ endValue ∷ []) a d₁ mid → x ≡ cell_align_of name
+  pub cell_front : (name : Bytes) {x : Align} → Drew at d out (opens 12 ∷ key (b "style") ∷ piece true name ∷ end_value_of ∷ []) a d₁ mid → x ≡ cell_align_of name
       → Drew a d₁ mid (strokes_of_attr (escaped (b "align") (align_word x))) r d₂ last
       → Drew at d out (opens 12 ∷ strokes_of_attrs (rawly (b "style") name ∷ escaped (b "align") (align_word (cell_align_of name)) ∷ [])) r d₂ last
   unfolding strokes_of_attrs strokes_of_attr rawly
@@ -89,7 +89,7 @@ module _ (source : Bytes) (level : ℕ) (w : Desk) {a r : ℕ} (d₁ d₂ : List
   table_closed e = on_line level w ea (close 10) (e.on source)
 
   module _ {z : ℕ} (d₃ : List ℕ) {now : Bytes} where
-    pub row_opened : Drew a d₁ mid (opens 11 ∷ key (b "style") ∷ piece true (b "tr") ∷ endValue ∷ []) z d₃ now → Drew z d₃ now (ends ∷ []) r d₂ last
+    pub row_opened : Drew a d₁ mid (opens 11 ∷ key (b "style") ∷ piece true (b "tr") ∷ end_value_of ∷ []) z d₃ now → Drew z d₃ now (ends ∷ []) r d₂ last
         → desk_of source r d₂ last ≡ emit_all w (row_opens level)
     unfolding row_opens styled rawly strokes_of strokes_of_attrs strokes_of_attr
     row_opened e f = on_line level w ea (start 11 (styled (b "tr"))) ((drew_two d₁ d₃ d₂ e f).on source)

@@ -22,7 +22,7 @@ use Rattle.events.specs.Event.{item, rawly, escaped, perhaps, collected}
 use Rattle.events.specs.Walk.{style, unclosed}
 use Rattle.events.specs.Emit.{Desk, emit, emit_all}
 use Rattle.desk.specs.Desk.{desk_of}
-use Rattle.desk.specs.Stroke.{opens, key, piece, endValue, ends, shuts, closes, strokes_of_attr, strokes_of_attrs, strokes_of, strokes, Drew}
+use Rattle.desk.specs.Stroke.{opens, key, piece, end_value_of, ends, shuts, closes, strokes_of_attr, strokes_of_attrs, strokes_of, strokes, Drew}
 use Rattle.desk.proofs.Strokes.{drew_none, drew_two, drew_attr, drew_item, strokes_item, attrs_append}
 use Rattle.holders.specs.Holders.{is_block_or_row, sidebar_attrs, periph_attrs, attrs_of, element_no}
 
@@ -40,7 +40,7 @@ module _ (t : Tape) (k : ℕ) {x : Bool} (ex : x ≡ is_top_level_block_of t k) 
 -- ---- a sidebar's attributes
 
 module _ (t : Tape) (k : ℕ) {at u v r : ℕ} (d d₁ d₂ last-d : List ℕ) {out o₁ o₂ last : Bytes} where
-  pub sidebar_put : {name : Bytes} → name ≡ marker_name t k → Drew at d out (opens 13 ∷ key (b "style") ∷ piece true name ∷ endValue ∷ []) u d₁ o₁
+  pub sidebar_put : {name : Bytes} → name ≡ marker_name t k → Drew at d out (opens 13 ∷ key (b "style") ∷ piece true name ∷ end_value_of ∷ []) u d₁ o₁
       → Drew u d₁ o₁ (strokes_of_attrs (perhaps (b "category") (written_category t k))) v d₂ o₂ → Drew v d₂ o₂ (strokes_of_attrs (unclosed t k)) r last-d last
       → Drew at d out (opens (element_no true) ∷ strokes_of_attrs (sidebar_attrs t k)) r last-d last
   unfolding element_no sidebar_attrs style rawly strokes_of_attrs strokes_of_attr
@@ -66,7 +66,7 @@ module _ (t : Tape) (k : ℕ) {text : Bytes} (et : text ≡ step_text t (first_t
   alt_none h = rw (← et, (blank_words Unicode text).0 (sym ex ∙ h)) (drew_none d)
 
   pub alt_some : x ≡ false → {a z r : ℕ} (d₁ d₂ last-d : List ℕ) {o₁ o₂ last : Bytes} → Drew at d out (key (b "alt") ∷ []) a d₁ o₁
-      → Drew a d₁ o₁ (piece false (joined (words Unicode text)) ∷ []) z d₂ o₂ → Drew z d₂ o₂ (endValue ∷ []) r last-d last
+      → Drew a d₁ o₁ (piece false (joined (words Unicode text)) ∷ []) z d₂ o₂ → Drew z d₂ o₂ (end_value_of ∷ []) r last-d last
       → Drew at d out (strokes_of_attrs (perhaps (b "alt") (periph_alt t k))) r last-d last
   unfolding strokes_of_attrs strokes_of_attr escaped perhaps periph_alt first_words
   alt_some h d₁ d₂ last-d e₁ e₂ e₃ =

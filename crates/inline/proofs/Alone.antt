@@ -30,11 +30,11 @@ use Rattle.attrs.specs.Attr.{Pair, attributes_of}
 use Rattle.attrs.specs.Barred.{Barred}
 use Rattle.tags.specs.Items.{Attr, attrs_bytes, start, text, close}
 use Rattle.events.specs.Event.{Event, item, rawly, collected, element}
-use Rattle.events.specs.Walk.{words, passed, child_of, inline_turn, inline_on, inline_all, normalized, unbroken, broken, asInline, char, role_of, style, unclosed, link_of, linked, node_in_of, marker_as, inside}
+use Rattle.events.specs.Walk.{words, passed, child_of, inline_turn, inline_on, inline_all, normalized, unbroken, broken, as_inline, char, role_of, style, unclosed, link_of, linked, node_in_of, marker_as, inside}
 use Rattle.events.specs.Emit.{Desk, emit_all}
 use Rattle.events.proofs.Turns.{inline-none, inline-turn}
 use Rattle.desk.specs.Desk.{desk_of}
-use Rattle.desk.specs.Stroke.{opens, key, piece, endValue, ends, closes, strokes_of_attr, strokes_of_attrs, strokes_of, strokes_of_all, Drew}
+use Rattle.desk.specs.Stroke.{opens, key, piece, end_value_of, ends, closes, strokes_of_attr, strokes_of_attrs, strokes_of, strokes_of_all, Drew}
 use Rattle.desk.specs.Stroke as stroke
 use Rattle.desk.proofs.Strokes.{drew_two}
 use Rattle.put_attrs.proofs.Along.{bare-text, given_barred}
@@ -163,14 +163,14 @@ module _ {at a z r : ℕ} (d d₁ d₂ d₃ : List ℕ) {out o₁ o₂ last : By
       → (t : Bytes) → escape false t ≡ s → Drew at d out (ends ∷ stroke.words t ∷ closes 6 ∷ []) r d₃ last
   held_drawn s e₁ e₂ e₃ t et = drew_two d d₁ d₃ e₁ (drew_two d₁ d₂ d₃ (e₂ t (et ∙ sym (sole-edged s))) e₃)
 
-  pub given_drawn : (name given : Bytes) → Drew at d out (opens 6 ∷ key (b "style") ∷ piece true name ∷ endValue ∷ []) a d₁ o₁ → {y : Bytes}
+  pub given_drawn : (name given : Bytes) → Drew at d out (opens 6 ∷ key (b "style") ∷ piece true name ∷ end_value_of ∷ []) a d₁ o₁ → {y : Bytes}
       → ((qs : List Attr) → b " " ++ given ≡ attrs_bytes qs → Drew a d₁ o₁ (strokes_of_attrs qs) z d₂ o₂) → ((t : Bytes) → escape false t ≡ y → Drew z d₂ o₂ (ends ∷ stroke.words t ∷ closes 6 ∷ []) r d₃ last)
       → (qs : List Attr) → b " " ++ given ≡ attrs_bytes qs → (t : Bytes) → escape false t ≡ y
       → Drew at d out (lone_char name qs t) r d₃ last
   unfolding strokes_of_all strokes_of strokes_of_attrs strokes_of_attr rawly
   given_drawn name given e₁ e₂ e₃ qs eq t et = rw (append_assoc (strokes_of_attrs qs) (ends ∷ []) (stroke.words t ∷ closes 6 ∷ [])) (drew_two d d₁ d₃ e₁ (drew_two d₁ d₂ d₃ (e₂ qs eq) (e₃ t et)))
 
-pub bare_drawn : {at a r : ℕ} (d d₁ d₂ : List ℕ) {out o₁ last : Bytes} (name : Bytes) → Drew at d out (opens 6 ∷ key (b "style") ∷ piece true name ∷ endValue ∷ []) a d₁ o₁ → {y : Bytes}
+pub bare_drawn : {at a r : ℕ} (d d₁ d₂ : List ℕ) {out o₁ last : Bytes} (name : Bytes) → Drew at d out (opens 6 ∷ key (b "style") ∷ piece true name ∷ end_value_of ∷ []) a d₁ o₁ → {y : Bytes}
     → ((t : Bytes) → escape false t ≡ y → Drew a d₁ o₁ (ends ∷ stroke.words t ∷ closes 6 ∷ []) r d₂ last) → (t : Bytes) → escape false t ≡ y → Drew at d out (lone_char name [] t) r d₂ last
 unfolding strokes_of_all strokes_of strokes_of_attrs strokes_of_attr rawly
 bare_drawn d d₁ d₂ name e₁ e₂ t et = drew_two d d₁ d₂ e₁ (e₂ t et)
@@ -203,7 +203,7 @@ module _ (t : Tape) (k : Cursor) {x : Step} (ex : x ≡ next_sibling t k.at) {at
 
 -- ---- the node
 
-inside_list : (t : Tape) (n d : ℕ) (outer : Bool) → (d ≡ 0 → ⊥) → inside t d asInline n outer ≡ inline_all (node_in_of (inside t (d - 1)) t) t (followed t n outer) true (children t n)
+inside_list : (t : Tape) (n d : ℕ) (outer : Bool) → (d ≡ 0 → ⊥) → inside t d as_inline n outer ≡ inline_all (node_in_of (inside t (d - 1)) t) t (followed t n outer) true (children t n)
 unfolding inside
 inside_list t n zero outer h = absurd (h refl)
 inside_list t n (suc d) outer h = let e : d ≡ suc d - 1 = omega arith in ap (λ (j : ℕ). inline_all (node_in_of (inside t j) t) t (followed t n outer) true (children t n)) e
@@ -223,7 +223,7 @@ module _ (t : Tape) (n : ℕ) {z : Kind} (ez : z.code ≡ kind_at t n) (hz : z.c
   unfolding node_in_of marker_as linked style
   node-char {x} closed flat hx depth hd outer =
       ap (char_around t n name) (sym (inside_list t n depth outer hd))
-      ∙ ap (λ (m : Bytes). char_around t n m (inside t depth asInline n outer)) named
+      ∙ ap (λ (m : Bytes). char_around t n m (inside t depth as_inline n outer)) named
       ∙ rw (ne_eqb (kind_at t n) 6 (λ e. omega arith), ne_eqb (kind_at t n) 7 (λ e. omega arith), eq-eqb (kind_at t n) 3 (sym ez ∙ hz), role (not-false y hy) named, closed (not-false x hx), flat (not-false x hx))
 
   pub lone_node : {x : Bool} → (x ≡ true → unclosed t n ≡ []) → (x ≡ true → link_of t n ≡ none) → not x ≡ false → (depth : ℕ) → (depth ≡ 0 → ⊥)

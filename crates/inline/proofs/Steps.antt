@@ -20,7 +20,7 @@ use Rattle.lists.specs.Span.{filtered, cut_by, nodes_in}
 use Rattle.lists.specs.declared.Span.{Span}
 use Rattle.lists.proofs.Nodes.{nodes_done}
 use Rattle.events.specs.Event.{Event, chapter, verse}
-use Rattle.events.specs.Walk.{Manner, asInline, asNote, Role, role_of, marker_as, node_in_of, inside, inline_all, note_all}
+use Rattle.events.specs.Walk.{Manner, as_inline, as_note, Role, role_of, marker_as, node_in_of, inside, inline_all, note_all}
 use Rattle.events.specs.Emit.{Desk, emit, emit_all}
 use Rattle.events.proofs.Emits.{emit-append}
 use Rattle.events.proofs.Turns.{inline-none}
@@ -108,7 +108,7 @@ module _ (t : Tape) (k : ℕ) (outer : Bool) (s : Desk) where
       er
       ∙ ap (λ (ks : List ℕ). emit_all s (inline_all (node_in_of (inside t (d - 1)) t) t (followed t parent.at outer) true ks)) (all-nodes t first ∙ children_walk t k ef)
       ∙ ap (λ (i : ℕ). emit_all s (inline_all (node_in_of (inside t (d - 1)) t) t (followed t i outer) true (children t k))) ep
-      ∙ ap (emit_all s) (inside_deep d asInline h)
+      ∙ ap (emit_all s) (inside_deep d as_inline h)
       ∙ ap (λ (x : Bool). emit_all s (inside t d (manner_by x) k outer)) (sym hn)
 
   pub inside-note : {d : ℕ} {note : Bool} {parent : Cursor} {first : Step} {r : Desk} → (d ≡ 0 → ⊥) → parent.at ≡ k → first ≡ first_child t k → note ≡ true
@@ -118,7 +118,7 @@ module _ (t : Tape) (k : ℕ) (outer : Bool) (s : Desk) where
       er
       ∙ ap (λ (ks : List ℕ). emit_all s (note_all (node_in_of (inside t (d - 1)) t) t (parent.at + 1) (followed t parent.at outer) true ks)) (children_walk t k ef)
       ∙ ap (λ (i : ℕ). emit_all s (note_all (node_in_of (inside t (d - 1)) t) t (i + 1) (followed t i outer) true (children t k))) ep
-      ∙ ap (emit_all s) (inside_deep d asNote h)
+      ∙ ap (emit_all s) (inside_deep d as_note h)
       ∙ ap (λ (x : Bool). emit_all s (inside t d (manner_by x) k outer)) (sym hn)
 
 -- ---- what is kept

@@ -20,7 +20,7 @@ use Rattle.lists.specs.declared.Member.{Member}
 use Rattle.lists.specs.declared.Member.TheVariants.{End as EndMember, Skipped as SkippedMember, Listed}
 use Rattle.lists.proofs.Nodes.{nodes-turn}
 use Rattle.events.specs.Event.{Event}
-use Rattle.events.specs.Walk.{anchor, words, passed, marker, child_of, note_child_of, inline_turn, inline_all, inline_on, note_turn_of, note_all, direct, leftOut, entered}
+use Rattle.events.specs.Walk.{anchor, words, passed, marker, child_of, note_child_of, inline_turn, inline_all, inline_on, note_turn_of, note_all, direct, left_out, entered}
 use Rattle.events.proofs.Turns.{inline-turn, inline-none}
 use Rattle.inline_turns.specs.Turn.{sort_of, sort_by, sort_in_of, note_sort_of, plain_from, onward, note_plain, note_onward}
 use Rattle.inline_turns.specs.declared.Child.TheVariants.{Skipped, Anchor, Words, Passed}
@@ -145,7 +145,7 @@ module _ (node : ℕ → Bool → List Event) (t : Tape) (behind trim : Bool) wh
   note_on first k ks = go (is_category_marker_of t k) (eqb (kind_at t k) 1) (eqb (kind_at t k) 2 || eqb (kind_at t k) 8)
     where
       go : (x y z : Bool)
-          → (let r = note_turn_of node t first behind trim k (cond x leftOut (cond y direct (cond z leftOut entered))) in r.written ++ note_all node t first behind r.trim ks)
+          → (let r = note_turn_of node t first behind trim k (cond x left_out (cond y direct (cond z left_out entered))) in r.written ++ note_all node t first behind r.trim ks)
           ≡ note_onward node t behind trim first k ks (cond x (Plain Skipped) (cond y (Plain Words) (cond z (Plain Passed) Enter)))
       go true y z = refl
       go false true z = refl

@@ -114,16 +114,16 @@ module _ (buf s : Bytes) (d n : ℕ) (hn : n ≤ 16) (hs : 16 ≤ length s) (hd 
       let behind : Bytes = take 16 (drop (d + n) buf) in
       let long : length (take 16 s) ≡ 16 = length-take-le 16 s hs in
       let back : length behind ≡ 16 = length-take-le 16 (drop (d + n) buf) (omega (arith, length-drop (d + n) buf)) in
-      let is-fresh : fresh ≡ take 16 s = copied_all (take 16 s) z (omega arith) ef in
-      let is-saved : saved ≡ behind = copied_all behind y (omega arith) (es ∙ rw count) in
-      let held : length saved ≡ 16 = ap length is-saved ∙ back in
-      let now : mid buf d (d + 16) one ≡ over buf d (take 16 s) = placed buf d (d + 16) fresh (omega (arith, ap length is-fresh)) (omega arith) e1 ∙ rw is-fresh in
+      let is_fresh : fresh ≡ take 16 s = copied_all (take 16 s) z (omega arith) ef in
+      let is_saved : saved ≡ behind = copied_all behind y (omega arith) (es ∙ rw count) in
+      let held : length saved ≡ 16 = ap length is_saved ∙ back in
+      let now : mid buf d (d + 16) one ≡ over buf d (take 16 s) = placed buf d (d + 16) fresh (omega (arith, ap length is_fresh)) (omega arith) e1 ∙ rw is_fresh in
       let room : length (mid buf d (d + 16) one) ≡ length buf = ap length now ∙ over-length buf d (take 16 s) in
       let first : length (take n s) ≡ n = length-take-le n s (omega arith) in
       placed (mid buf d (d + 16) one) (d + n) (d + n + 16) saved (omega arith) (omega arith) e2
       ∙ ap (λ (w : Bytes). over w (d + n) saved) now
       ∙ over-over buf d n (take 16 s) saved (omega arith) (omega arith) (omega arith)
-      ∙ rw (is-saved, take-take n 16 s hn)
+      ∙ rw (is_saved, take-take n 16 s hn)
       (ap (λ (k : ℕ). over buf d (take n s ++ take 16 (drop (d + k) buf))) (sym first) ∙ over_saved buf d 16 (take n s) (omega arith))
 
 -- ---- block by block
@@ -150,11 +150,11 @@ long_turn buf run d i q e z {out} {fresh} {last} hq hi he hr hb hd hz l ef el = 
         let v : Bytes = take 16 (drop q run) in
         let long : length v ≡ 16 = length-take-le 16 (drop q run) (omega (arith, length-drop q run)) in
         let front : length (take i run) ≡ i = length-take-le i run (omega arith) in
-        let is-fresh : fresh ≡ v = copied_all v z (omega arith) (ef ∙ rw count) in
-        let held : length fresh ≡ 16 = ap length is-fresh ∙ long in
+        let is_fresh : fresh ≡ v = copied_all v z (omega arith) (ef ∙ rw count) in
+        let held : length fresh ≡ 16 = ap length is_fresh ∙ long in
         let whole : take q (take i run) ++ v ≡ take e run = rw (take-take q i run hq, he) (sym (take-add q 16 run)) in
         placed out (d + q) (d + q + 16) fresh (omega arith) (omega (arith, l.room)) el
-        ∙ rw (is-fresh, l.is, ← whole) (over-over buf d q (take i run) v (omega arith) (omega arith) (omega arith))
+        ∙ rw (is_fresh, l.is, ← whole) (over-over buf d q (take i run) v (omega arith) (omega arith) (omega arith))
 
 -- the last block reaches the run's end
 pub long_end : (buf run : Bytes) (d i : ℕ) (z : Bytes) {out fresh last : Bytes} → i ≤ length run → length run - i < 16 → 16 ≤ length run → length run ≤ length buf - d → d < length buf

@@ -18,7 +18,7 @@ use Rattle.events.specs.Event.{escaped}
 use Rattle.events.specs.Profile.{Profile, rust}
 use Rattle.events.specs.Emit.{Desk}
 use Rattle.desk.specs.Desk.{profile_of, desk_of, put_on}
-use Rattle.desk.specs.Stroke.{Stroke, key, piece, endValue, strokes_of_attr, ink, ink_all, strokes, Drew}
+use Rattle.desk.specs.Stroke.{Stroke, key, piece, end_value_of, strokes_of_attr, ink, ink_all, strokes, Drew}
 use Rattle.desk.proofs.Strokes.{drew_none, strokes-append, ink-pieces, drew_attr, drew_pieces}
 
 -- ---- strokes ahead
@@ -112,13 +112,13 @@ module _ (source : Bytes) (v : Value) {s : Bytes} (es : s ≡ part source v.star
 
 -- ---- an attribute
 
-pub attr_written : {at r : ℕ} (d last-d : List ℕ) {out last : Bytes} (k v : Bytes) → Drew at d out (key k ∷ piece false v ∷ endValue ∷ []) r last-d last
+pub attr_written : {at r : ℕ} (d last-d : List ℕ) {out last : Bytes} (k v : Bytes) → Drew at d out (key k ∷ piece false v ∷ end_value_of ∷ []) r last-d last
     → Drew at d out (strokes_of_attr (escaped k v)) r last-d last
 unfolding strokes_of_attr escaped
 attr_written d last-d k v e = e
 
 pub pair-written : {at a z r : ℕ} (d d₁ d₂ d₃ : List ℕ) {out o₁ o₂ last : Bytes} (k v : Bytes) → Drew at d out (key k ∷ []) a d₁ o₁ → Drew a d₁ o₁ (piece false v ∷ []) z d₂ o₂
-    → Drew z d₂ o₂ (endValue ∷ []) r d₃ last → Drew at d out (strokes_of_attr (escaped k v)) r d₃ last
+    → Drew z d₂ o₂ (end_value_of ∷ []) r d₃ last → Drew at d out (strokes_of_attr (escaped k v)) r d₃ last
 pair-written d d₁ d₂ d₃ k v e₁ e₂ e₃ = attr_written d d₃ k v (drew_attr d d₁ d₂ d₃ k false v e₁ e₂ e₃)
 
 pub next-written : (source : Bytes) (k : Key) (v : Value) {x : Bytes} → x ≡ key_of source fixed_keys k → {at r : ℕ} (d last-d : List ℕ) {out last : Bytes}

@@ -29,7 +29,7 @@ use Rattle.events.specs.Pairing.{State, chapter_id_of, verse_id_of, after, end_o
 use Rattle.events.specs.Profile.{render_as}
 use Rattle.events.specs.Emit.{Desk, emit}
 use Rattle.desk.specs.Desk.{chapter_in, verse_in, state_in, marks_of_of, profile_of, Kept, desk_of, put_on, ended}
-use Rattle.desk.specs.Stroke.{Stroke, opens, key, piece, endValue, ends, shuts, closes, words as said, strokes_of_attr, strokes_of_attrs, strokes_of, strokes_of_all, strokes, Drew}
+use Rattle.desk.specs.Stroke.{Stroke, opens, key, piece, end_value_of, ends, shuts, closes, words as said, strokes_of_attr, strokes_of_attrs, strokes_of, strokes_of_all, strokes, Drew}
 use Rattle.desk.proofs.Strokes.{drew_two, attrs_append, ink_items}
 use Rattle.put_ids.proofs.Idents.{drew_as, drew_three}
 
@@ -37,42 +37,42 @@ use Rattle.put_ids.proofs.Idents.{drew_as, drew_three}
 
 -- a tag's front, an attribute and a style
 pub tag_head : {at a z r : ℕ} (d d₁ d₂ d₃ : List ℕ) {out o₁ o₂ last : Bytes} (n : ℕ) (k : Bytes) (raw : Bool) (v style : Bytes) → Drew at d out (opens n ∷ []) a d₁ o₁
-    → Drew a d₁ o₁ (key k ∷ piece raw v ∷ endValue ∷ []) z d₂ o₂ → Drew z d₂ o₂ (key (b "style") ∷ piece true style ∷ endValue ∷ []) r d₃ last
-    → Drew at d out (opens n ∷ key k ∷ piece raw v ∷ endValue ∷ key (b "style") ∷ piece true style ∷ endValue ∷ []) r d₃ last
+    → Drew a d₁ o₁ (key k ∷ piece raw v ∷ end_value_of ∷ []) z d₂ o₂ → Drew z d₂ o₂ (key (b "style") ∷ piece true style ∷ end_value_of ∷ []) r d₃ last
+    → Drew at d out (opens n ∷ key k ∷ piece raw v ∷ end_value_of ∷ key (b "style") ∷ piece true style ∷ end_value_of ∷ []) r d₃ last
 tag_head d d₁ d₂ d₃ n k raw v style e₁ e₂ e₃ = drew_three d d₁ d₂ d₃ e₁ e₂ e₃
 
 -- an identifier that is the last of a tag
 pub sid_shut : {at a z r : ℕ} (d d₁ d₂ d₃ : List ℕ) {out o₁ o₂ last : Bytes} (i : Bytes) → Drew at d out (key (b "sid") ∷ []) a d₁ o₁ → Drew a d₁ o₁ (piece false i ∷ []) z d₂ o₂
-    → Drew z d₂ o₂ (endValue ∷ shuts ∷ []) r d₃ last → Drew at d out (key (b "sid") ∷ piece false i ∷ endValue ∷ shuts ∷ []) r d₃ last
+    → Drew z d₂ o₂ (end_value_of ∷ shuts ∷ []) r d₃ last → Drew at d out (key (b "sid") ∷ piece false i ∷ end_value_of ∷ shuts ∷ []) r d₃ last
 sid_shut d d₁ d₂ d₃ i e₁ e₂ e₃ = drew_three d d₁ d₂ d₃ e₁ e₂ e₃
 
 -- an identifier before the last attributes of a tag
-pub sid_rest : {at a z r : ℕ} (d d₁ d₂ d₃ : List ℕ) {out o₁ o₂ last : Bytes} (i : Bytes) {x : List Stroke} → Drew at d out (key (b "sid") ∷ piece false i ∷ endValue ∷ []) a d₁ o₁ → Drew a d₁ o₁ x z d₂ o₂
-    → Drew z d₂ o₂ (shuts ∷ []) r d₃ last → Drew at d out (key (b "sid") ∷ piece false i ∷ endValue ∷ (x ++ (shuts ∷ []))) r d₃ last
+pub sid_rest : {at a z r : ℕ} (d d₁ d₂ d₃ : List ℕ) {out o₁ o₂ last : Bytes} (i : Bytes) {x : List Stroke} → Drew at d out (key (b "sid") ∷ piece false i ∷ end_value_of ∷ []) a d₁ o₁ → Drew a d₁ o₁ x z d₂ o₂
+    → Drew z d₂ o₂ (shuts ∷ []) r d₃ last → Drew at d out (key (b "sid") ∷ piece false i ∷ end_value_of ∷ (x ++ (shuts ∷ []))) r d₃ last
 sid_rest d d₁ d₂ d₃ i e₁ e₂ e₃ = drew_three d d₁ d₂ d₃ e₁ e₂ e₃
 
 -- ---- tags
 
 chapter-strokes : (code : Bytes) (n : ℕ) (alt published : Option Bytes)
-    → (opens 3 ∷ key (b "number") ∷ piece false (decimal n) ∷ endValue ∷ key (b "style") ∷ piece true (b "c") ∷ endValue ∷ [])
-    ++ (strokes_of_attrs (perhaps (b "altnumber") alt) ++ (strokes_of_attrs (perhaps (b "pubnumber") published) ++ (key (b "sid") ∷ piece false (chapter_id_of code n) ∷ endValue ∷ shuts ∷ [])))
+    → (opens 3 ∷ key (b "number") ∷ piece false (decimal n) ∷ end_value_of ∷ key (b "style") ∷ piece true (b "c") ∷ end_value_of ∷ [])
+    ++ (strokes_of_attrs (perhaps (b "altnumber") alt) ++ (strokes_of_attrs (perhaps (b "pubnumber") published) ++ (key (b "sid") ∷ piece false (chapter_id_of code n) ∷ end_value_of ∷ shuts ∷ [])))
     ≡ strokes_of (empty 3 (chapter_attrs_of code n alt published))
 unfolding strokes_of strokes_of_attrs strokes_of_attr chapter_attrs_of escaped rawly
 chapter-strokes code n alt published = simp (attrs_append, append_assoc)
 
 verse-strokes : (code : Bytes) (n : ℕ) (label : Bytes) (alt published : Option Bytes)
-    → (opens 4 ∷ key (b "number") ∷ piece false label ∷ endValue ∷ key (b "style") ∷ piece true (b "v") ∷ endValue ∷ [])
-    ++ (strokes_of_attrs (perhaps (b "altnumber") alt) ++ (key (b "sid") ∷ piece false (verse_id_of code n label) ∷ endValue ∷ (strokes_of_attrs (perhaps (b "pubnumber") published) ++ (shuts ∷ []))))
+    → (opens 4 ∷ key (b "number") ∷ piece false label ∷ end_value_of ∷ key (b "style") ∷ piece true (b "v") ∷ end_value_of ∷ [])
+    ++ (strokes_of_attrs (perhaps (b "altnumber") alt) ++ (key (b "sid") ∷ piece false (verse_id_of code n label) ∷ end_value_of ∷ (strokes_of_attrs (perhaps (b "pubnumber") published) ++ (shuts ∷ []))))
     ≡ strokes_of (empty 4 (verse_attrs_of code n label alt published))
 unfolding strokes_of strokes_of_attrs strokes_of_attr verse_attrs_of escaped rawly
 verse-strokes code n label alt published = simp (attrs_append, append_assoc)
 
 module _ (c : Sections) (file : Bytes) (code : Part) (n : ℕ) where
   pub chapter_tag : {at a z u r : ℕ} (d d₁ d₂ d₃ d₄ : List ℕ) {out o₁ o₂ o₃ last : Bytes} (alt published : Step) {s k : Bytes} → s ≡ (tape_in c file).source → k ≡ part s code.start code.len
-      → Drew at d out (opens 3 ∷ key (b "number") ∷ piece false (decimal n) ∷ endValue ∷ key (b "style") ∷ piece true (b "c") ∷ endValue ∷ []) a d₁ o₁
+      → Drew at d out (opens 3 ∷ key (b "number") ∷ piece false (decimal n) ∷ end_value_of ∷ key (b "style") ∷ piece true (b "c") ∷ end_value_of ∷ []) a d₁ o₁
       → Drew a d₁ o₁ (strokes_of_attrs (perhaps (b "altnumber") (folded_number (tape_in c file) alt))) z d₂ o₂
       → Drew z d₂ o₂ (strokes_of_attrs (perhaps (b "pubnumber") (folded_number (tape_in c file) published))) u d₃ o₃
-      → Drew u d₃ o₃ (key (b "sid") ∷ piece false (chapter_id_of k n) ∷ endValue ∷ shuts ∷ []) r d₄ last
+      → Drew u d₃ o₃ (key (b "sid") ∷ piece false (chapter_id_of k n) ∷ end_value_of ∷ shuts ∷ []) r d₄ last
       → Drew at d out (strokes_of (empty 3 (chapter_attrs_of (bytes_of (tape_in c file).source code) n (folded_number (tape_in c file) alt) (folded_number (tape_in c file) published)))) r d₄ last
   chapter_tag d d₁ d₂ d₃ d₄ alt published {k = k} es ek e₁ e₂ e₃ e₄ =
       let other : Option Bytes = folded_number (tape_in c file) alt in
@@ -83,9 +83,9 @@ module _ (c : Sections) (file : Bytes) (code : Part) (n : ℕ) where
 
   pub verse_tag : {at a z r : ℕ} (d d₁ d₂ d₃ : List ℕ) {out o₁ o₂ last : Bytes} (label : Part) (alt published : Step) {s l k : Bytes} → s ≡ (tape_in c file).source
       → l ≡ part s label.start label.len → k ≡ part s code.start code.len
-      → Drew at d out (opens 4 ∷ key (b "number") ∷ piece false l ∷ endValue ∷ key (b "style") ∷ piece true (b "v") ∷ endValue ∷ []) a d₁ o₁
+      → Drew at d out (opens 4 ∷ key (b "number") ∷ piece false l ∷ end_value_of ∷ key (b "style") ∷ piece true (b "v") ∷ end_value_of ∷ []) a d₁ o₁
       → Drew a d₁ o₁ (strokes_of_attrs (perhaps (b "altnumber") (folded_number (tape_in c file) alt))) z d₂ o₂
-      → Drew z d₂ o₂ (key (b "sid") ∷ piece false (verse_id_of k n l) ∷ endValue ∷ (strokes_of_attrs (perhaps (b "pubnumber") (folded_number (tape_in c file) published)) ++ (shuts ∷ []))) r d₃ last
+      → Drew z d₂ o₂ (key (b "sid") ∷ piece false (verse_id_of k n l) ∷ end_value_of ∷ (strokes_of_attrs (perhaps (b "pubnumber") (folded_number (tape_in c file) published)) ++ (shuts ∷ []))) r d₃ last
       → Drew at d out (strokes_of (empty 4 (verse_attrs_of (bytes_of (tape_in c file).source code) n (bytes_of (tape_in c file).source label) (folded_number (tape_in c file) alt) (folded_number (tape_in c file) published)))) r d₃ last
   verse_tag d d₁ d₂ d₃ label alt published {l = l} {k = k} es el ek e₁ e₂ e₃ =
       let other : Option Bytes = folded_number (tape_in c file) alt in
@@ -102,18 +102,18 @@ pub book_held : {at a z r : ℕ} (d d₁ d₂ d₃ : List ℕ) {out o₁ o₂ la
     → Drew at d out (ends ∷ said t ∷ closes 2 ∷ []) r d₃ last
 book_held d d₁ d₂ d₃ t e₁ e₂ e₃ = drew_three d d₁ d₂ d₃ e₁ e₂ e₃
 
-book-bare : (code : Bytes) → opens 2 ∷ key (b "code") ∷ piece true code ∷ endValue ∷ key (b "style") ∷ piece true (b "id") ∷ endValue ∷ shuts ∷ [] ≡ strokes_of_all (book_items code [])
+book-bare : (code : Bytes) → opens 2 ∷ key (b "code") ∷ piece true code ∷ end_value_of ∷ key (b "style") ∷ piece true (b "id") ∷ end_value_of ∷ shuts ∷ [] ≡ strokes_of_all (book_items code [])
 unfolding strokes_of_all strokes_of strokes_of_attrs strokes_of_attr book_items book_attrs rawly
 book-bare code = refl
 
 book_full : (code rest : Bytes) → 0 < length rest
-    → opens 2 ∷ key (b "code") ∷ piece true code ∷ endValue ∷ key (b "style") ∷ piece true (b "id") ∷ endValue ∷ ends ∷ said rest ∷ closes 2 ∷ [] ≡ strokes_of_all (book_items code rest)
+    → opens 2 ∷ key (b "code") ∷ piece true code ∷ end_value_of ∷ key (b "style") ∷ piece true (b "id") ∷ end_value_of ∷ ends ∷ said rest ∷ closes 2 ∷ [] ≡ strokes_of_all (book_items code rest)
 unfolding strokes_of_all strokes_of strokes_of_attrs strokes_of_attr book_items book_attrs rawly
 book_full code [] h = absurd (omega arith)
 book_full code (x ∷ rest) h = refl
 
 module _ {at a r : ℕ} (d d₁ d₂ : List ℕ) {out o₁ last : Bytes} (code rest : Bytes)
-    (e₁ : Drew at d out (opens 2 ∷ key (b "code") ∷ piece true code ∷ endValue ∷ key (b "style") ∷ piece true (b "id") ∷ endValue ∷ []) a d₁ o₁) {y : Bool} (ey : y ≡ is_blank_of Unicode rest) where
+    (e₁ : Drew at d out (opens 2 ∷ key (b "code") ∷ piece true code ∷ end_value_of ∷ key (b "style") ∷ piece true (b "id") ∷ end_value_of ∷ []) a d₁ o₁) {y : Bool} (ey : y ≡ is_blank_of Unicode rest) where
   pub book-alone : y ≡ true → Drew a d₁ o₁ (shuts ∷ []) r d₂ last → Drew at d out (strokes_of_all (book_items code (joined (words Unicode rest)))) r d₂ last
   book-alone h e₂ =
       drew_as d d₂ (book-bare code ∙ ap (λ (z : Bytes). strokes_of_all (book_items code z)) (sym (joined_blank Unicode rest (sym ey ∙ h)))) (drew_two d d₁ d₂ e₁ e₂)

@@ -14,7 +14,7 @@ ghost use Rattle.events.specs.Event.{perhaps, chapter as chapter_event, verse as
 ghost use Rattle.events.specs.Pairing.{chapter_id_of, verse_id_of, chapter_attrs_of, verse_attrs_of, book_items, last_ends};
 ghost use Rattle.events.specs.Emit.{emit};
 ghost use Rattle.desk.specs.Desk.{state_in, desk_of, ended};
-ghost use Rattle.desk.specs.Stroke.{opens, key as key_stroke, piece as piece_stroke, endValue, ends, shuts, closes, words as words_stroke, strokes_of_attrs, strokes_of, strokes_of_all, Drew};
+ghost use Rattle.desk.specs.Stroke.{opens, key as key_stroke, piece as piece_stroke, end_value_of, ends, shuts, closes, words as words_stroke, strokes_of_attrs, strokes_of, strokes_of_all, Drew};
 
 use desk::{
     Element, Numbers, attr, close_tag, digits, end_tag, end_value, key, open_sid, open_tag,
@@ -28,7 +28,7 @@ use words::{Part, Set};
 
 // A number of a chapter as an attribute.
 fn put_number(at: usize, desk: &mut Numbers, out: &mut [u8], number: u32) -> usize
-    ensures { Drew at desk.old out.old (key_stroke (b "number") ∷ piece_stroke false (decimal number) ∷ endValue ∷ []) result desk.new out.new }
+    ensures { Drew at desk.old out.old (key_stroke (b "number") ∷ piece_stroke false (decimal number) ∷ end_value_of ∷ []) result desk.new out.new }
 {
     let a = key(at, desk, out, b"number");
     let z = digits(a, desk, out, number);
@@ -37,7 +37,7 @@ fn put_number(at: usize, desk: &mut Numbers, out: &mut [u8], number: u32) -> usi
 
 // The front of a chapter's tag: its number and style.
 fn put_chapter_head(at: usize, desk: &mut Numbers, out: &mut [u8], number: u32) -> usize
-    ensures { Drew at desk.old out.old (opens 3 ∷ key_stroke (b "number") ∷ piece_stroke false (decimal number) ∷ endValue ∷ key_stroke (b "style") ∷ piece_stroke true (b "c") ∷ endValue ∷ []) result desk.new out.new }
+    ensures { Drew at desk.old out.old (opens 3 ∷ key_stroke (b "number") ∷ piece_stroke false (decimal number) ∷ end_value_of ∷ key_stroke (b "style") ∷ piece_stroke true (b "c") ∷ end_value_of ∷ []) result desk.new out.new }
 {
     let a = open_tag(at, desk, out, Element::Chapter);
     let z = put_number(a, desk, out, number);
@@ -46,7 +46,7 @@ fn put_chapter_head(at: usize, desk: &mut Numbers, out: &mut [u8], number: u32) 
 
 // A chapter's identifier and the tag's end.
 fn put_chapter_sid(at: usize, desk: &mut Numbers, out: &mut [u8], code: &[u8], number: u32) -> usize
-    ensures { Drew at desk.old out.old (key_stroke (b "sid") ∷ piece_stroke false (chapter_id_of code.now number) ∷ endValue ∷ shuts ∷ []) result desk.new out.new }
+    ensures { Drew at desk.old out.old (key_stroke (b "sid") ∷ piece_stroke false (chapter_id_of code.now number) ∷ end_value_of ∷ shuts ∷ []) result desk.new out.new }
 {
     let a = open_sid(at, desk, out);
     let c = chapter_id(a, desk, out, code, number, false);
@@ -83,7 +83,7 @@ fn put_verse_sid(
     number: u32,
     label: &[u8],
 ) -> usize
-    ensures { Drew at desk.old out.old (key_stroke (b "sid") ∷ piece_stroke false (verse_id_of code.now number label.now) ∷ endValue ∷ []) result desk.new out.new }
+    ensures { Drew at desk.old out.old (key_stroke (b "sid") ∷ piece_stroke false (verse_id_of code.now number label.now) ∷ end_value_of ∷ []) result desk.new out.new }
 {
     let a = open_sid(at, desk, out);
     let c = verse_id(a, desk, out, code, number, label, false);
@@ -102,7 +102,7 @@ fn put_verse_tail(
     label: &[u8],
     published: Step,
 ) -> usize
-    ensures { Drew at desk.old out.old (key_stroke (b "sid") ∷ piece_stroke false (verse_id_of code.now number label.now) ∷ endValue ∷ (strokes_of_attrs (perhaps (b "pubnumber") (folded_number (tape_in tape file.now) published)) ++ (shuts ∷ []))) result desk.new out.new }
+    ensures { Drew at desk.old out.old (key_stroke (b "sid") ∷ piece_stroke false (verse_id_of code.now number label.now) ∷ end_value_of ∷ (strokes_of_attrs (perhaps (b "pubnumber") (folded_number (tape_in tape file.now) published)) ++ (shuts ∷ []))) result desk.new out.new }
 {
     let a = put_verse_sid(at, desk, out, code, number, label);
     let z = put_numbered(a, desk, out, file, tape, b"pubnumber", published);
@@ -188,7 +188,7 @@ pub fn verse(
 
 // The front of a book's tag: its code, which is raw, and its style.
 fn put_book_head(at: usize, desk: &mut Numbers, out: &mut [u8], code: &[u8]) -> usize
-    ensures { Drew at desk.old out.old (opens 2 ∷ key_stroke (b "code") ∷ piece_stroke true code.now ∷ endValue ∷ key_stroke (b "style") ∷ piece_stroke true (b "id") ∷ endValue ∷ []) result desk.new out.new }
+    ensures { Drew at desk.old out.old (opens 2 ∷ key_stroke (b "code") ∷ piece_stroke true code.now ∷ end_value_of ∷ key_stroke (b "style") ∷ piece_stroke true (b "id") ∷ end_value_of ∷ []) result desk.new out.new }
 {
     let a = open_tag(at, desk, out, Element::Book);
     let z = attr(a, desk, out, b"code", code, true);

@@ -15,7 +15,7 @@ use Rattle.usx_state.specs.declared.OpenVerse.TheVariants.{NoVerse, Verse}
 use Rattle.events.specs.Event.{rawly}
 use Rattle.events.specs.Pairing.{chapter_id_of, verse_id_of, end_of}
 use Rattle.desk.specs.Desk.{chapter_in, verse_in}
-use Rattle.desk.specs.Stroke.{Stroke, opens, key, piece, endValue, shuts, strokes_of_attr, strokes_of_attrs, strokes_of, strokes_of_all, Drew}
+use Rattle.desk.specs.Stroke.{Stroke, opens, key, piece, end_value_of, shuts, strokes_of_attr, strokes_of_attrs, strokes_of, strokes_of_all, Drew}
 use Rattle.desk.proofs.Strokes.{drew_none, drew_two, drew_pieces}
 
 -- ---- in a row
@@ -58,11 +58,11 @@ module _ {at a r : ℕ} (d d₁ d₂ : List ℕ) {out o₁ last : Bytes} where
   pub end_opened : (n : ℕ) → Drew at d out (opens n ∷ []) a d₁ o₁ → Drew a d₁ o₁ (key (b "eid") ∷ []) r d₂ last → Drew at d out (opens n ∷ key (b "eid") ∷ []) r d₂ last
   end_opened n e₁ e₂ = drew_two d d₁ d₂ e₁ e₂
 
-  pub value_shut : Drew at d out (endValue ∷ []) a d₁ o₁ → Drew a d₁ o₁ (shuts ∷ []) r d₂ last → Drew at d out (endValue ∷ shuts ∷ []) r d₂ last
+  pub value_shut : Drew at d out (end_value_of ∷ []) a d₁ o₁ → Drew a d₁ o₁ (shuts ∷ []) r d₂ last → Drew at d out (end_value_of ∷ shuts ∷ []) r d₂ last
   value_shut e₁ e₂ = drew_two d d₁ d₂ e₁ e₂
 
 -- the strokes of an end
-end_strokes : (n : ℕ) (i : Bytes) → opens n ∷ key (b "eid") ∷ piece true i ∷ endValue ∷ shuts ∷ [] ≡ strokes_of_all (end_of n (some i))
+end_strokes : (n : ℕ) (i : Bytes) → opens n ∷ key (b "eid") ∷ piece true i ∷ end_value_of ∷ shuts ∷ [] ≡ strokes_of_all (end_of n (some i))
 unfolding strokes_of_all strokes_of strokes_of_attrs strokes_of_attr end_of rawly
 end_strokes n i = refl
 
@@ -77,14 +77,14 @@ module _ (at : ℕ) (d : List ℕ) (out source : Bytes) where
 
 module _ {at a z r : ℕ} (d d₁ d₂ d₃ : List ℕ) {out o₁ o₂ last : Bytes} (source : Bytes) where
   pub chapter-ended : {held : OpenChapter} {code : Part} {n : ℕ} → held ≡ Chapter code n → {s : Bytes} → s ≡ part source code.start code.len
-      → Drew at d out (opens 3 ∷ key (b "eid") ∷ []) a d₁ o₁ → Drew a d₁ o₁ (piece true (chapter_id_of s n) ∷ []) z d₂ o₂ → Drew z d₂ o₂ (endValue ∷ shuts ∷ []) r d₃ last
+      → Drew at d out (opens 3 ∷ key (b "eid") ∷ []) a d₁ o₁ → Drew a d₁ o₁ (piece true (chapter_id_of s n) ∷ []) z d₂ o₂ → Drew z d₂ o₂ (end_value_of ∷ shuts ∷ []) r d₃ last
       → Drew at d out (strokes_of_all (end_of 3 (chapter_in source held))) r d₃ last
   unfolding chapter_in
   chapter-ended {n = n} h es e₁ e₂ e₃ =
       rw h (drew_as d d₃ (end_strokes 3 _ ∙ ap (λ (z : Bytes). strokes_of_all (end_of 3 (some (chapter_id_of z n)))) es) (drew_three d d₁ d₂ d₃ e₁ e₂ e₃))
 
   pub verse-ended : {held : OpenVerse} {code label : Part} {n : ℕ} → held ≡ Verse code n label → {s l : Bytes} → s ≡ part source code.start code.len → l ≡ part source label.start label.len
-      → Drew at d out (opens 4 ∷ key (b "eid") ∷ []) a d₁ o₁ → Drew a d₁ o₁ (piece true (verse_id_of s n l) ∷ []) z d₂ o₂ → Drew z d₂ o₂ (endValue ∷ shuts ∷ []) r d₃ last
+      → Drew at d out (opens 4 ∷ key (b "eid") ∷ []) a d₁ o₁ → Drew a d₁ o₁ (piece true (verse_id_of s n l) ∷ []) z d₂ o₂ → Drew z d₂ o₂ (end_value_of ∷ shuts ∷ []) r d₃ last
       → Drew at d out (strokes_of_all (end_of 4 (verse_in source held))) r d₃ last
   unfolding verse_in
   verse-ended {code = code} {n = n} h {l = l} es el e₁ e₂ e₃ =

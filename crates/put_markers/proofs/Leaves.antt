@@ -18,7 +18,7 @@ use Rattle.events.specs.Walk.{style, styled, figure}
 use Rattle.events.specs.Emit.{Desk, emit, emit_all}
 use Rattle.events.proofs.Emits.{aside_on, back_on}
 use Rattle.desk.specs.Desk.{desk_of}
-use Rattle.desk.specs.Stroke.{opens, key, piece, endValue, ends, shuts, closes, words, strokes_of_attr, strokes_of_attrs, strokes_of, strokes_of_all, Drew}
+use Rattle.desk.specs.Stroke.{opens, key, piece, end_value_of, ends, shuts, closes, words, strokes_of_attr, strokes_of_attrs, strokes_of, strokes_of_all, Drew}
 use Rattle.desk.proofs.Strokes.{drew_two}
 use Rattle.roles.specs.declared.Role.{Role}
 use Rattle.roles.specs.declared.Role.TheVariants.{UnknownBlock, UnknownInline, Unwritten, Figure, Ref, Id, Note, Ms, Char, Para}
@@ -34,7 +34,7 @@ module _ (t : Tape) (k : ℕ) {at a z r : ℕ} (d d₁ d₂ d₃ : List ℕ) {ou
       → Drew at d out (strokes_of (empty 8 (style t k ∷ collected (attributes_of t k (marker_name t k))))) r d₃ last
   ms_drawn e₁ en e₂ e₃ = drew_empty d d₂ d₃ _ (drew_more d d₁ d₂ (style t k ∷ []) _ e₁ (rw en at e₂)) e₃
 
-  pub fields_drawn : (f : ℕ) → Drew at d out (opens 9 ∷ key (b "style") ∷ piece true (b "fig") ∷ endValue ∷ []) a d₁ o₁
+  pub fields_drawn : (f : ℕ) → Drew at d out (opens 9 ∷ key (b "style") ∷ piece true (b "fig") ∷ end_value_of ∷ []) a d₁ o₁
       → Drew a d₁ o₁ (strokes_of_attrs (collected (legacy_pairs t k f))) z d₂ o₂ → Drew z d₂ o₂ (ends ∷ []) r d₃ last
       → Drew at d out (strokes_of (start 9 (styled (b "fig") ++ collected (legacy_pairs t k f)))) r d₃ last
   unfolding strokes_of_attrs strokes_of_attr styled rawly

@@ -22,7 +22,7 @@ use Rattle.events.specs.Walk.{style, styled, unclosed, link_of, char}
 use Rattle.events.specs.Emit.{Desk, emit_all}
 use Rattle.events.proofs.Emits.{aside_on}
 use Rattle.desk.specs.Desk.{desk_of, put_on}
-use Rattle.desk.specs.Stroke.{opens, key, piece, endValue, ends, strokes_of_attr, strokes_of_attrs, strokes_of, ink_all, strokes, Drew}
+use Rattle.desk.specs.Stroke.{opens, key, piece, end_value_of, ends, strokes_of_attr, strokes_of_attrs, strokes_of, ink_all, strokes, Drew}
 use Rattle.desk.proofs.Strokes.{drew_two, drew_item}
 use Rattle.roles.specs.declared.Role.{Role}
 use Rattle.roles.specs.declared.Role.TheVariants.{UnknownBlock, UnknownInline, Unwritten, Figure, Ref, Id, Note, Ms, Char, Para}
@@ -37,7 +37,7 @@ pub ends-synthetic : (t : Tape) (k : ℕ) {l : ℕ} (z : Cursor) {x : Bool} → 
 ends-synthetic t k z el ez ex = ex ∙ ap (is_synthetic t) (ez ∙ el)
 
 module _ (t : Tape) (k : ℕ) {x : Bool} (ex : x ≡ is_synthetic t (node_at t k).link) {at : ℕ} (d : List ℕ) {out : Bytes} where
-  pub unclosed-some : {r : ℕ} (last-d : List ℕ) {last : Bytes} → x ≡ true → Drew at d out (key (b "closed") ∷ piece false (b "false") ∷ endValue ∷ []) r last-d last
+  pub unclosed-some : {r : ℕ} (last-d : List ℕ) {last : Bytes} → x ≡ true → Drew at d out (key (b "closed") ∷ piece false (b "false") ∷ end_value_of ∷ []) r last-d last
       → Drew at d out (strokes_of_attrs (unclosed t k)) r last-d last
   unfolding unclosed strokes_of_attrs strokes_of_attr escaped
   unclosed-some last-d hx e = rw (← ex, hx) e
@@ -70,22 +70,22 @@ bare-not t k e m = ap (λ (x : Bool). cond x [] (attributes_of t k m)) e
 
 -- the front of a tag whose style is a marker's name
 pub named_front : (t : Tape) (k : ℕ) {n at r : ℕ} (d last-d : List ℕ) {out last name : Bytes} → name ≡ marker_name t k
-    → Drew at d out (opens n ∷ key (b "style") ∷ piece true name ∷ endValue ∷ []) r last-d last → Drew at d out (opens n ∷ strokes_of_attrs (style t k ∷ [])) r last-d last
+    → Drew at d out (opens n ∷ key (b "style") ∷ piece true name ∷ end_value_of ∷ []) r last-d last → Drew at d out (opens n ∷ strokes_of_attrs (style t k ∷ [])) r last-d last
 unfolding strokes_of_attrs strokes_of_attr style rawly
 named_front t k d last-d en e = rw en at e
 
 pub unknown_drawn : (t : Tape) (k : ℕ) {n at a z r : ℕ} (d d₁ d₂ d₃ : List ℕ) {out o₁ o₂ last : Bytes}
-    → Drew at d out (opens n ∷ strokes_of_attrs (style t k ∷ [])) a d₁ o₁ → Drew a d₁ o₁ (key (b "status") ∷ piece false (b "unknown") ∷ endValue ∷ []) z d₂ o₂ → Drew z d₂ o₂ (ends ∷ []) r d₃ last
+    → Drew at d out (opens n ∷ strokes_of_attrs (style t k ∷ [])) a d₁ o₁ → Drew a d₁ o₁ (key (b "status") ∷ piece false (b "unknown") ∷ end_value_of ∷ []) z d₂ o₂ → Drew z d₂ o₂ (ends ∷ []) r d₃ last
     → Drew at d out (strokes_of (start n (style t k ∷ escaped (b "status") (b "unknown") ∷ []))) r d₃ last
 unfolding strokes_of_attrs strokes_of_attr escaped
 unknown_drawn t k d d₁ d₂ d₃ e₁ e₂ e₃ = drew_start d d₂ d₃ (style t k ∷ escaped (b "status") (b "unknown") ∷ []) (drew_two d d₁ d₂ e₁ e₂) e₃
 
 pub para_drawn : (t : Tape) (k : ℕ) {at a r : ℕ} (d d₁ d₂ : List ℕ) {out o₁ last name : Bytes} → name ≡ marker_name t k
-    → Drew at d out (opens 5 ∷ key (b "style") ∷ piece true name ∷ endValue ∷ []) a d₁ o₁ → Drew a d₁ o₁ (ends ∷ []) r d₂ last → Drew at d out (strokes_of (start 5 (style t k ∷ []))) r d₂ last
+    → Drew at d out (opens 5 ∷ key (b "style") ∷ piece true name ∷ end_value_of ∷ []) a d₁ o₁ → Drew a d₁ o₁ (ends ∷ []) r d₂ last → Drew at d out (strokes_of (start 5 (style t k ∷ []))) r d₂ last
 para_drawn t k d d₁ d₂ en e₁ e₂ = drew_start d d₁ d₂ (style t k ∷ []) (named_front t k d d₁ en e₁) e₂
 
 pub char_drawn : (t : Tape) (k : ℕ) {at a z u r : ℕ} (d d₁ d₂ d₃ d₄ : List ℕ) {out o₁ o₂ o₃ last name : Bytes} → name ≡ marker_name t k
-    → Drew at d out (opens 6 ∷ key (b "style") ∷ piece true name ∷ endValue ∷ []) a d₁ o₁ → Drew a d₁ o₁ (strokes_of_attrs (unclosed t k)) z d₂ o₂
+    → Drew at d out (opens 6 ∷ key (b "style") ∷ piece true name ∷ end_value_of ∷ []) a d₁ o₁ → Drew a d₁ o₁ (strokes_of_attrs (unclosed t k)) z d₂ o₂
     → Drew z d₂ o₂ (strokes_of_attrs (collected (attributes_of t k name))) u d₃ o₃ → Drew u d₃ o₃ (ends ∷ []) r d₄ last
     → Drew at d out (strokes_of (start 6 (style t k ∷ (unclosed t k ++ collected (attributes_of t k (marker_name t k)))))) r d₄ last
 char_drawn t k d d₁ d₂ d₃ d₄ en e₁ e₂ e₃ e₄ =
@@ -96,14 +96,14 @@ module _ {at a z r : ℕ} (d d₁ d₂ d₃ : List ℕ) {out o₁ o₂ last : By
       → Drew at d out (strokes_of (start 16 (perhaps (b "loc") (sought_of source loc)))) r d₃ last
   ref_drawn source loc e₁ e₂ e₃ = drew_start d d₂ d₃ _ (drew_two d d₁ d₂ e₁ e₂) e₃
 
-  pub figure_drawn : (t : Tape) (k : ℕ) → Drew at d out (opens 9 ∷ key (b "style") ∷ piece true (b "fig") ∷ endValue ∷ []) a d₁ o₁
+  pub figure_drawn : (t : Tape) (k : ℕ) → Drew at d out (opens 9 ∷ key (b "style") ∷ piece true (b "fig") ∷ end_value_of ∷ []) a d₁ o₁
       → Drew a d₁ o₁ (strokes_of_attrs (collected (attributes_of t k (b "fig")))) z d₂ o₂ → Drew z d₂ o₂ (ends ∷ []) r d₃ last
       → Drew at d out (strokes_of (start 9 (styled (b "fig") ++ collected (attributes_of t k (b "fig"))))) r d₃ last
   unfolding strokes_of_attrs strokes_of_attr styled rawly
   figure_drawn t k e₁ e₂ e₃ = drew_start d d₂ d₃ (styled (b "fig") ++ collected (attributes_of t k (b "fig"))) (drew_two d d₁ d₂ e₁ e₂) e₃
 
-  pub note_front : (caller name : Bytes) → Drew at d out (opens 7 ∷ []) a d₁ o₁ → Drew a d₁ o₁ (key (b "caller") ∷ piece false caller ∷ endValue ∷ []) z d₂ o₂
-      → Drew z d₂ o₂ (key (b "style") ∷ piece true name ∷ endValue ∷ []) r d₃ last → Drew at d out (opens 7 ∷ strokes_of_attrs (escaped (b "caller") caller ∷ rawly (b "style") name ∷ [])) r d₃ last
+  pub note_front : (caller name : Bytes) → Drew at d out (opens 7 ∷ []) a d₁ o₁ → Drew a d₁ o₁ (key (b "caller") ∷ piece false caller ∷ end_value_of ∷ []) z d₂ o₂
+      → Drew z d₂ o₂ (key (b "style") ∷ piece true name ∷ end_value_of ∷ []) r d₃ last → Drew at d out (opens 7 ∷ strokes_of_attrs (escaped (b "caller") caller ∷ rawly (b "style") name ∷ [])) r d₃ last
   unfolding strokes_of_attrs strokes_of_attr escaped rawly
   note_front caller name e₁ e₂ e₃ = drew_two d d₁ d₃ e₁ (drew_two d₁ d₂ d₃ e₂ e₃)
 

@@ -15,7 +15,7 @@ use Rattle.attrs.specs.Attr.{attributes_of}
 use Rattle.figure.specs.Figure.{legacy_at}
 use Rattle.tags.specs.Items.{Attr, start, close}
 use Rattle.events.specs.Event.{Event, item, aside, back, escaped, perhaps, collected, element, asided}
-use Rattle.events.specs.Walk.{style, styled, unclosed, link_of, linked, figure_as, marker_as, Manner, asInline, asNote, Role, unknownBlock, unknownInline, unwritten, figure, ref, id, note, ms, char, para}
+use Rattle.events.specs.Walk.{style, styled, unclosed, link_of, linked, figure_as, marker_as, Manner, as_inline, as_note, Role, unknown_block, unknown_inline, unwritten, figure, ref, id, note, ms, char, para}
 use Rattle.roles.specs.Roles.{is_whole, manner_of}
 use Rattle.put_markers.specs.Marker.{link_opens, link_closes, marker_opens, marker_closes, old_figure_of, leaf_of}
 
@@ -32,23 +32,23 @@ aside_split n qs es = ap (λ (fs : List Event). aside ∷ item (start n qs) ∷ 
 
 module _ (inside : Manner → ℕ → Bool → List Event) (t : Tape) (k : ℕ) (outer : Bool) where
   figure-split : (s : Step) → figure_as inside t k outer s
-      ≡ cond (not (found s)) (aside ∷ item (start 9 (styled (b "fig") ++ collected (attributes_of t k (b "fig")))) ∷ (inside asInline k outer ++ (item (close 9) ∷ back ∷ []))) (old_figure_of t k s)
+      ≡ cond (not (found s)) (aside ∷ item (start 9 (styled (b "fig") ++ collected (attributes_of t k (b "fig")))) ∷ (inside as_inline k outer ++ (item (close 9) ∷ back ∷ []))) (old_figure_of t k s)
   unfolding figure_as found old_figure_of
   figure-split (At a) = refl
-  figure-split Done = aside_split 9 (styled (b "fig") ++ collected (attributes_of t k (b "fig"))) (inside asInline k outer)
+  figure-split Done = aside_split 9 (styled (b "fig") ++ collected (attributes_of t k (b "fig"))) (inside as_inline k outer)
 
   -- what the definition writes for a marker, in the parts that the code writes
   pub marker-split : (role : Role) → marker_as inside t k outer role
       ≡ cond (is_whole t k role) (marker_opens t k role ++ (inside (manner_of role) k outer ++ marker_closes t k role)) (leaf_of t k role)
   unfolding marker_as is_whole marker_opens marker_closes leaf_of manner_of element
-  marker-split unknownBlock = refl
-  marker-split unknownInline = refl
+  marker-split unknown_block = refl
+  marker-split unknown_inline = refl
   marker-split unwritten = refl
   marker-split figure = figure-split (legacy_at t k)
   marker-split ref = refl
   marker-split id = refl
-  marker-split note = aside_split 7 (escaped (b "caller") (note_caller_of t k) ∷ style t k ∷ perhaps (b "category") (written_category t k)) (inside asNote k outer)
+  marker-split note = aside_split 7 (escaped (b "caller") (note_caller_of t k) ∷ style t k ∷ perhaps (b "category") (written_category t k)) (inside as_note k outer)
   marker-split ms = refl
   marker-split char =
-      ap (λ (es : List Event). item (start 6 (style t k ∷ (unclosed t k ++ collected (attributes_of t k (marker_name t k))))) ∷ es) (link-split (link_of t k) (inside asInline k outer) (item (close 6) ∷ []))
+      ap (λ (es : List Event). item (start 6 (style t k ∷ (unclosed t k ++ collected (attributes_of t k (marker_name t k))))) ∷ es) (link-split (link_of t k) (inside as_inline k outer) (item (close 6) ∷ []))
   marker-split para = refl

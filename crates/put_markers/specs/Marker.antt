@@ -12,7 +12,7 @@ use Rattle.attrs.specs.Walk.{first_of}
 use Rattle.figure.specs.Figure.{legacy_at, legacy_pairs, caption_of}
 use Rattle.tags.specs.Items.{start, empty, close, text}
 use Rattle.events.specs.Event.{Event, item, book, aside, back, escaped, perhaps, collected, element, asided}
-use Rattle.events.specs.Walk.{style, styled, unclosed, Role, unknownBlock, unknownInline, unwritten, figure, ref, id, note, ms, char, para, link_of}
+use Rattle.events.specs.Walk.{style, styled, unclosed, Role, unknown_block, unknown_inline, unwritten, figure, ref, id, note, ms, char, para, link_of}
 use Rattle.tags.specs.Element as el
 
 -- the start of the `ref` around what an `xt` links
@@ -27,8 +27,8 @@ link_closes (some loc) = item (close el.ref) ∷ []
 
 -- what stands before the events inside a marker, by its role
 unfoldable pub marker_opens : Tape → ℕ → Role → List Event
-marker_opens t k unknownBlock = item (start el.para (style t k ∷ escaped (b "status") (b "unknown") ∷ [])) ∷ []
-marker_opens t k unknownInline = item (start el.char (style t k ∷ escaped (b "status") (b "unknown") ∷ [])) ∷ []
+marker_opens t k unknown_block = item (start el.para (style t k ∷ escaped (b "status") (b "unknown") ∷ [])) ∷ []
+marker_opens t k unknown_inline = item (start el.char (style t k ∷ escaped (b "status") (b "unknown") ∷ [])) ∷ []
 marker_opens t k unwritten = []
 marker_opens t k figure = aside ∷ item (start el.figure (styled (b "fig") ++ collected (attributes_of t k (b "fig")))) ∷ []
 marker_opens t k ref = item (start el.ref (perhaps (b "loc") (first_of (b "loc") (attributes_of t k (b "ref"))))) ∷ []
@@ -40,8 +40,8 @@ marker_opens t k para = item (start el.para (style t k ∷ [])) ∷ []
 
 -- what stands behind the events inside a marker
 unfoldable pub marker_closes : Tape → ℕ → Role → List Event
-marker_closes t k unknownBlock = item (close el.para) ∷ []
-marker_closes t k unknownInline = item (close el.char) ∷ []
+marker_closes t k unknown_block = item (close el.para) ∷ []
+marker_closes t k unknown_inline = item (close el.char) ∷ []
 marker_closes t k unwritten = []
 marker_closes t k figure = item (close el.figure) ∷ back ∷ []
 marker_closes t k ref = item (close el.ref) ∷ []
@@ -58,8 +58,8 @@ old_figure_of t k (At a) = asided (element el.figure (styled (b "fig") ++ collec
 
 -- what a marker is written as where nothing stands inside
 unfoldable pub leaf_of : Tape → ℕ → Role → List Event
-leaf_of t k unknownBlock = []
-leaf_of t k unknownInline = []
+leaf_of t k unknown_block = []
+leaf_of t k unknown_inline = []
 leaf_of t k unwritten = []
 leaf_of t k figure = old_figure_of t k (legacy_at t k)
 leaf_of t k ref = []

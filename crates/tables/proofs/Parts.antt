@@ -15,7 +15,7 @@ use Rattle.render.specs.Shape.{is_row}
 use Rattle.render.specs.Children.{has_content_of}
 use Rattle.tags.specs.Items.{start, empty, close, line}
 use Rattle.events.specs.Event.{Event, item, element}
-use Rattle.events.specs.Walk.{asInline, inside, is_cell_of, cell_in, cells_along, cells, row_e, rows_e, table_e}
+use Rattle.events.specs.Walk.{as_inline, inside, is_cell_of, cell_in, cells_along, cells, row_e, rows_e, table_e}
 use Rattle.events.specs.Emit.{Desk, emit, emit_all}
 use Rattle.events.proofs.Emits.{emit-append, between}
 use Rattle.lists.specs.Span.{nodes_in, member_of_of}
@@ -44,19 +44,19 @@ pub cell_full : (t : Tape) (k depth : ℕ) (at a z r : ℕ) (d d₁ d₂ d₃ : 
     → desk_of t.source z d₂ now ≡ emit_all (desk_of t.source a d₁ mid) (inside t depth (manner_by false) k false)
     → Drew z d₂ now (closes 12 ∷ []) r d₃ last
     → desk_of t.source r d₃ last
-    ≡ emit_all (desk_of t.source at d out) (element 12 (cell_attrs t k) (inside t depth asInline k false))
+    ≡ emit_all (desk_of t.source at d out) (element 12 (cell_attrs t k) (inside t depth as_inline k false))
 unfolding manner_by strokes_of
 cell_full t k depth at a z r d d₁ d₂ d₃ out mid now last ea ez er =
-    cell-around t k (desk_of t.source at d out) (inside t depth asInline k false) ea ez (drew_item d₂ d₃ (close 12) er t.source)
+    cell-around t k (desk_of t.source at d out) (inside t depth as_inline k false) ea ez (drew_item d₂ d₃ (close 12) er t.source)
 
 module _ (t : Tape) (k depth level at a r : ℕ) (d d₁ d₂ : List ℕ) (out mid last : Bytes)
     (ea : (source : Bytes) → desk_of source a d₁ mid ≡ emit (desk_of source at d out) (item (line level))) {x : Bool} (ex : x ≡ has_content_of t k) where
   pub cell_with : x ≡ true
-      → desk_of t.source r d₂ last ≡ emit_all (desk_of t.source a d₁ mid) (element 12 (cell_attrs t k) (inside t depth asInline k false))
+      → desk_of t.source r d₂ last ≡ emit_all (desk_of t.source a d₁ mid) (element 12 (cell_attrs t k) (inside t depth as_inline k false))
       → desk_of t.source r d₂ last ≡ emit_all (desk_of t.source at d out) (cell_in (inside t depth) t level k)
   unfolding cell_in emit_all
   cell_with hx er =
-      rw (← ex, hx) (er ∙ ap (λ (w : Desk). emit_all w (element 12 (cell_attrs t k) (inside t depth asInline k false))) (ea t.source))
+      rw (← ex, hx) (er ∙ ap (λ (w : Desk). emit_all w (element 12 (cell_attrs t k) (inside t depth as_inline k false))) (ea t.source))
 
   pub cell-without : x ≡ false
       → desk_of t.source r d₂ last ≡ emit (desk_of t.source a d₁ mid) (item (empty 12 (cell_attrs t k)))

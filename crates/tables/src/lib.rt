@@ -6,7 +6,7 @@ ghost use Rattle.tape.specs.Tree.{up_to, walk_from};
 ghost use Rattle.leading_white.specs.Lean.{Solids};
 ghost use Rattle.tags.specs.Element.{cell};
 ghost use Rattle.events.specs.Event.{element};
-ghost use Rattle.events.specs.Walk.{asInline, inside as inside_of, cell_in, cells_along, cells as cells_of, row_e, rows_e, table_e};
+ghost use Rattle.events.specs.Walk.{as_inline, inside as inside_of, cell_in, cells_along, cells as cells_of, row_e, rows_e, table_e};
 ghost use Rattle.events.specs.Emit.{emit_all};
 ghost use Rattle.desk.specs.Desk.{desk_of};
 ghost use Rattle.lists.specs.Span.{nodes_in};
@@ -44,7 +44,7 @@ fn full_cell(
     out: &mut [u8],
 ) -> usize
     requires { Solids (tape_in tape file.now) solids.now }
-    ensures { desk_of (tape_in tape file.now).source result desk.new out.new ≡ emit_all (desk_of (tape_in tape file.now).source at desk.old out.old) (element cell (cell_attrs (tape_in tape file.now) c.at) (inside_of (tape_in tape file.now) depth asInline c.at false)) }
+    ensures { desk_of (tape_in tape file.now).source result desk.new out.new ≡ emit_all (desk_of (tape_in tape file.now).source at desk.old out.old) (element cell (cell_attrs (tape_in tape file.now) c.at) (inside_of (tape_in tape file.now) depth as_inline c.at false)) }
 {
     let a = open_cell(file, tape, c, at, desk, out);
     let z = inline::inside(file, tape, solids, c, depth, false, false, a, desk, out);

@@ -178,7 +178,7 @@ first-ok x s e = go (eqb 60 x) refl
     go : (t : Bool) → eqb 60 x ≡ t → eqb 60 x ≡ false
     go false h = h
     go true h =
-        let bad-first : ok Text (60 ∷ s) ≡ true = subst (λ (z : ℕ). ok Text (z ∷ s) ≡ true) (sym (eqb-true 60 x h)) e in
+        let bad_first : ok Text (60 ∷ s) ≡ true = subst (λ (z : ℕ). ok Text (z ∷ s) ≡ true) (sym (eqb-true 60 x h)) e in
         absurd (let no_way : ◌≡◌ {A = ℕ} 0 1 = cc in omega arith)
 
 pub clean_first : (x : ℕ) (s : Bytes) → Clean Text (x ∷ s) → ok Text (x ∷ s) ≡ true

@@ -125,17 +125,17 @@ parts_page t from out a d e z ea ed ee ez =
     let p : Page = record { at = 0; from = from; buf = out } in
     let s : State = first_state_of t in
     let es : List Event = events_of t in
-    let page-a : a.page ≡ paint p opens = ap (λ (x : Desk). x.page) ea in
-    let state-a : a.state ≡ s = ap (λ (x : Desk). x.state) ea in
-    let profile-a : a.profile ≡ rust = ap (λ (x : Desk). x.profile) ea in
-    let page-d : d.page ≡ paint (paint p opens) (render (emitted s es)) =
-    ap (λ (x : Desk). x.page) ed ∙ emit_page a es ∙ ap (λ (q : Profile). paint a.page (render_as q (emitted a.state es))) profile-a ∙ ap (λ (q : Page). paint q (render (emitted a.state es))) page-a ∙ ap (λ (u : State). paint (paint p opens) (render (emitted u es))) state-a in
-    let state-d : d.state ≡ after_all s es = ap (λ (x : Desk). x.state) ed ∙ emit_state a es ∙ ap (λ (u : State). after_all u es) state-a in
-    let profile-d : d.profile ≡ rust = ap (λ (x : Desk). x.profile) ed ∙ emit_profile a es ∙ profile-a in
-    let page-e : e.page ≡ paint (paint (paint p opens) (render (emitted s es))) (render (last_ends (after_all s es))) =
-    ap (λ (x : Desk). x.page) ee ∙ ap (λ (q : Profile). paint d.page (render_as q (last_ends d.state))) profile-d ∙ ap (λ (q : Page). paint q (render (last_ends d.state))) page-d ∙ ap (λ (u : State). paint (paint (paint p opens) (render (emitted s es))) (render (last_ends u))) state-d in
+    let page_a : a.page ≡ paint p opens = ap (λ (x : Desk). x.page) ea in
+    let state_a : a.state ≡ s = ap (λ (x : Desk). x.state) ea in
+    let profile_a : a.profile ≡ rust = ap (λ (x : Desk). x.profile) ea in
+    let page_d : d.page ≡ paint (paint p opens) (render (emitted s es)) =
+    ap (λ (x : Desk). x.page) ed ∙ emit_page a es ∙ ap (λ (q : Profile). paint a.page (render_as q (emitted a.state es))) profile_a ∙ ap (λ (q : Page). paint q (render (emitted a.state es))) page_a ∙ ap (λ (u : State). paint (paint p opens) (render (emitted u es))) state_a in
+    let state_d : d.state ≡ after_all s es = ap (λ (x : Desk). x.state) ed ∙ emit_state a es ∙ ap (λ (u : State). after_all u es) state_a in
+    let profile_d : d.profile ≡ rust = ap (λ (x : Desk). x.profile) ed ∙ emit_profile a es ∙ profile_a in
+    let page_e : e.page ≡ paint (paint (paint p opens) (render (emitted s es))) (render (last_ends (after_all s es))) =
+    ap (λ (x : Desk). x.page) ee ∙ ap (λ (q : Profile). paint d.page (render_as q (last_ends d.state))) profile_d ∙ ap (λ (q : Page). paint q (render (last_ends d.state))) page_d ∙ ap (λ (u : State). paint (paint (paint p opens) (render (emitted s es))) (render (last_ends u))) state_d in
     ap (λ (x : Desk). x.page) ez
-    ∙ ap (λ (q : Page). paint q ends) page-e
+    ∙ ap (λ (q : Page). paint q ends) page_e
     ∙ paint-append (paint (paint p opens) (render (emitted s es))) (render (last_ends (after_all s es))) ends
     ∙ paint-append (paint p opens) (render (emitted s es)) (render (last_ends (after_all s es)) ++ ends)
     ∙ paint-append p opens (render (emitted s es) ++ (render (last_ends (after_all s es)) ++ ends))
