@@ -16,10 +16,10 @@ NAME = r"[A-Za-z\u0370-\u03ff][\w'\u2032\u2080-\u2089\u1d40-\u1d6a-]*"
 TOKEN = re.compile(r'--(?=[\s-]|$)[^\n]*|//[^\n]*|"(?:\\.|[^"\\\n])*"|(?<![\w\u25cc\u2080-\u2089-])' + NAME)
 EDIT = re.compile(r"(?<![\w\u25cc\u2080-\u2089-])" + NAME)
 DEF = re.compile(r"^[ \t]*((?:(?:abbrev|unfoldable|pub|private|record|data)[ \t]+)*)(" + NAME + r")((?:[ \t]+(?:\([^()]*(?:\([^()]*\)[^()]*)*\)|\{[^{}]*\}))*)[ \t]*(?:\n[ \t]+)?:(?=\s)", re.M)
-# Files whose names are those of a function's goals.
-OF_GOALS = ("Proof.antt", "Answers.antt", "Invariants.antt")
+# Files of a function's folder: their names are those of its goals.
+OF_GOALS = re.compile(r"/proofs/.+/(Proof|Answers|Invariants)\.antt$")
 # Constructors of one type, which share a line.
-MANY = re.compile(r"^[ \t]+(?:pub[ \t]+)?(" + NAME + r"(?:[ \t]+" + NAME + r")+)[ \t]*:(?=\s)", re.M)
+MANY = re.compile(r"^[ \t]+(?!let\b)(?:pub[ \t]+)?(" + NAME + r"(?:[ \t]+" + NAME + r")+)[ \t]*:(?=\s)", re.M)
 WORDS = set("length take drop append set reverse map sum min max get_or add mul sub div mod and or not nil cons none some true false zero suc le lt eq replicate".split())
 
 
@@ -60,7 +60,7 @@ def landed(root):
     """What each name was in the commit at hand: the definitions of a file keep their order, whatever spells them."""
     then, two = {}, set()
     for p in files(root):
-        if not p.endswith(".antt") or p.endswith(OF_GOALS):
+        if not p.endswith(".antt") or OF_GOALS.search(p):
             continue
         old = subprocess.run(["git", "show", "HEAD:./" + os.path.relpath(p, root)], cwd=root, capture_output=True, text=True)
         with open(p, encoding="utf-8") as f:
@@ -100,7 +100,7 @@ def read(root):
             defs.update(own_alias(t))
         for m in re.finditer(r"^[ \t]*(?:pub |ghost )*use ([\w.\u00b7+-]+)", t, re.M):
             foreign |= set(m.group(1).split(".")[-1:]) if not own_import(m.group(0)) else set()
-        if p.endswith(".antt") and not p.endswith(OF_GOALS):
+        if p.endswith(".antt") and not OF_GOALS.search(p):
             for m in MANY.finditer(t):
                 defs.update(m.group(1).split())
             for m in DEF.finditer(t):

@@ -13,9 +13,10 @@ pub enum Item {
     End,
 }
 
-// The next so many bytes of standard input, at the front of a buffer that has room for them.
+// The next so many bytes of standard input, at the front of a buffer that has room for them. An error is that of the reading.
 pub fn read_some(rt: &impl Input, space: &mut [u8], size: usize) -> io::Result<bool>
-    ensures { IfOk result (λ held. held ≡ true → size ≤ length space.new) }
+    ensures within { IfOk result (λ held. held ≡ true → size ≤ length space.new) }
+    ensures kept { length space.new ≡ length space.old }
 {
     if size <= space.len() {
         let n = streams::read_full(&mut rt.reader(), &mut space[..size])?;
@@ -25,9 +26,10 @@ pub fn read_some(rt: &impl Input, space: &mut [u8], size: usize) -> io::Result<b
     }
 }
 
-// The next item, at the front of a buffer; one that is longer than the buffer or is cut off ends the stream, and a line says so.
+// The next item, at the front of a buffer; one that is longer than the buffer or is cut off ends the stream, and a line says so. An error is that of the reading or of the line.
 pub fn next(rt: &(impl Input + Print), space: &mut [u8]) -> io::Result<Item>
-    ensures { IfOk result (λ item. size_of item ≤ length space.new) }
+    ensures within { IfOk result (λ item. size_of item ≤ length space.new) }
+    ensures kept { length space.new ≡ length space.old }
 {
     if !read_some(rt, space, 4)? {
         return Ok(Item::End);
