@@ -9,7 +9,7 @@ use lib.Dec.{eqb, ltb, leb}
 use borrow.Author.Tests.{eqb-true, eqb-false, ltb-true, lt-ltb}
 use Rattle.parts.specs.Bytes.{Bytes}
 use Rattle.chars.specs.Utf8.{is_utf8}
-use Rattle.tape.specs.File.{Tape, tape_of, entry_at}
+use Rattle.tape.specs.File.{Tape, tape_of, sections_of, entry_at}
 use Rattle.tape.specs.declared.Entry.{Entry}
 use Rattle.nest.specs.Nest.{TooDeep, Sound}
 use Rattle.nest.specs.Decide.{too_deep, sound}
@@ -18,11 +18,15 @@ use Rattle.nest.proofs.Walk.{by_test}
 use Rattle.nest.proofs.Decide.{decides_6, decides_7}
 use Rattle.admit.specs.Rules.{LaidOut, Small, GoodEntry, GoodNames, GoodNode, GoodNodes, LabelCut}
 use Rattle.admit.specs.Pieces.{GoodByte}
-use Rattle.admit.specs.Refusal.{Kept₁, Kept₂, Kept₃, Kept₄, Kept₅, Kept₆, Kept₇, Refusal, none, first, second, third, fourth, fifth, sixth, seventh, refusal_number, answer_with}
+use Rattle.std.specs.Borrow.{Bor}
+use Rattle.std.specs.Prelude.{Result, Ok, Err, IfOk}
+use Rattle.tape.specs.declared.TapeFile.{TapeFile}
+use Rattle.tape.specs.declared.Sections.{Sections}
+use Rattle.admit.specs.declared.reason.Reason.{Reason}
+use Rattle.admit.specs.declared.reason.Reason.TheVariants.{Layout, Limits, Source, Names, Nodes, Depth, Nesting}
+use Rattle.admit.specs.Refusal.{Kept₁, Kept₂, Kept₃, Kept₄, Kept₅, Kept₆, Kept₇, Refusal, none, first, second, third, fourth, fifth, sixth, seventh, reason_number, refusal_number}
 use Rattle.admit.specs.Decide.{all_below, laid_out, small, good_byte, good_entry, good_names, label_cut, good_node, good_nodes, refusal_in, refusal}
-use Rattle.admit.specs.declared.Admitted.{Admitted}
 use Rattle.admit.proofs.All.{eq_is, le_is, same_is}
-use Rattle.admit.proofs.Answers.{Right}
 
 -- ---- tests
 
@@ -256,14 +260,44 @@ kept_all (none k) = k
 
 -- ---- what the contract of admit settles
 
--- the number of an answer is the one computed
-pub number-computed : {file : Bytes} {r : Admitted} → Right file r → refusal_number r ≡ refusal file
-number-computed {file} h = sym (computed file h.0)
+-- what the contract says of an answer
+pub record Right (file : Bor Bytes) (r : Result TapeFile Reason) : Type 0 where
+  pub number : Refusal file.now (refusal_number r)
+  pub same_file : IfOk r (λ t. t.file ≡ file)
+  pub sections : IfOk r (λ t. t.sections ≡ sections_of file.now)
 
--- the answer is the one with that number
-pub answer-computed : {file : Bytes} {r : Admitted} → Right file r → r ≡ answer_with file (refusal file)
-answer-computed {file} h = h.1 ∙ ap (answer_with file) (number-computed h)
+-- the reason with a number
+reason_with : ℕ → Reason
+reason_with n =
+    cond (eqb n 1) Layout (cond (eqb n 2) Limits (cond (eqb n 3) Source (cond (eqb n 4) Names (cond (eqb n 5) Nodes (cond (eqb n 6) Depth Nesting)))))
+
+reason_back : (e : Reason) → reason_with (reason_number e) ≡ e
+unfolding reason_with reason_number
+reason_back Layout = refl
+reason_back Limits = refl
+reason_back Source = refl
+reason_back Names = refl
+reason_back Nodes = refl
+reason_back Depth = refl
+reason_back Nesting = refl
+
+-- no reason has the number of an admitted tape
+pub reason_some : (e : Reason) → 0 < reason_number e
+unfolding reason_number
+reason_some Layout = omega arith
+reason_some Limits = omega arith
+reason_some Source = omega arith
+reason_some Names = omega arith
+reason_some Nodes = omega arith
+reason_some Depth = omega arith
+reason_some Nesting = omega arith
 
 -- two answers that meet the contract are equal
-pub one_answer : {file : Bytes} {r s : Admitted} → Right file r → Right file s → r ≡ s
-one_answer p q = answer-computed p ∙ sym (answer-computed q)
+pub one_answer : {file : Bor Bytes} (r s : Result TapeFile Reason) → Right file r → Right file s → r ≡ s
+unfolding refusal_number
+one_answer (Ok a) (Ok z) p q =
+    ap (λ (f : Bor Bytes). Ok (record { file = f; sections = a.sections })) (p.same_file ∙ sym q.same_file)
+    ∙ ap (λ (c : Sections). Ok (record { file = z.file; sections = c })) (p.sections ∙ sym q.sections)
+one_answer (Ok a) (Err e) p q = absurd (omega (arith, refusal_unique p.number q.number, reason_some e))
+one_answer (Err d) (Ok z) p q = absurd (omega (arith, refusal_unique p.number q.number, reason_some d))
+one_answer (Err d) (Err e) p q = ap Err (sym (reason_back d) ∙ ap reason_with (refusal_unique p.number q.number) ∙ reason_back e)

@@ -16,9 +16,8 @@ use Rattle.tape.specs.File.{Tape, tape_in, tape_of, sections_of, nowhere, namele
 use Rattle.tape.specs.Tree.{is_close, holds, child_before, first_child, last_held, sibling_past, next_sibling, walk_from, children}
 use Rattle.tape.specs.declared.Node.{Node}
 use Rattle.tape.specs.declared.Entry.{Entry}
-use Rattle.tape.specs.declared.Info.TheVariants.{Known, Unknown}
-use Rattle.tape.specs.declared.Step.{Step}
-use Rattle.tape.specs.declared.Step.TheVariants.{At, Done}
+use Rattle.tape.specs.Found.{Step}
+use Rattle.std.specs.Prelude.{None, Some}
 use Rattle.tape.proofs.Laws.{node-count, entry-count}
 use Rattle.tape.proofs.Walk.{walk_done, walk_at}
 use Rattle.nest.specs.Tape.{link_at}
@@ -38,7 +37,7 @@ use Rattle.admit.proofs.Utf8.{utf8_part}
 module _ (t : Tape) (z : Nested t.nodes) where
   -- where a walk goes on: at a, if a row of siblings does not end there
   step_at : ℕ → Step
-  step_at a = cond (stops t.nodes a) Done (At (record { at = a }))
+  step_at a = cond (stops t.nodes a) None (Some (record { at = a }))
 
   last_is : (a : ℕ) → (kind_at t a ≡ 0 → ⊥) → last_held t a + 1 ≡ past t.nodes a
   unfolding last_held holds past container node_at
@@ -50,12 +49,12 @@ module _ (t : Tape) (z : Nested t.nodes) where
       go true false e = refl
       go false y e = refl
 
-  step_is : (a : ℕ) → cond (ltb a (length t.nodes)) (cond (is_close (kind_at t a)) Done (At (record { at = a }))) Done ≡ step_at a
+  step_is : (a : ℕ) → cond {A = Step} (ltb a (length t.nodes)) (cond {A = Step} (is_close (kind_at t a)) None (Some (record { at = a }))) None ≡ step_at a
   unfolding step_at stops is_close close node_at
   step_is a = go (ltb a (length t.nodes)) refl
     where
       go : (x : Bool) → ltb a (length t.nodes) ≡ x
-          → cond x (cond (is_close (kind_at t a)) Done (At (record { at = a }))) Done ≡ cond (leb (length t.nodes) a || close t.nodes a) Done (At (record { at = a }))
+          → cond {A = Step} x (cond {A = Step} (is_close (kind_at t a)) None (Some (record { at = a }))) None ≡ cond {A = Step} (leb (length t.nodes) a || close t.nodes a) None (Some (record { at = a }))
       go true e = rw (lt-leb (length t.nodes) a (ltb-true a (length t.nodes) e))
       go false e = rw (le-leb (length t.nodes) a (ltb-false a (length t.nodes) e))
 
@@ -65,11 +64,11 @@ module _ (t : Tape) (z : Nested t.nodes) where
       let e = last_is a n in
       rw (le-ltb (last_held t a) a (omega (arith, e, past_forward t.nodes z a)), e) (step_is (past t.nodes a))
 
-  stops_at : (a : ℕ) → stops t.nodes a ≡ true → step_at a ≡ Done
+  stops_at : (a : ℕ) → stops t.nodes a ≡ true → step_at a ≡ None
   unfolding step_at
   stops_at a e = rw e
 
-  goes_at : (a : ℕ) → a < length t.nodes → close t.nodes a ≡ false → step_at a ≡ At (record { at = a })
+  goes_at : (a : ℕ) → a < length t.nodes → close t.nodes a ≡ false → step_at a ≡ Some (record { at = a })
   unfolding step_at stops
   goes_at a h e = rw (lt-leb (length t.nodes) a h, e)
 
@@ -193,11 +192,11 @@ module _ (file : Bytes) (z : Kept₇ file) where
       none : GoodEntry t nameless
       none = record { inside = omega arith; category = omega arith; element = omega arith }
 
-  pub info_good : (k : ℕ) (e : Entry) → info_at t k ≡ Known e → GoodEntry t e
+  pub info_good : (k : ℕ) (e : Entry) → info_at t k ≡ Some e → GoodEntry t e
   unfolding info_at
   info_good k e h = go (bears_marker (kind_at t k) && ltb (node_at t k).marker (length t.entries)) h
     where
-      go : (b : Bool) → cond b (Known (entry_at t (node_at t k).marker)) Unknown ≡ Known e → GoodEntry t e
+      go : (b : Bool) → cond b (Some (entry_at t (node_at t k).marker)) None ≡ Some e → GoodEntry t e
       go true h = let same : entry_at t (node_at t k).marker ≡ e = cc in subst (GoodEntry t) same (entry_good (node_at t k).marker)
       go false h = absurd (let no_way : ◌≡◌ {A = ℕ} 0 1 = cc in omega arith)
 
@@ -246,7 +245,7 @@ module _ (file : Bytes) (z : Kept₇ file) where
       rw (ne_eqb (kind_at t k) 0 (λ e. n (root_only k e))) (go (eqb (kind_at t k) 3) (eqb (node_at t k).link k) refl c)
     where
       go : (x y : Bool) → eqb (node_at t k).link k ≡ y → (x && not y) ≡ false
-          → walk_from t (cond x (child_before (length t.nodes) k (node_at t k).link) Done) ≡ []
+          → walk_from t (cond x (child_before (length t.nodes) k (node_at t k).link) None) ≡ []
       go true true e d = rw (le-ltb (k + 1) (node_at t k).link (omega (arith, eqb-true (node_at t k).link k e))) (walk_done t)
       go true false e d = absurd (clash refl d)
       go false y e d = walk_done t

@@ -3,32 +3,29 @@ use mathlib.Core.Path.{◌≡◌, refl, sym, ap, subst, ◌∙◌}
 use mathlib.Core.Bool.{Bool, true, false, not}
 use mathlib.Core.List.{List}
 use mathlib.Core.Logic.{◌↔◌}
-use Prim.Native.Nat.{ℕ, ◌+◌, ◌-◌, ◌≤◌, ◌<◌, ◌^◌}
+use Prim.Native.Nat.{ℕ, ◌+◌, ◌-◌, ◌≤◌, ◌<◌}
 use native.Mathlib.Omega.{arith}
 use lib.ListN.{length, take, drop, length-take, length-drop}
 use lib.Seq.{get_or-take, length-take-le}
 use lib.Dec.{ltb}
 use borrow.Author.Tests.{ne_eqb, lt-ltb, ltb-true, ltb-false, not-false}
-use borrow.Author.Count.{below_more}
 use Rattle.parts.specs.Bytes.{Bytes, part}
 use Rattle.chars.specs.Utf8.{characters, is_boundary}
 use Rattle.words.specs.Words.{words}
 use Rattle.words.specs.declared.Set.TheVariants.{Unicode}
-use Rattle.tape.specs.File.{tape_in, node_at, kind_at, text_at_of, info_at, base_len}
+use Rattle.tape.specs.File.{tape_in, node_at, text_at_of, info_at, base_len}
 use Rattle.tape.specs.Name.{bare, name_len, name_in_of, marker_name}
 use Rattle.tape.specs.declared.Node.{Node}
 use Rattle.tape.specs.declared.Sections.{Sections}
 use Rattle.tape.specs.declared.Cursor.{Cursor}
-use Rattle.tape.proofs.Laws.{node-count}
 use Rattle.tape.proofs.NameRule.{name_of}
 use Rattle.source_index.specs.Seek.{Right, solid_at, to_word}
 use Rattle.source_index.specs.declared.Test.TheVariants.{Ender, Gap}
 use Rattle.source_index.proofs.Runs.{name-le}
-use Rattle.source_index.proofs.Spans.{source_short, span-name, span-words, bare-span, bare-le, solid-bare}
-use Rattle.nest.proofs.Tape.{no_is, yes_is, clash}
+use Rattle.source_index.proofs.Spans.{span-name, span-words, bare-span, bare-le, solid-bare}
+use Rattle.nest.proofs.Tape.{yes_is, clash}
 use Rattle.admit.specs.Rules.{LabelCut}
-use Rattle.admit.specs.Pieces.{SoundNode, SoundNodes, GoodLabel, GoodVerse, GoodVerses, Tables}
-use Rattle.admit.proofs.All.{holds, fails}
+use Rattle.admit.specs.Pieces.{SoundNode, GoodLabel, GoodVerse, Tables}
 
 -- ---- the label's cut
 
@@ -172,71 +169,10 @@ module _ (c : Sections) (file : Bytes) (k : ℕ) {z : Cursor} {base : ℕ} (ez :
     module _ {s : Bytes} {n : Node} {a : ℕ} {enders gaps : List ℕ} {p : Bool} (cb : b ≡ false) (cl : base < length name) (es : s ≡ (tape_in c file).source)
         (er : n ≡ node_at (tape_in c file) k) (ea : a ≡ n.start)
         (ep : Right Ender s enders → a + (length text - length name) ≤ length s → p ≡ ltb base (name_len (drop (a + (length text - length name)) s))) where
-      pub label_short : p ≡ false → Tables (tape_in c file).source enders gaps → SoundNode (tape_in c file) k → (true ≡ true) ↔ GoodLabel (tape_in c file) k
-      label_short h t g = short_yes cb cl es er ea ep t g h
+      pub label_short : p ≡ false → Tables (tape_in c file).source enders gaps → SoundNode (tape_in c file) k → (not p ≡ true) ↔ GoodLabel (tape_in c file) k
+      label_short h t g = let yes : (true ≡ true) ↔ GoodLabel (tape_in c file) k = short_yes cb cl es er ea ep t g h in rw h yes
 
       pub label_word : {e : ℕ} {r : Bool} → p ≡ true → e ≡ n.len
           → (Right Gap s gaps → a ≤ length s → r ≡ ltb (a + to_word false (characters (drop a s))) (a + e))
           → Tables (tape_in c file).source enders gaps → SoundNode (tape_in c file) k → (r ≡ true) ↔ GoodLabel (tape_in c file) k
       label_word h ee f t g = word_is cb cl es er ea ep t g h ee f
-
--- ---- Verses
-
-pub clear_other : (c : Sections) (file : Bytes) (k : ℕ) {z : Cursor} {x : ℕ} → z.at ≡ k → x ≡ kind_at (tape_in c file) z.at → (x ≡ 7 → ⊥)
-    → true ≡ true → GoodVerse (tape_in c file) k
-clear_other c file k ez ex h e v = absurd (h (ex ∙ ap (kind_at (tape_in c file)) ez ∙ v))
-
-module _ (c : Sections) (file : Bytes) (k : ℕ) {n : Node} (er : n ≡ node_at (tape_in c file) k) where
-  other : (n.kind.code ≡ 7 → ⊥) → GoodVerse (tape_in c file) k
-  other h v = absurd (h (ap (λ (m : Node). m.kind.code) er ∙ v))
-
-  module _ {enders gaps : List ℕ} where
-    pub verse-other : (n.kind.code ≡ 7 → ⊥) → Tables (tape_in c file).source enders gaps → SoundNode (tape_in c file) k → (true ≡ true) ↔ GoodVerse (tape_in c file) k
-    verse-other h t g = yes_is (other h)
-
-    pub verse_label_lem : {r : Bool} → n.kind.code ≡ 7
-        → (Tables (tape_in c file).source enders gaps → SoundNode (tape_in c file) k → (r ≡ true) ↔ GoodLabel (tape_in c file) k)
-        → Tables (tape_in c file).source enders gaps → SoundNode (tape_in c file) k → (r ≡ true) ↔ GoodVerse (tape_in c file) k
-    verse_label_lem h f t g = (λ q v. (f t g).0 q, λ v. (f t g).1 (v (sym (ap (λ (m : Node). m.kind.code) er) ∙ h)))
-
-module _ (c : Sections) (file : Bytes) (k : ℕ) where
-  abbrev Upto : ℕ → Type 0
-  Upto m = (i : ℕ) → i < m → GoodVerse (tape_in c file) i
-
-  pub clear_more : {b : Bool} → Upto k → (b ≡ true → GoodVerse (tape_in c file) k) → not b ≡ false → Upto (k + 1)
-  clear_more {b} g f e = below_more _ _ g (f (not-false b e))
-
-  pub clear_not : false ≡ true → GoodVerses (tape_in c file)
-  clear_not e = absurd (clash e refl)
-
-  pub clear_all : Upto k → c.nodes ≤ k → true ≡ true → GoodVerses (tape_in c file)
-  clear_all g h e i l = g i (omega (arith, node-count c file))
-
-  module _ {enders gaps : List ℕ} {b : Bool} (q : Tables (tape_in c file).source enders gaps → SoundNodes (tape_in c file) → Upto k) where
-    module _ (h : k < c.nodes) (f : Tables (tape_in c file).source enders gaps → SoundNode (tape_in c file) k → (b ≡ true) ↔ GoodVerse (tape_in c file) k) where
-      here : k < length (tape_in c file).nodes
-      here = omega (arith, node-count c file)
-
-      pub verses_more : not b ≡ false → Tables (tape_in c file).source enders gaps → SoundNodes (tape_in c file) → Upto (k + 1)
-      verses_more e t g = below_more _ _ (q t g) (holds (f t (g k here)) e)
-
-      pub verses_broken : not b ≡ true → Tables (tape_in c file).source enders gaps → SoundNodes (tape_in c file) → (false ≡ true) ↔ GoodVerses (tape_in c file)
-      verses_broken e t g = no_is (λ v. fails (f t (g k here)) e (v k here))
-
-  pub verses_kept : {enders gaps : List ℕ} → (Tables (tape_in c file).source enders gaps → SoundNodes (tape_in c file) → Upto k) → c.nodes ≤ k
-      → Tables (tape_in c file).source enders gaps → SoundNodes (tape_in c file) → (true ≡ true) ↔ GoodVerses (tape_in c file)
-  verses_kept q h t g = yes_is (λ i l. q t g i (omega (arith, node-count c file)))
-
--- ---- all labels
-
-module _ (c : Sections) (file : Bytes) where
-  pub labels_clear : {b : Bool} → (b ≡ true → GoodVerses (tape_in c file)) → b ≡ true → SoundNodes (tape_in c file) → (true ≡ true) ↔ GoodVerses (tape_in c file)
-  labels_clear f e g = yes_is (f e)
-
-  pub labels_judged : {s : Bytes} {enders gaps : List ℕ} {r : Bool} → c.source < 2 ^ 32 → s ≡ (tape_in c file).source → (length s < 2 ^ 32 → Right Ender s enders)
-      → (length s < 2 ^ 32 → Right Gap s gaps)
-      → (Tables (tape_in c file).source enders gaps → SoundNodes (tape_in c file) → (r ≡ true) ↔ GoodVerses (tape_in c file))
-      → SoundNodes (tape_in c file) → (r ≡ true) ↔ GoodVerses (tape_in c file)
-  labels_judged l es fe fg f g =
-      let h = source_short c file l in
-      f (record { names = rw es at (fe (rw es h)); words = rw es at (fg (rw es h)) }) g

@@ -1,7 +1,4 @@
 pub mod All
-pub mod HeaderRule
-pub mod NamesRule
-pub mod NodesRule
 pub mod LabelsRule
 pub mod Answers
 pub mod Decide

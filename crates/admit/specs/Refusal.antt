@@ -1,11 +1,12 @@
 -- The lowest number that applies to a file, and 0 where none does.
-use Rattle.std.specs.Prelude.{cond, ℕ, eqb}
+use Rattle.std.specs.Prelude.{ℕ, Result, Ok, Err}
 use Rattle.parts.specs.Bytes.{Bytes}
-use Rattle.tape.specs.File.{tape_of, sections_of}
+use Rattle.tape.specs.File.{tape_of}
+use Rattle.tape.specs.declared.TapeFile.{TapeFile}
 use Rattle.nest.specs.Nest.{TooDeep, Nested}
 use Rattle.admit.specs.Rules.{LaidOut, Small, Utf8, GoodNames, GoodNodes}
-use Rattle.admit.specs.declared.Admitted.{Admitted}
-use Rattle.admit.specs.declared.Admitted.TheVariants.{Tape, Refused}
+use Rattle.admit.specs.declared.reason.Reason.{Reason}
+use Rattle.admit.specs.declared.reason.Reason.TheVariants.{Layout, Limits, Source, Names, Nodes, Depth, Nesting}
 
 -- a file keeps the rule of 1
 pub record Kept₁ (file : Bytes) : Type 0 where
@@ -52,11 +53,17 @@ pub data Refusal (file : Bytes) : ℕ → Type 0 where
   sixth : Kept₅ file → TooDeep (tape_of file).nodes → Refusal file 6
   seventh : Kept₆ file → (Nested (tape_of file).nodes → ⊥) → Refusal file 7
 
--- the number of an answer, 0 for an admitted tape
-unfoldable pub refusal_number : Admitted → ℕ
-refusal_number (Tape c) = 0
-refusal_number (Refused n) = n
+-- the number of a reason
+unfoldable pub reason_number : Reason → ℕ
+reason_number Layout = 1
+reason_number Limits = 2
+reason_number Source = 3
+reason_number Names = 4
+reason_number Nodes = 5
+reason_number Depth = 6
+reason_number Nesting = 7
 
--- the answer with a number: an admitted file gives its sections
-unfoldable pub answer_with : Bytes → ℕ → Admitted
-answer_with file n = cond (eqb n 0) (Tape (sections_of file)) (Refused n)
+-- the number of an answer, 0 for an admitted tape
+unfoldable pub refusal_number : Result TapeFile Reason → ℕ
+refusal_number (Ok t) = 0
+refusal_number (Err e) = reason_number e

@@ -4,7 +4,7 @@ ghost use Rattle.tape.specs.File.{le32};
 ghost use Rattle.admit.specs.Rules.{LaidOut, Small};
 ghost use Rattle.admit.specs.Pieces.{Offsets};
 
-use tape::{Sections, long};
+use tape::{Sections, TapeFile, long};
 
 // The most that a tape holds: nodes, entries, name bytes, source bytes.
 const MOST_NODES: u32 = 262144;
@@ -23,40 +23,24 @@ fn word_at(file: &[u8], at: usize) -> usize
 }
 
 // Whether the offsets that a header gives are those of its counts.
-fn offsets(file: &[u8], t: Sections) -> bool
-    ensures { (result ≡ true) ↔ Offsets file.now t }
+fn offsets(t: &TapeFile<'_>) -> bool
+    ensures { (result ≡ true) ↔ Offsets t.now.file.now t.now.sections }
 {
-    if word_at(file, 8) != long(t.head) {
-        return false;
-    }
-    if word_at(file, 16) != t.entries_at() {
-        return false;
-    }
-    if word_at(file, 24) != t.names_at() {
-        return false;
-    }
-    word_at(file, 32) == t.source_at()
+    word_at(t.file, 8) == long(t.sections.head)
+        && word_at(t.file, 16) == t.sections.entries_at()
+        && word_at(t.file, 24) == t.sections.names_at()
+        && word_at(t.file, 32) == t.sections.source_at()
 }
 
 // 1: at least 36 bytes, format 1, offsets and the file's length as laid out.
 pub fn laid_out(file: &[u8]) -> bool
     ensures { (result ≡ true) ↔ LaidOut file.now }
 {
-    if file.len() < Sections::HEADER as usize {
-        return false;
-    }
-    if tape::length_of(file) != Sections::FORMAT {
-        return false;
-    }
-    let t = Sections::of(file);
-    if !offsets(file, t) {
-        return false;
-    }
-    let source = t.source_at();
-    if file.len() < source {
-        return false;
-    }
-    file.len() - source == long(t.source)
+    let sections = Sections::of(file);
+    file.len() >= Sections::HEADER as usize
+        && tape::length_of(file) == Sections::FORMAT
+        && offsets(&TapeFile { file, sections })
+        && file.len() == sections.source_at() + long(sections.source)
 }
 
 // 2: nodes 1 to 262,144; entries at most 1,024; names at most 16,384 bytes; source at most 4,194,304 bytes.
@@ -64,17 +48,9 @@ pub fn small(file: &[u8]) -> bool
     ensures { (result ≡ true) ↔ Small file.now }
 {
     let t = Sections::of(file);
-    if t.nodes == 0 {
-        return false;
-    }
-    if MOST_NODES < t.nodes {
-        return false;
-    }
-    if MOST_ENTRIES < t.entries {
-        return false;
-    }
-    if MOST_NAMES < t.names {
-        return false;
-    }
-    t.source <= MOST_SOURCE
+    0 < t.nodes
+        && t.nodes <= MOST_NODES
+        && t.entries <= MOST_ENTRIES
+        && t.names <= MOST_NAMES
+        && t.source <= MOST_SOURCE
 }

@@ -4,45 +4,43 @@ mod header;
 mod labels;
 mod names;
 mod nodes;
+mod reason;
 
-ghost use Rattle.std.specs.Prelude.{◌≡◌};
-ghost use Rattle.admit.specs.Refusal.{Refusal, refusal_number, answer_with};
+ghost use Rattle.std.specs.Prelude.{◌≡◌, IfOk};
+ghost use Rattle.tape.specs.File.{sections_of};
+ghost use Rattle.admit.specs.Refusal.{Refusal, refusal_number};
 
-use tape::Sections;
+pub use reason::Reason;
+use tape::{Sections, TapeFile};
 
-// The sections of an admitted file, or the number of its refusal.
-#[derive(Clone, Copy)]
-pub enum Admitted {
-    Tape(Sections),
-    Refused(u8),
-}
-
-// Judges a file.
-pub fn admit(file: &[u8]) -> Admitted
+// The tape of a file, or why it is refused.
+pub fn admit(file: &[u8]) -> Result<TapeFile<'_>, Reason>
     ensures number { Refusal file.now (refusal_number result) }
-    ensures answer { result ≡ answer_with file.now (refusal_number result) }
+    ensures same_file { IfOk result (λ t. t.file ≡ file.entry) }
+    ensures sections { IfOk result (λ t. t.sections ≡ sections_of file.now) }
 {
     if !header::laid_out(file) {
-        return Admitted::Refused(1);
+        return Err(Reason::Layout);
     }
     if !header::small(file) {
-        return Admitted::Refused(2);
+        return Err(Reason::Limits);
     }
-    let t = Sections::of(file);
-    if !chars::is_utf8(tape::source(file, t)) {
-        return Admitted::Refused(3);
+    let sections = Sections::of(file);
+    let tape = TapeFile { file, sections };
+    if !chars::is_utf8(tape.source()) {
+        return Err(Reason::Source);
     }
-    if !names::good_names(file, t) {
-        return Admitted::Refused(4);
+    if !names::good_names(&tape) {
+        return Err(Reason::Names);
     }
-    if !nodes::good_nodes(file, t) {
-        return Admitted::Refused(5);
+    if !nodes::good_nodes(&tape) {
+        return Err(Reason::Nodes);
     }
-    if nest::nests(file, t) {
-        return Admitted::Tape(t);
+    if nest::nests(&tape) {
+        return Ok(tape);
     }
-    if nest::too_deep(file, t) {
-        return Admitted::Refused(6);
+    if nest::too_deep(&tape) {
+        return Err(Reason::Depth);
     }
-    Admitted::Refused(7)
+    Err(Reason::Nesting)
 }

@@ -4,33 +4,11 @@ use mathlib.Core.Bool.{Bool, true, false}
 use denote.Ref.{Bor}
 use Rattle.parts.specs.Bytes.{Bytes, b, part, same, begins}
 use Rattle.parts.specs.Place.{VeryPart}
-use Rattle.words.specs.Words.{bytes_of}
 use Rattle.words.specs.declared.Part.{Part}
-use Rattle.attrs.specs.Attr.{is_word_marker, default_key, key_for}
+use Rattle.attrs.specs.Attr.{is_word_marker, default_key}
 use Rattle.attrs.specs.Walk.{fixed_keys, key_of, KeyPart}
 use Rattle.attrs.specs.declared.Key.{Key}
 use Rattle.attrs.specs.declared.Key.TheVariants.{Own, Fixed}
-
--- ---- markers of word lists
-
-module _ (m : Bytes) {w : Bool} (ew : w ≡ same m (b "w")) where
-  pub word_w : w ≡ true → true ≡ is_word_marker m
-  unfolding is_word_marker
-  word_w h = rw (sym ew ∙ h)
-
-  module _ (nw : w ≡ false) {a : Bool} (ea : a ≡ same m (b "wa")) where
-    pub word_wa : a ≡ true → true ≡ is_word_marker m
-    unfolding is_word_marker
-    word_wa h = rw (sym ew ∙ nw, sym ea ∙ h)
-
-    module _ (na : a ≡ false) {g : Bool} (eg : g ≡ same m (b "wg")) where
-      pub word_wg : g ≡ true → true ≡ is_word_marker m
-      unfolding is_word_marker
-      word_wg h = rw (sym ew ∙ nw, sym ea ∙ na, sym eg ∙ h)
-
-      pub word_wh : g ≡ false → {r : Bool} → r ≡ same m (b "wh") → r ≡ is_word_marker m
-      unfolding is_word_marker
-      word_wh h e = rw (sym ew ∙ nw, sym ea ∙ na, sym eg ∙ h) e
 
 -- ---- default keys
 
@@ -72,22 +50,6 @@ module _ (m : Bytes) {w : Bool} (ew : w ≡ is_word_marker m) where
               pub key_default : q ≡ false → b "default" ≡ default_key m
               unfolding default_key
               key_default h = rw (sym ew ∙ nw, sym er ∙ nr, sym ex ∙ nx, sym ef ∙ nf, sym ej ∙ nj, sym ep ∙ np, sym eq ∙ h)
-
--- ---- `src` on `fig`
-
-module _ (source fixed marker : Bytes) (key : Part) {f : Bool} (ef : f ≡ same marker (b "fig")) where
-  pub key_other : f ≡ false → key_of source fixed (Own key) ≡ key_for marker (bytes_of source key)
-  unfolding key_of key_for
-  key_other h = rw (sym ef ∙ h)
-
-  module _ (hf : f ≡ true) {r : Bytes} {t : Bool} (er : r ≡ part source key.start key.len) (et : t ≡ same r (b "src")) where
-    pub key_fig : t ≡ false → key_of source fixed (Own key) ≡ key_for marker (bytes_of source key)
-    unfolding key_of key_for
-    key_fig h = rw (sym ef ∙ hf, ap (λ (z : Bytes). same z (b "src")) (sym er) ∙ sym et ∙ h)
-
-    pub key_file : t ≡ true → key_of source fixed_keys (Fixed (record { start = 38; len = 4 })) ≡ key_for marker (bytes_of source key)
-    unfolding key_of key_for
-    key_file h = rw (sym ef ∙ hf, ap (λ (z : Bytes). same z (b "src")) (sym er) ∙ sym et ∙ h)
 
 -- ---- a key as bytes
 

@@ -5,30 +5,36 @@ use mathlib.Core.List.{[], ◌∷◌, ◌++◌}
 use Prim.Native.Nat.{ℕ, suc, ◌+◌, ◌-◌, ◌≤◌, ◌<◌}
 use native.Mathlib.Omega.{arith}
 use lib.ListN.{length, get_or, take, drop, drop_of_length-le, length-drop, take-append-drop}
-use lib.Seq.{drop-drop, length-take-le}
+use lib.Seq.{drop-drop, length-take-le, take-length}
 use lib.Dec.{eqb}
-use borrow.Author.Tests.{eqb-true, not-true, not-false}
+use mathlib.Core.Bool.{cond}
+use Rattle.std.specs.List.{prefix_len}
+use Rattle.std.proofs.lemmas.List.Folds.{length-prefix_len}
+use borrow.Author.Tests.{eqb-true}
 use Rattle.parts.specs.Bytes.{Bytes, b}
 use Rattle.parts.proofs.Laws.{drop_at}
-use Rattle.chars.specs.Range.{within}
 use Rattle.chars.proofs.Laws.{below, beyond, inside}
 use Rattle.attrs.specs.Barred.{in_key, in_value, lead, RunTo, Simple, Barred}
 
 -- ---- a byte of a key
 
-pub key_low : (x : ℕ) → x < 35 → false ≡ in_key x
+pub key_low : (x : ℕ) → x < 35 → in_key x ≡ false
 unfolding in_key
 key_low x h = rw (below 35 126 x h)
 
-pub key_high : (x : ℕ) → 126 < x → false ≡ in_key x
+pub key_high : (x : ℕ) → 126 < x → in_key x ≡ false
 unfolding in_key
 key_high x h = rw (beyond 35 126 x h)
 
-pub key_within : (x : ℕ) → 35 ≤ x → x ≤ 126 → not (eqb x 61) ≡ in_key x
+pub key_within : (x : ℕ) → 35 ≤ x → x ≤ 126 → in_key x ≡ not (eqb x 61)
 unfolding in_key
 key_within x l h = rw (inside 35 126 x l h)
 
 -- ---- runs
+
+-- what `&s[i..]` is
+pub rest_is : (s : Bytes) (i : ℕ) → take (length s - i) (drop i s) ≡ drop i s
+rest_is s i = rw (← length-drop i s) (take-length (drop i s))
 
 module _ (p : ℕ → Bool) where
   lead-le : (s : Bytes) → lead p s ≤ length s
@@ -53,22 +59,18 @@ module _ (p : ℕ → Bool) where
   run_to : (s : Bytes) (from : ℕ) {i : ℕ} → i ≡ from + lead p (drop from s) → RunTo p s from i
   run_to s from e = record { within = omega (arith, lead-le (drop from s), length-drop from s); is = e }
 
-  -- one turn of the scan, and its end
-  module _ (s : Bytes) (from i : ℕ) (inv : i + lead p (drop i s) ≡ from + lead p (drop from s)) where
-    pub lead_end : length s ≤ i → RunTo p s from i
-    unfolding lead
-    lead_end h = run_to s from (omega (arith, ap (lead p) (drop_of_length-le s h)))
+  lead-prefix : (s : Bytes) → prefix_len p s ≡ lead p s
+  unfolding lead
+  lead-prefix [] = refl
+  lead-prefix (x ∷ s) = go (p x) (lead-prefix s)
+    where
+      go : (t : Bool) → prefix_len p s ≡ lead p s → cond t (1 + prefix_len p s) 0 ≡ elim t as (λ t. ℕ) [ true ↦ suc (lead p s) | false ↦ 0 ]
+      go true e = omega arith
+      go false e = refl
 
-    module _ (h : i < length s) {t : Bool} (et : t ≡ p (get_or s i 0)) where
-      pub lead-turn : not t ≡ false → i + 1 + lead p (drop (i + 1) s) ≡ from + lead p (drop from s)
-      unfolding lead
-      lead-turn e =
-          let step : lead p (drop i s) ≡ suc (lead p (drop (i + 1) s)) = rw (drop_at s i h) (rw (sym et ∙ not-false t e, lead)) in omega arith
-
-      pub lead_stop : not t ≡ true → RunTo p s from i
-      unfolding lead
-      lead_stop e =
-          let step : lead p (drop i s) ≡ 0 = rw (drop_at s i h) (rw (sym et ∙ not-true t e, lead)) in run_to s from (omega arith)
+  -- a run, as it is counted
+  pub run_counted : (s : Bytes) (from : ℕ) {n : ℕ} → n ≡ length (take (prefix_len p (drop from s)) (drop from s)) → RunTo p s from (from + n)
+  run_counted s from e = run_to s from (ap (λ (k : ℕ). from + k) (e ∙ length-prefix_len p (drop from s) ∙ lead-prefix (drop from s)))
 
   -- a run, and what follows it
   run-split : {s : Bytes} {from i : ℕ} → RunTo p s from i → {z : Bytes} → drop i s ≡ z → drop from s ≡ take (lead p (drop from s)) (drop from s) ++ z
@@ -78,9 +80,6 @@ module _ (p : ℕ → Bool) where
       ∙ ap (λ (z : Bytes). take k (drop from s) ++ z) (drop-drop k from s ∙ ap (λ (n : ℕ). drop n s) (sym r.is) ∙ e)
 
 -- ---- the whole text
-
-pub no_pair : (s : Bytes) → false ≡ true → Barred s
-no_pair s e = absurd (let no_way : ◌≡◌ {A = ℕ} 0 1 = cc in omega arith)
 
 module _ (s : Bytes) (bar : get_or s 0 0 ≡ 124) {i : ℕ} (ri : RunTo in_key s 1 i) (some : i ≡ 1 → ⊥) (room : 3 ≤ length s - i)
     (equal : get_or s i 0 ≡ 61) (quote : get_or s (i + 1) 0 ≡ 34) {j : ℕ} (rj : RunTo in_value s (i + 2) j) where

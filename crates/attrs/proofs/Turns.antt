@@ -13,8 +13,8 @@ use Rattle.attrs.specs.Attr.{Pair, shown, keyed, pairs_in}
 use Rattle.attrs.specs.Walk.{value_of, Front, FirstOf, item_list}
 use Rattle.attrs.specs.declared.Taken.{Taken}
 use Rattle.attrs.specs.declared.First.{First}
-use Rattle.attrs.specs.declared.First.TheVariants.{Pair as FirstPair, Nothing as FirstNone}
-use Rattle.attrs.specs.declared.Item.TheVariants.{Pair as ItemPair, Nothing as ItemNone}
+use Rattle.attrs.specs.Found.{AtFront}
+use Rattle.std.specs.Prelude.{None, Some}
 
 -- ---- a pair with no key, and one with a key
 
@@ -30,12 +30,18 @@ keyed-some (x ∷ k) v h = refl
 
 -- ---- one turn
 
-module _ (source : Bytes) (a n : ℕ) {r : Bytes} {f : First} (er : r ≡ part source a n) (ef : FirstOf r f) where
-  pub turn-none : f ≡ FirstNone → {ps : List Pair} → pairs_in (part source a n) ≡ ps → ps ≡ item_list source ItemNone
+module _ (source : Bytes) (a n : ℕ) {r : Bytes} {f : AtFront} (er : r ≡ part source a n) (ef : FirstOf r f) where
+  pub turn-none : f ≡ None → {ps : List Pair} → pairs_in (part source a n) ≡ ps → ps ≡ item_list source None
   unfolding item_list
   turn-none e inv = sym inv ∙ ap pairs_in (sym er) ∙ (rw e at ef)
 
-  module _ {key : Part} {v : Taken} (e : f ≡ FirstPair key v) where
+  module _ {x : First} (e : f ≡ Some x) where
+    abbrev key : Part
+    key = x.key
+
+    abbrev v : Taken
+    v = x.value
+
     front : Front r key v
     front = rw e at ef
 
@@ -73,8 +79,11 @@ module _ (source : Bytes) (a n : ℕ) {r : Bytes} {f : First} (er : r ≡ part s
     inner c l h = ap (λ (z : Bytes). part z c l) er ∙ part-part source a n c l (rw er at h)
 
     pub turn-found : 0 < key.len → {ps : List Pair} → pairs_in (part source a n) ≡ ps
-        → ps ≡ item_list source (ItemPair (record { start = a + key.start; len = key.len }) (record { start = a + v.start; len = v.len; quoted = v.quoted })
-        (record { start = a + v.past; len = n - v.past }))
+        → ps ≡ item_list source (Some (record {
+          key = record { start = a + key.start; len = key.len };
+          value = record { start = a + v.start; len = v.len; quoted = v.quoted };
+          rest = record { start = a + v.past; len = n - v.past };
+        }))
     unfolding item_list value_of
     turn-found h inv =
         sym inv

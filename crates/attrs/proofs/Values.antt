@@ -1,12 +1,12 @@
 -- Laws of values: quotes, and the pieces between escaped ones.
 use mathlib.Core.Path.{◌≡◌, refl, sym, ap, ◌∙◌}
-use mathlib.Core.Bool.{Bool, true, false, cond, not, ◌&&◌, and-false}
+use mathlib.Core.Bool.{Bool, true, false, cond, ◌&&◌, and-false}
 use mathlib.Core.List.{[], ◌∷◌, ◌++◌}
 use Prim.Native.Nat.{ℕ, suc, ◌+◌, ◌≤◌, ◌<◌, min, max}
 use native.Mathlib.Omega.{arith}
 use lib.ListN.{length, get_or, take, drop, drop_of_length-le, length-drop}
 use lib.Dec.{eqb}
-use borrow.Author.Tests.{eq-eqb, ne_eqb, eqb-true}
+use borrow.Author.Tests.{eqb-true}
 use Rattle.parts.specs.Bytes.{Bytes, b, begins, first_at, find}
 use Rattle.parts.proofs.Laws.{drop_at, begins-fits, and-true, first_found}
 use Rattle.words.specs.Words.{white_len, word_len}
@@ -16,14 +16,6 @@ use Rattle.attrs.specs.Attr.{closes_at, quoted_from, quoted_len, piece_len, unqu
 use Rattle.attrs.specs.declared.Taken.{Taken}
 
 -- ---- the closing quote
-
-pub closes-other : (last x : ℕ) → (x ≡ 34 → ⊥) → false ≡ closes_at last x
-unfolding closes_at
-closes-other last x h = rw (ne_eqb x 34 h)
-
-pub closes_quote : (last x : ℕ) → x ≡ 34 → not (eqb last 92) ≡ closes_at last x
-unfolding closes_at
-closes_quote last x h = rw (eq-eqb x 34 h)
 
 module _ (s : Bytes) (i last n : ℕ) {t : Bool} (h : i < length s) (et : t ≡ closes_at last (get_or s i 0)) where
   pub quoted_turn : t ≡ false → i + quoted_from last (drop i s) ≡ n → i + 1 + quoted_from (get_or s i 0) (drop (i + 1) s) ≡ n

@@ -19,37 +19,32 @@ use Rattle.tape.specs.Tree.{first_child, next_sibling, walk_from}
 use Rattle.tape.specs.declared.kinds.Kind.{Kind}
 use Rattle.tape.specs.declared.Node.{Node}
 use Rattle.tape.specs.declared.Cursor.{Cursor}
-use Rattle.tape.specs.declared.Step.{Step}
-use Rattle.tape.specs.declared.Step.TheVariants.{At, Done}
+use Rattle.tape.specs.Found.{Step}
+use Rattle.std.specs.Prelude.{None, Some}
 use Rattle.tape.proofs.Walk.{walk_turn, walk_end, children_walk}
 use Rattle.attrs.specs.Attr.{Pair, shown, equals, has_equals, pairs_in, default_key, key_for, keyed_for, attribute_body, body_pairs, pairs_at, pairs_along, attributes_of}
 use Rattle.attrs.specs.Walk.{fixed_keys, Spot, value_of, key_of, item_list, got_list, remaining, next_list, first_of, sought_of}
-use Rattle.attrs.specs.declared.Value.{Value}
 use Rattle.attrs.specs.declared.Key.{Key}
 use Rattle.attrs.specs.declared.Key.TheVariants.{Fixed}
-use Rattle.attrs.specs.declared.Item.{Item}
-use Rattle.attrs.specs.declared.Item.TheVariants.{Pair as ItemPair, Nothing as ItemNone}
-use Rattle.attrs.specs.declared.Got.{Got}
-use Rattle.attrs.specs.declared.Got.TheVariants.{Pair as GotPair, Nothing as GotNone}
 use Rattle.attrs.specs.declared.Attrs.{Attrs}
-use Rattle.attrs.specs.declared.Next.{Next}
-use Rattle.attrs.specs.declared.Next.TheVariants.{Pair as NextPair, Done as NextDone}
-use Rattle.attrs.specs.declared.Sought.TheVariants.{At as Found, Nowhere}
+use Rattle.attrs.specs.declared.Item.{Item}
+use Rattle.attrs.specs.declared.Attribute.{Attribute}
+use Rattle.attrs.specs.Found.{Listed, Got, Next}
 use Rattle.attrs.proofs.Pairs.{pairs-nil}
 
 -- ---- a part of the source
 
-module _ (source m : Bytes) (p : Part) {f : Item} (ei : pairs_in (bytes_of source p) ≡ item_list source f) where
-  pub in_none : f ≡ ItemNone → map (keyed_for m) (pairs_in (bytes_of source p)) ≡ got_list source m GotNone
+module _ (source m : Bytes) (p : Part) {f : Listed} (ei : pairs_in (bytes_of source p) ≡ item_list source f) where
+  pub in_none : f ≡ None → map (keyed_for m) (pairs_in (bytes_of source p)) ≡ got_list source m None
   unfolding item_list got_list
   in_none e = ap (map (keyed_for m)) (ei ∙ ap (item_list source) e)
 
-  pub in_pair : {key rest : Part} {v : Value} (k : Key) → f ≡ ItemPair key v rest → key_of source fixed_keys k ≡ key_for m (bytes_of source key)
-      → map (keyed_for m) (pairs_in (bytes_of source p)) ≡ got_list source m (GotPair k v rest)
+  pub in_pair : {i : Item Part} (k : Key) → f ≡ Some i → key_of source fixed_keys k ≡ key_for m (bytes_of source i.key)
+      → map (keyed_for m) (pairs_in (bytes_of source p)) ≡ got_list source m (Some (record { key = k; value = i.value; rest = i.rest }))
   unfolding item_list got_list keyed_for
-  in_pair {key} {rest} {v} k e ek =
+  in_pair {i} k e ek =
       ap (map (keyed_for m)) (ei ∙ ap (item_list source) e)
-      ∙ ap (λ (z : Bytes). record { key = z; value = value_of source v } ∷ map (keyed_for m) (pairs_in (bytes_of source rest))) (sym ek)
+      ∙ ap (λ (z : Bytes). record { key = z; value = value_of source i.value } ∷ map (keyed_for m) (pairs_in (bytes_of source i.rest))) (sym ek)
 
 -- ---- a body
 
@@ -65,7 +60,7 @@ pairs_of_none m [] h = refl
 pairs_of_none m (x ∷ s) h = absurd (omega arith)
 
 module _ (source m : Bytes) (body : Part) {s : Bytes} (es : s ≡ part source body.start body.len) where
-  pub of_empty : length s ≡ 0 → body_pairs m (bytes_of source body) ≡ got_list source m GotNone
+  pub of_empty : length s ≡ 0 → body_pairs m (bytes_of source body) ≡ got_list source m None
   unfolding got_list
   of_empty h = ap (body_pairs m) (sym es) ∙ pairs_of_none m s h
 
@@ -77,7 +72,7 @@ module _ (source m : Bytes) (body : Part) {s : Bytes} (es : s ≡ part source bo
 
     pub of_default : length s ≤ e → (k : Part) → bytes_of fixed_keys k ≡ default_key m
         → body_pairs m (bytes_of source body)
-        ≡ got_list source m (GotPair (Fixed k) (record { start = body.start; len = body.len; quoted = false }) (record { start = body.start; len = 0 }))
+        ≡ got_list source m (Some (record { key = Fixed k; value = record { start = body.start; len = body.len; quoted = false }; rest = record { start = body.start; len = 0 } }))
     unfolding has_equals equals got_list key_of value_of shown
     of_default h k ek =
         ap (body_pairs m) (sym es)
@@ -127,7 +122,7 @@ body_placed t k {n} {x} {body} {a} en ex sp ea =
 -- ---- a node
 
 module _ (t : Tape) (m : Bytes) (k : ℕ) {z : Kind} (ez : z.code ≡ kind_at t k) where
-  pub at_other : (z.code ≡ 2 → ⊥) → pairs_at t m k ≡ got_list t.source m GotNone
+  pub at_other : (z.code ≡ 2 → ⊥) → pairs_at t m k ≡ got_list t.source m None
   unfolding pairs_at got_list
   at_other h = rw (ne_eqb (kind_at t k) 2 (λ e. h (ez ∙ e)))
 
@@ -139,22 +134,22 @@ module _ (t : Tape) (m : Bytes) (k : ℕ) {z : Kind} (ez : z.code ≡ kind_at t 
 -- ---- the nodes from a step on
 
 module _ (t : Tape) (m : Bytes) {s : Step} {ps : List Pair} (inv : pairs_along t m (walk_from t s) ≡ ps) where
-  pub along_end : s ≡ Done → ps ≡ next_list t m NextDone
+  pub along_end : s ≡ None → ps ≡ next_list t m None
   unfolding pairs_along next_list
   along_end e = sym inv ∙ ap (pairs_along t m) (walk_end t e)
 
-  module _ {c : Cursor} (ec : s ≡ At c) {n : Step} (en : n ≡ next_sibling t c.at) (g : Got) (eg : pairs_at t m c.at ≡ got_list t.source m g) where
+  module _ {c : Cursor} (ec : s ≡ Some c) {n : Step} (en : n ≡ next_sibling t c.at) (g : Got) (eg : pairs_at t m c.at ≡ got_list t.source m g) where
     behind : ps ≡ got_list t.source m g ++ pairs_along t m (walk_from t n)
     unfolding pairs_along
     behind = sym inv ∙ ap (pairs_along t m) (walk_turn t c ec en) ∙ rw eg
 
-    pub along_on : g ≡ GotNone → pairs_along t m (walk_from t n) ≡ ps
+    pub along_on : g ≡ None → pairs_along t m (walk_from t n) ≡ ps
     unfolding got_list
     along_on e = sym (behind ∙ rw e)
 
-    pub along-found : {k : Key} {v : Value} {rest : Part} → g ≡ GotPair k v rest → ps ≡ next_list t m (NextPair k v (record { rest = rest; next = n }))
+    pub along-found : {i : Item Key} {a : Attribute} → g ≡ Some i → a ≡ record { key = i.key; value = i.value; left = record { rest = i.rest; next = n } } → ps ≡ next_list t m (Some a)
     unfolding got_list next_list remaining
-    along-found e = behind ∙ rw e
+    along-found e ea = behind ∙ rw (e, ea)
 
 -- ---- the walk itself
 
@@ -162,57 +157,52 @@ pub walk_starts : (t : Tape) (k : ℕ) {s : Step} → s ≡ first_child t k → 
 unfolding remaining attributes_of
 walk_starts t k es m = rw pairs-nil (ap (pairs_along t m) (children_walk t k es))
 
--- nothing is left of a body
-pub next-empty : (t : Tape) (m : Bytes) (a : Attrs) → a.rest.len ≡ 0 → (r : Next) → pairs_along t m (walk_from t a.next) ≡ next_list t m r → remaining t m a ≡ next_list t m r
-unfolding remaining
-next-empty t m a h r er = rw (h, pairs-nil) er
-
 module _ (t : Tape) (m : Bytes) (a : Attrs) {s : Bytes} (g : Got) (es : s ≡ t.source) (eg : map (keyed_for m) (pairs_in (bytes_of s a.rest)) ≡ got_list s m g) where
   got_here : remaining t m a ≡ got_list t.source m g ++ pairs_along t m (walk_from t a.next)
   unfolding remaining
   got_here = ap (λ (ps : List Pair). ps ++ pairs_along t m (walk_from t a.next)) (rw es at eg)
 
-  pub next-along : g ≡ GotNone → (r : Next) → pairs_along t m (walk_from t a.next) ≡ next_list t m r → remaining t m a ≡ next_list t m r
+  pub next-along : g ≡ None → (r : Next) → pairs_along t m (walk_from t a.next) ≡ next_list t m r → remaining t m a ≡ next_list t m r
   unfolding got_list
   next-along e r er = got_here ∙ rw e er
 
-  pub next-found : {k : Key} {v : Value} {rest : Part} → g ≡ GotPair k v rest → remaining t m a ≡ next_list t m (NextPair k v (record { rest = rest; next = a.next }))
+  pub next-found : {i : Item Key} {r : Attribute} → g ≡ Some i → r ≡ record { key = i.key; value = i.value; left = record { rest = i.rest; next = a.next } } → remaining t m a ≡ next_list t m (Some r)
   unfolding got_list next_list remaining
-  next-found e = got_here ∙ rw e
+  next-found e er = got_here ∙ rw (e, er)
 
 -- ---- one answer of the walk
 
 module _ (t : Tape) (m : Bytes) (a : Attrs) {n : Next} (en : remaining t m a ≡ next_list t m n) where
-  pub next_end : n ≡ NextDone → remaining t m a ≡ []
+  pub next_end : n ≡ None → remaining t m a ≡ []
   unfolding next_list
   next_end e = en ∙ ap (next_list t m) e
 
-  module _ {k : Key} {v : Value} {left : Attrs} (e : n ≡ NextPair k v left) where
-    pub next_listed : remaining t m a ≡ record { key = key_of t.source fixed_keys k; value = value_of t.source v } ∷ remaining t m left
+  module _ {x : Attribute} (e : n ≡ Some x) where
+    pub next_listed : remaining t m a ≡ record { key = key_of t.source fixed_keys x.key; value = value_of t.source x.value } ∷ remaining t m x.left
     unfolding next_list
     next_listed = en ∙ ap (next_list t m) e
 
-    pub next_less : length (remaining t m left) < length (remaining t m a)
+    pub next_less : length (remaining t m x.left) < length (remaining t m a)
     next_less = rw next_listed (omega arith)
 
 -- ---- the first with a key
 
 module _ (t : Tape) (m key : Bytes) (a : Attrs) {n : Next} (en : remaining t m a ≡ next_list t m n) where
-  pub sought_none : n ≡ NextDone → (k : ℕ) (a₀ : Attrs) → ((m : Bytes) → remaining t m a₀ ≡ attributes_of t k m)
-      → first_of key (remaining t m a) ≡ first_of key (remaining t m a₀) → sought_of t.source Nowhere ≡ first_of key (attributes_of t k m)
+  pub sought_none : n ≡ None → (k : ℕ) (a₀ : Attrs) → ((m : Bytes) → remaining t m a₀ ≡ attributes_of t k m)
+      → first_of key (remaining t m a) ≡ first_of key (remaining t m a₀) → sought_of t.source None ≡ first_of key (attributes_of t k m)
   unfolding first_of sought_of
   sought_none e k a₀ all inv = sym (ap (first_of key) (next_end t m a en e)) ∙ inv ∙ ap (first_of key) (all m)
 
-  module _ {k : Key} {v : Value} {left : Attrs} (e : n ≡ NextPair k v left) where
-    module _ {s : Bytes} {h : Bool} (es : s ≡ t.source) (eh : h ≡ same (key_of s fixed_keys k) key) where
-      tested : same (key_of t.source fixed_keys k) key ≡ h
-      tested = sym (eh ∙ ap (λ (z : Bytes). same (key_of z fixed_keys k) key) es)
+  module _ {x : Attribute} (e : n ≡ Some x) where
+    module _ {s : Bytes} {h : Bool} (es : s ≡ t.source) (eh : h ≡ same (key_of s fixed_keys x.key) key) where
+      tested : same (key_of t.source fixed_keys x.key) key ≡ h
+      tested = sym (eh ∙ ap (λ (z : Bytes). same (key_of z fixed_keys x.key) key) es)
 
       pub sought_found : h ≡ true → (k : ℕ) (a₀ : Attrs) → ((m : Bytes) → remaining t m a₀ ≡ attributes_of t k m)
-          → first_of key (remaining t m a) ≡ first_of key (remaining t m a₀) → sought_of t.source (Found v) ≡ first_of key (attributes_of t k m)
+          → first_of key (remaining t m a) ≡ first_of key (remaining t m a₀) → sought_of t.source (Some x.value) ≡ first_of key (attributes_of t k m)
       unfolding first_of sought_of
       sought_found y k a₀ all inv = sym (ap (first_of key) (next_listed t m a en e) ∙ rw (tested ∙ y)) ∙ inv ∙ ap (first_of key) (all m)
 
-      pub sought_on : h ≡ false → (ps : List Pair) → first_of key (remaining t m a) ≡ first_of key ps → first_of key (remaining t m left) ≡ first_of key ps
+      pub sought_on : h ≡ false → (ps : List Pair) → first_of key (remaining t m a) ≡ first_of key ps → first_of key (remaining t m x.left) ≡ first_of key ps
       unfolding first_of
       sought_on y ps inv = sym (ap (first_of key) (next_listed t m a en e) ∙ rw (tested ∙ y)) ∙ inv

@@ -1,3 +1,4 @@
+pub mod Found
 pub mod Attr
 pub mod Walk
 pub mod Barred

@@ -1,5 +1,5 @@
 -- What the code's parts, keys, values and answers stand for.
-use Rattle.std.specs.Prelude.{ℕ, ◌+◌, ◌≤◌, ◌<◌, ◌≡◌, List, [], ◌∷◌, ◌++◌, map, cond, length, drop}
+use Rattle.std.specs.Prelude.{None, Some, ℕ, ◌+◌, ◌≤◌, ◌<◌, ◌≡◌, List, [], ◌∷◌, ◌++◌, map, cond, length, drop}
 use Rattle.std.proofs.Math.Option.{Option, none, some}
 use Rattle.std.specs.Borrow.{Bor}
 use Rattle.parts.specs.Bytes.{Bytes, b, part, same}
@@ -13,17 +13,8 @@ use Rattle.attrs.specs.declared.Taken.{Taken}
 use Rattle.attrs.specs.declared.Value.{Value}
 use Rattle.attrs.specs.declared.Key.{Key}
 use Rattle.attrs.specs.declared.Key.TheVariants.{Own, Fixed}
-use Rattle.attrs.specs.declared.First.{First}
-use Rattle.attrs.specs.declared.First.TheVariants.{Pair as FirstPair, Nothing as FirstNone}
-use Rattle.attrs.specs.declared.Item.{Item}
-use Rattle.attrs.specs.declared.Item.TheVariants.{Pair as ItemPair, Nothing as ItemNone}
-use Rattle.attrs.specs.declared.Got.{Got}
-use Rattle.attrs.specs.declared.Got.TheVariants.{Pair as GotPair, Nothing as GotNone}
 use Rattle.attrs.specs.declared.Attrs.{Attrs}
-use Rattle.attrs.specs.declared.Next.{Next}
-use Rattle.attrs.specs.declared.Next.TheVariants.{Pair as NextPair, Done}
-use Rattle.attrs.specs.declared.Sought.{Sought}
-use Rattle.attrs.specs.declared.Sought.TheVariants.{At, Nowhere}
+use Rattle.attrs.specs.Found.{AtFront, Listed, Got, Next, Sought}
 
 -- the keys that stand in no source
 abbrev pub fixed_keys : Bytes
@@ -57,20 +48,20 @@ pub record Front (s : Bytes) (key : Part) (v : Taken) : Type 0 where
   pub listed : pairs_in s ≡ keyed (bytes_of s key) (shown v.quoted (part s v.start v.len)) ++ pairs_in (drop v.past s)
 
 -- what is at the front of a text
-abbrev pub FirstOf : Bytes → First → Type 0
-FirstOf s (FirstPair key v) = Front s key v
-FirstOf s FirstNone = pairs_in s ≡ []
+abbrev pub FirstOf : Bytes → AtFront → Type 0
+FirstOf s (Some f) = Front s f.key f.value
+FirstOf s None = pairs_in s ≡ []
 
 -- the pairs of a part, by the first of them and what follows it
-unfoldable pub item_list : Bytes → Item → List Pair
-item_list source (ItemPair key v rest) = record { key = bytes_of source key; value = value_of source v } ∷ pairs_in (bytes_of source rest)
-item_list source ItemNone = []
+unfoldable pub item_list : Bytes → Listed → List Pair
+item_list source (Some i) = record { key = bytes_of source i.key; value = value_of source i.value } ∷ pairs_in (bytes_of source i.rest)
+item_list source None = []
 
 -- the same with the keys that a marker has
 unfoldable pub got_list : Bytes → Bytes → Got → List Pair
-got_list source marker (GotPair key v rest) =
-    record { key = key_of source fixed_keys key; value = value_of source v } ∷ map (keyed_for marker) (pairs_in (bytes_of source rest))
-got_list source marker GotNone = []
+got_list source marker (Some i) =
+    record { key = key_of source fixed_keys i.key; value = value_of source i.value } ∷ map (keyed_for marker) (pairs_in (bytes_of source i.rest))
+got_list source marker None = []
 
 -- the attributes that are still to come
 unfoldable pub remaining : Tape → Bytes → Attrs → List Pair
@@ -83,9 +74,9 @@ attrs_start t k = record { rest = record { start = 0; len = 0 }; next = first_ch
 
 -- an answer: one attribute and those behind it
 unfoldable pub next_list : Tape → Bytes → Next → List Pair
-next_list t marker (NextPair key v left) =
-    record { key = key_of t.source fixed_keys key; value = value_of t.source v } ∷ remaining t marker left
-next_list t marker Done = []
+next_list t marker (Some a) =
+    record { key = key_of t.source fixed_keys a.key; value = value_of t.source a.value } ∷ remaining t marker a.left
+next_list t marker None = []
 
 -- the value of the first pair that has a key
 unfoldable pub first_of : Bytes → List Pair → Option Bytes
@@ -94,5 +85,5 @@ first_of key (p ∷ ps) = cond (same p.key key) (some p.value) (first_of key ps)
 
 -- the value that was sought, as bytes
 unfoldable pub sought_of : Bytes → Sought → Option Bytes
-sought_of source (At v) = some (value_of source v)
-sought_of source Nowhere = none
+sought_of source (Some v) = some (value_of source v)
+sought_of source None = none

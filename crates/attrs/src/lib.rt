@@ -7,13 +7,13 @@ ghost use Rattle.tape.specs.Name.{strip};
 ghost use Rattle.parts.specs.Bytes.{Bytes, same};
 ghost use Rattle.words.specs.Words.{words as words_of, last_of, bytes_of};
 ghost use Rattle.words.specs.declared.Set.TheVariants.{Unicode};
-ghost use Rattle.tape.specs.File.{tape_in, text_at_of};
+ghost use Rattle.tape.specs.File.{contents, text_at_of};
 ghost use Rattle.attrs.specs.Attr.{closes_at, quoted_len, piece_len, value_at, pairs_in, is_word_marker, default_key, key_for, keyed_for, attribute_body, body_pairs, pairs_at, pairs_along, attributes_of};
 ghost use Rattle.attrs.specs.Walk.{fixed_keys, Spot, key_of, FirstOf, item_list, got_list, remaining, attrs_start, next_list, first_of, sought_of, KeyPart};
 ghost use Rattle.tape.specs.Tree.{walk_from};
 
 pub use barred::is_barred;
-use tape::{Cursor, Kind, Sections, Step, long};
+use tape::{Cursor, Kind, TapeFile, long};
 use words::{Part, Set};
 
 // The keys that stand in no source, one behind the other.
@@ -45,43 +45,48 @@ pub enum Key {
 
 // The pair at the front of a text, by parts of it.
 #[derive(Clone, Copy)]
-enum First {
-    Pair { key: Part, value: Taken },
-    Nothing,
+struct First {
+    key: Part,
+    value: Taken,
 }
 
-// The first pair of a part of the source that has a key, and what follows it.
+// A pair of the source, its key as it stands there or as its marker has it, and what follows it.
 #[derive(Clone, Copy)]
-enum Item {
-    Pair { key: Part, value: Value, rest: Part },
-    Nothing,
-}
-
-// The first pair of a body with the key that its marker gives, and what follows it.
-#[derive(Clone, Copy)]
-enum Got {
-    Pair { key: Key, value: Value, rest: Part },
-    Nothing,
+struct Item<K> {
+    key: K,
+    value: Value,
+    rest: Part,
 }
 
 // A walk over the attributes of a node: the rest of a body, and the next child to look at.
 #[derive(Clone, Copy)]
 pub struct Attrs {
     pub rest: Part,
-    pub next: Step,
+    pub next: Option<Cursor>,
 }
 
-// The next attribute and those behind it.
+// An attribute, and those behind it.
 #[derive(Clone, Copy)]
-pub enum Next {
-    Pair { key: Key, value: Value, left: Attrs },
-    Done,
+pub struct Attribute {
+    pub key: Key,
+    pub value: Value,
+    pub left: Attrs,
 }
 
-#[derive(Clone, Copy)]
-pub enum Sought {
-    At(Value),
-    Nowhere,
+impl Item<Key> {
+    // The attribute that a pair is, where this child is looked at next.
+    fn before(self, next: Option<Cursor>) -> Attribute
+        ensures { result ≡ record { key = self.key; value = self.value; left = record { rest = self.rest; next = next } } }
+    {
+        Attribute {
+            key: self.key,
+            value: self.value,
+            left: Attrs {
+                rest: self.rest,
+                next,
+            },
+        }
+    }
 }
 
 // ---- values
@@ -90,24 +95,20 @@ pub enum Sought {
 pub fn piece_len(s: &[u8]) -> usize
     ensures { result ≡ piece_len s.now }
 {
-    let mut i = 0;
-    while i < s.len() {
-        if parts::begins_with(parts::from(s, i), b"\\\"") {
+    for i in 0..s.len() {
+        if parts::begins_with(&s[i..], b"\\\"") {
             return i;
         }
-        i += 1;
     }
-    i
+    s.len()
 }
 
 // Whether a byte behind another ends a quoted value.
+#[tactic(auto, unfolding(crate::specs::Attr::closes_at))]
 fn closes(last: u8, x: u8) -> bool
     ensures { result ≡ closes_at last x }
 {
-    if x != b'"' {
-        return false;
-    }
-    last != b'\\'
+    x == b'"' && last != b'\\'
 }
 
 // How many bytes stand before the `"` that ends a quoted value.
@@ -115,22 +116,13 @@ fn quoted_len(s: &[u8]) -> usize
     ensures { result ≡ quoted_len s.now }
 {
     let mut last = 0;
-    let mut i = 0;
-    while i < s.len() {
-        let x = s[i];
+    for (i, &x) in s.iter().enumerate() {
         if closes(last, x) {
             return i;
         }
         last = x;
-        i += 1;
     }
-    i
-}
-
-fn past_quote(end: usize, len: usize) -> usize
-    ensures { result ≡ min (end + 1) len }
-{
-    if end < len { end + 1 } else { len }
+    s.len()
 }
 
 // The value at or after a place.
@@ -146,7 +138,7 @@ fn value_at(s: &[u8], from: usize) -> Taken
             start,
             len,
             quoted: true,
-            past: past_quote(start + len, s.len()),
+            past: (start + len + 1).min(s.len()),
         }
     } else {
         let len = words::word_len(v, Set::Unicode);
@@ -167,6 +159,7 @@ fn last_word(s: &[u8]) -> Part
 {
     let mut last = words::next_word(s, Set::Unicode, 0);
     let mut next = last;
+    // A `while`: each turn passes a word, as long as it is.
     while 0 < next.len {
         last = next;
         next = words::next_word(s, Set::Unicode, next.start + next.len);
@@ -175,68 +168,58 @@ fn last_word(s: &[u8]) -> Part
 }
 
 // The pair at the front of a text.
-fn first_pair(s: &[u8]) -> First
+fn first_pair(s: &[u8]) -> Option<First>
     ensures { FirstOf s.now result }
 {
     let eq = parts::find_byte(s, b'=');
     if s.len() <= eq {
-        return First::Nothing;
+        return None;
     }
-    First::Pair {
+    Some(First {
         key: last_word(parts::part(s, 0, eq)),
         value: value_at(s, eq + 1),
-    }
+    })
 }
 
 // The first pair with a key in a part of the source.
-fn next_pair(source: &[u8], part: Part) -> Item
+fn next_pair(source: &[u8], part: Part) -> Option<Item<Part>>
     ensures { pairs_in (bytes_of source.now part) ≡ item_list source.now result }
 {
     let mut start = part.start;
     let mut len = part.len;
-    loop {
-        match first_pair(parts::part(source, start, len)) {
-            First::Nothing => return Item::Nothing,
-            First::Pair { key, value } => {
-                let at = start;
-                let n = len;
-                start = at + value.past;
-                len = n - value.past;
-                if 0 < key.len {
-                    return Item::Pair {
-                        key: Part {
-                            start: at + key.start,
-                            len: key.len,
-                        },
-                        value: Value {
-                            start: at + value.start,
-                            len: value.len,
-                            quoted: value.quoted,
-                        },
-                        rest: Part { start, len },
-                    };
-                }
-            }
+    while let Some(first) = first_pair(parts::part(source, start, len)) {
+        let at = start;
+        start = at + first.value.past;
+        len = len - first.value.past;
+        if 0 < first.key.len {
+            return Some(Item {
+                key: Part {
+                    start: at + first.key.start,
+                    len: first.key.len,
+                },
+                value: Value {
+                    start: at + first.value.start,
+                    len: first.value.len,
+                    quoted: first.value.quoted,
+                },
+                rest: Part { start, len },
+            });
         }
     }
+    None
 }
 
 // ---- keys
 
 // Whether a marker is one of the word list's.
+#[tactic(auto, unfolding(crate::specs::Attr::is_word_marker))]
 fn is_word(marker: &[u8]) -> bool
     ensures { result ≡ is_word_marker marker.now }
 {
-    if parts::same(marker, b"w") {
-        return true;
-    }
-    if parts::same(marker, b"wa") {
-        return true;
-    }
-    if parts::same(marker, b"wg") {
-        return true;
-    }
-    parts::same(marker, b"wh")
+    parts::same(marker, b"w")
+        || parts::same(marker, b"wa")
+        || parts::same(marker, b"wg")
+        || parts::same(marker, b"wh")
 }
 
 // The default key of a marker, as a part of the fixed keys.
@@ -244,37 +227,31 @@ fn default_key(marker: &[u8]) -> Part
     ensures { bytes_of fixed_keys result ≡ default_key marker.now }
 {
     if is_word(marker) {
-        return Part { start: 0, len: 5 };
+        Part { start: 0, len: 5 }
+    } else if parts::same(marker, b"rb") {
+        Part { start: 5, len: 5 }
+    } else if parts::same(marker, b"xt") {
+        Part { start: 10, len: 4 }
+    } else if parts::same(marker, b"ref") {
+        Part { start: 14, len: 3 }
+    } else if parts::same(marker, b"jmp") {
+        Part { start: 17, len: 9 }
+    } else if parts::same(marker, b"periph") {
+        Part { start: 26, len: 2 }
+    } else if parts::begins_with(marker, b"qt") {
+        Part { start: 28, len: 3 }
+    } else {
+        Part { start: 31, len: 7 }
     }
-    if parts::same(marker, b"rb") {
-        return Part { start: 5, len: 5 };
-    }
-    if parts::same(marker, b"xt") {
-        return Part { start: 10, len: 4 };
-    }
-    if parts::same(marker, b"ref") {
-        return Part { start: 14, len: 3 };
-    }
-    if parts::same(marker, b"jmp") {
-        return Part { start: 17, len: 9 };
-    }
-    if parts::same(marker, b"periph") {
-        return Part { start: 26, len: 2 };
-    }
-    if parts::begins_with(marker, b"qt") {
-        return Part { start: 28, len: 3 };
-    }
-    Part { start: 31, len: 7 }
 }
 
 // The key of a pair in the source, as its marker has it.
+#[tactic(auto, unfolding(crate::specs::Attr::key_for, crate::specs::Walk::key_of))]
 fn key_for(source: &[u8], marker: &[u8], key: Part) -> Key
     ensures { key_of source.now fixed_keys result ≡ key_for marker.now (bytes_of source.now key) }
 {
-    if parts::same(marker, b"fig") {
-        if parts::same(parts::part(source, key.start, key.len), b"src") {
-            return Key::Fixed(Part { start: 38, len: 4 });
-        }
+    if parts::same(marker, b"fig") && parts::same(parts::part(source, key.start, key.len), b"src") {
+        return Key::Fixed(Part { start: 38, len: 4 });
     }
     Key::Own(key)
 }
@@ -301,31 +278,29 @@ fn is_key(source: &[u8], k: Key, key: &[u8]) -> bool
 // ---- attributes
 
 // The first pair of a part of the source, its key as the marker has it.
-fn pair_in(source: &[u8], marker: &[u8], part: Part) -> Got
+fn pair_in(source: &[u8], marker: &[u8], part: Part) -> Option<Item<Key>>
     ensures { map (keyed_for marker.now) (pairs_in (bytes_of source.now part)) ≡ got_list source.now marker.now result }
 {
-    match next_pair(source, part) {
-        Item::Nothing => Got::Nothing,
-        Item::Pair { key, value, rest } => Got::Pair {
-            key: key_for(source, marker, key),
-            value,
-            rest,
-        },
-    }
+    let item = next_pair(source, part)?;
+    Some(Item {
+        key: key_for(source, marker, item.key),
+        value: item.value,
+        rest: item.rest,
+    })
 }
 
 // The first pair of a body.
-fn pair_of(source: &[u8], marker: &[u8], body: Part) -> Got
+fn pair_of(source: &[u8], marker: &[u8], body: Part) -> Option<Item<Key>>
     ensures { body_pairs marker.now (bytes_of source.now body) ≡ got_list source.now marker.now result }
 {
     let s = parts::part(source, body.start, body.len);
     if s.len() == 0 {
-        return Got::Nothing;
+        return None;
     }
     if parts::find_byte(s, b'=') < s.len() {
         return pair_in(source, marker, body);
     }
-    Got::Pair {
+    Some(Item {
         key: Key::Fixed(default_key(marker)),
         value: Value {
             start: body.start,
@@ -336,7 +311,7 @@ fn pair_of(source: &[u8], marker: &[u8], body: Part) -> Got
             start: body.start,
             len: 0,
         },
-    }
+    })
 }
 
 // A `|` in front of a text, 1 or 0.
@@ -359,11 +334,11 @@ fn body_in(s: &[u8]) -> Part
 }
 
 // The body of an Attribute, as a part of the source.
-fn body_at(file: &[u8], tape: Sections, c: Cursor) -> Part
-    ensures { bytes_of (tape_in tape file.now).source result ≡ attribute_body (text_at_of (tape_in tape file.now) c.at) }
+fn body_at(tape: &TapeFile<'_>, c: Cursor) -> Part
+    ensures { bytes_of (contents tape.now).source result ≡ attribute_body (text_at_of (contents tape.now) c.at) }
 {
-    let n = c.node(file, tape);
-    let body = body_in(c.text(file, tape));
+    let n = c.node(tape);
+    let body = body_in(c.text(tape));
     Part {
         start: long(n.start) + body.start,
         len: body.len,
@@ -371,88 +346,62 @@ fn body_at(file: &[u8], tape: Sections, c: Cursor) -> Part
 }
 
 // The first pair of a node.
-fn pair_at(file: &[u8], tape: Sections, marker: &[u8], c: Cursor) -> Got
-    ensures { pairs_at (tape_in tape file.now) marker.now c.at ≡ got_list (tape_in tape file.now).source marker.now result }
+fn pair_at(tape: &TapeFile<'_>, marker: &[u8], c: Cursor) -> Option<Item<Key>>
+    ensures { pairs_at (contents tape.now) marker.now c.at ≡ got_list (contents tape.now).source marker.now result }
 {
-    if c.kind(file, tape).code != Kind::ATTRIBUTE {
-        return Got::Nothing;
+    if c.kind(tape).code != Kind::ATTRIBUTE {
+        return None;
     }
-    pair_of(tape::source(file, tape), marker, body_at(file, tape, c))
+    pair_of(tape.source(), marker, body_at(tape, c))
 }
 
 // The first attribute of the nodes from a step on.
-fn along(file: &[u8], tape: Sections, marker: &[u8], from: Step) -> Next
-    ensures { pairs_along (tape_in tape file.now) marker.now (walk_from (tape_in tape file.now) from) ≡ next_list (tape_in tape file.now) marker.now result }
+fn along(tape: &TapeFile<'_>, marker: &[u8], from: Option<Cursor>) -> Option<Attribute>
+    ensures { pairs_along (contents tape.now) marker.now (walk_from (contents tape.now) from) ≡ next_list (contents tape.now) marker.now result }
 {
     let mut step = from;
-    loop {
-        let Step::At(c) = step else {
-            return Next::Done;
-        };
-        step = c.next_sibling(file, tape);
-        match pair_at(file, tape, marker, c) {
-            Got::Nothing => {}
-            Got::Pair { key, value, rest } => {
-                return Next::Pair {
-                    key,
-                    value,
-                    left: Attrs { rest, next: step },
-                };
-            }
+    while let Some(c) = step {
+        step = c.next_sibling(tape);
+        if let Some(pair) = pair_at(tape, marker, c) {
+            return Some(pair.before(step));
         }
     }
+    None
 }
 
 impl Attrs {
     // The attributes of a node, from the first on.
-    pub fn of(file: &[u8], tape: Sections, c: Cursor) -> Self
-        ensures result_value { (m : Bytes) → remaining (tape_in tape file.now) m result ≡ attributes_of (tape_in tape file.now) c.at m }
-        ensures value { result ≡ attrs_start (tape_in tape file.now) c.at }
+    pub fn of(tape: &TapeFile<'_>, c: Cursor) -> Self
+        ensures result_value { (m : Bytes) → remaining (contents tape.now) m result ≡ attributes_of (contents tape.now) c.at m }
+        ensures value { result ≡ attrs_start (contents tape.now) c.at }
     {
         Attrs {
             rest: Part { start: 0, len: 0 },
-            next: c.first_child(file, tape),
+            next: c.first_child(tape),
         }
     }
 
     // The next attribute, and those behind it.
-    pub fn next(self, file: &[u8], tape: Sections, marker: &[u8]) -> Next
-        ensures { remaining (tape_in tape file.now) marker.now self ≡ next_list (tape_in tape file.now) marker.now result }
+    pub fn next(self, tape: &TapeFile<'_>, marker: &[u8]) -> Option<Attribute>
+        ensures { remaining (contents tape.now) marker.now self ≡ next_list (contents tape.now) marker.now result }
     {
-        let next = self.next;
-        let part = self.rest;
-        if part.len == 0 {
-            return along(file, tape, marker, next);
-        }
-        match pair_in(tape::source(file, tape), marker, part) {
-            Got::Nothing => along(file, tape, marker, next),
-            Got::Pair { key, value, rest } => Next::Pair {
-                key,
-                value,
-                left: Attrs { rest, next },
-            },
+        match pair_in(tape.source(), marker, self.rest) {
+            Some(pair) => Some(pair.before(self.next)),
+            None => along(tape, marker, self.next),
         }
     }
 }
 
 // The value of the first attribute with a key.
-pub fn first_with(file: &[u8], tape: Sections, c: Cursor, marker: &[u8], key: &[u8]) -> Sought
-    ensures { sought_of (tape_in tape file.now).source result ≡ first_of key.now (attributes_of (tape_in tape file.now) c.at marker.now) }
+pub fn first_with(tape: &TapeFile<'_>, c: Cursor, marker: &[u8], key: &[u8]) -> Option<Value>
+    ensures { sought_of (contents tape.now).source result ≡ first_of key.now (attributes_of (contents tape.now) c.at marker.now) }
 {
-    let mut left = Attrs::of(file, tape, c);
-    loop {
-        match left.next(file, tape, marker) {
-            Next::Done => return Sought::Nowhere,
-            Next::Pair {
-                key: k,
-                value,
-                left: after,
-            } => {
-                if is_key(tape::source(file, tape), k, key) {
-                    return Sought::At(value);
-                }
-                left = after;
-            }
+    let mut attrs = Attrs::of(tape, c);
+    while let Some(attribute) = attrs.next(tape, marker) {
+        if is_key(tape.source(), attribute.key, key) {
+            return Some(attribute.value);
         }
+        attrs = attribute.left;
     }
+    None
 }

@@ -8,7 +8,6 @@ ghost use Rattle.texts.specs.Text.{body_of};
 ghost use Rattle.window.specs.Page.{paint};
 ghost use Rattle.admit.specs.Refusal.{Refusal};
 
-use admit::Admitted;
 use window::Window;
 
 // A text with its escapes behind `at` bytes, in a window that starts at `from`; the bytes written so far.
@@ -17,7 +16,8 @@ pub extern "C" fn bench_escape_xml(out: &mut [u8], at: usize, from: usize, s: &[
     ensures count { result ≡ (paint (record { at = at; from = from; buf = out.old }) (escape false s.now)).at }
     ensures buffer { out.new ≡ (paint (record { at = at; from = from; buf = out.old }) (escape false s.now)).buf }
 {
-    let w = window::escape_xml(Window { at, from }, out, s);
+    let mut w = Window { at, from };
+    w.escape_xml(out, s);
     w.at
 }
 
@@ -27,7 +27,8 @@ pub extern "C" fn bench_escape_xml_attr(out: &mut [u8], at: usize, from: usize, 
     ensures count { result ≡ (paint (record { at = at; from = from; buf = out.old }) (escape true s.now)).at }
     ensures buffer { out.new ≡ (paint (record { at = at; from = from; buf = out.old }) (escape true s.now)).buf }
 {
-    let w = window::escape_xml_attr(Window { at, from }, out, s);
+    let mut w = Window { at, from };
+    w.escape_xml_attr(out, s);
     w.at
 }
 
@@ -37,7 +38,8 @@ pub extern "C" fn bench_put_number(out: &mut [u8], at: usize, from: usize, n: u3
     ensures count { result ≡ (paint (record { at = at; from = from; buf = out.old }) (decimal n)).at }
     ensures buffer { out.new ≡ (paint (record { at = at; from = from; buf = out.old }) (decimal n)).buf }
 {
-    let w = window::put_number(Window { at, from }, out, n);
+    let mut w = Window { at, from };
+    w.put_number(out, n);
     w.at
 }
 
@@ -47,7 +49,8 @@ pub extern "C" fn bench_body(out: &mut [u8], at: usize, from: usize, s: &[u8]) -
     ensures count { result ≡ (paint (record { at = at; from = from; buf = out.old }) (escape false (body_of s.now))).at }
     ensures buffer { out.new ≡ (paint (record { at = at; from = from; buf = out.old }) (escape false (body_of s.now))).buf }
 {
-    let w = put_body::put_body(Window { at, from }, out, s);
+    let mut w = Window { at, from };
+    put_body::put_body(&mut w, out, s);
     w.at
 }
 
@@ -56,22 +59,17 @@ pub extern "C" fn bench_body(out: &mut [u8], at: usize, from: usize, s: &[u8]) -
 pub extern "C" fn bench_is_utf8(s: &[u8]) -> usize
     ensures { result ≡ cond (is_utf8 s.now) 1 0 }
 {
-    if chars::is_utf8(s) { 1 } else { 0 }
-}
-
-fn wide(x: u8) -> u32
-    ensures { result ≡ x }
-{
-    x as u32
+    usize::from(chars::is_utf8(s))
 }
 
 // The number that a file is given, 0 where it is admitted.
+#[tactic(auto, unfolding(admit::specs::Refusal::refusal_number))]
 #[unsafe(no_mangle)]
 pub extern "C" fn bench_admit(file: &[u8]) -> u32
     ensures { Refusal file.now result }
 {
     match admit::admit(file) {
-        Admitted::Tape(_) => 0,
-        Admitted::Refused(n) => wide(n),
+        Ok(_) => 0,
+        Err(reason) => u32::from(reason.number()),
     }
 }

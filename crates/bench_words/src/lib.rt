@@ -10,8 +10,7 @@ use words::Set;
 pub extern "C" fn bench_last_word(s: &[u8]) -> usize
     ensures { result ≡ length (last_of (words Set.Unicode s.now)) }
 {
-    let word = words::last_word(s, Set::Unicode);
-    word.len()
+    words::last_word(s, Set::Unicode).len()
 }
 
 // The length of a text without white space at both ends.
@@ -19,6 +18,5 @@ pub extern "C" fn bench_last_word(s: &[u8]) -> usize
 pub extern "C" fn bench_trim(s: &[u8]) -> usize
     ensures { result ≡ length (trim Set.Unicode s.now) }
 {
-    let left = words::trim(s, Set::Unicode);
-    left.len()
+    words::trim(s, Set::Unicode).len()
 }

@@ -8,8 +8,8 @@ use Rattle.parts.specs.Bytes.{Bytes}
 use Rattle.tape.specs.File.{Tape}
 use Rattle.tape.specs.Tree.{next_sibling, first_child, children}
 use Rattle.tape.specs.declared.Cursor.{Cursor}
-use Rattle.tape.specs.declared.Step.{Step}
-use Rattle.tape.specs.declared.Step.TheVariants.{At, Done}
+use Rattle.tape.specs.Found.{Step}
+use Rattle.std.specs.Prelude.{None, Some}
 use Rattle.render.specs.First.{any}
 use Rattle.lists.specs.Span.{nodes_in, member_of_of, cut_by, filtered}
 use Rattle.lists.specs.declared.Span.{Span}
@@ -29,6 +29,7 @@ use Rattle.blocks.specs.Blocks.{uncut, holder_of, below, holder_in}
 use Rattle.blocks.specs.declared.Holder.{Holder}
 use Rattle.blocks.specs.declared.Holder.TheVariants.{Sidebar, Periph, Neither}
 use Rattle.blocks.proofs.Places.{place_side, place_peri, turn_by}
+use Rattle.desk.specs.declared.Desk.{Desk as Held}
 
 -- ---- by depth
 
@@ -51,14 +52,14 @@ module _ (t : Tape) (ks : List ℕ) (s : Desk) (level : ℕ) {d : ℕ} (ed : d �
 -- ---- a sidebar or periph
 
 -- its blocks between its tags
-pub held_whole : (t : Tape) (k d level : ℕ) (sidebar : Bool) (s : Desk) {a : Desk} {first : Step} (e r : ℕ) (de dr : List ℕ) (mid last : Bytes)
+pub held_whole : (t : Tape) (k d level : ℕ) (sidebar : Bool) (s : Desk) {a : Desk} {first : Step} (de dr : Held) (mid last : Bytes)
     → a ≡ emit s (item (start (element_no sidebar) (attrs_of t k sidebar))) → first ≡ first_child t k
-    → desk_of t.source e de mid ≡ emit_all a (below t d level (nodes_in t (uncut sidebar) first))
-    → ((source : Bytes) → desk_of source r dr last ≡ emit_all (desk_of source e de mid) (item (line level) ∷ item (close (element_no sidebar)) ∷ []))
-    → desk_of t.source r dr last
+    → desk_of t.source de mid ≡ emit_all a (below t d level (nodes_in t (uncut sidebar) first))
+    → ((source : Bytes) → desk_of source dr last ≡ emit_all (desk_of source de mid) (item (line level) ∷ item (close (element_no sidebar)) ∷ []))
+    → desk_of t.source dr last
     ≡ emit_all s (item (start (element_no sidebar) (attrs_of t k sidebar)) ∷ (below t d level (nodes_in t (uncut sidebar) (first_child t k)) ++ (item (line level) ∷ item (close (element_no sidebar)) ∷ [])))
 unfolding emit_all
-held_whole t k d level sidebar s {a} {first} e r de dr mid last ea ef ee er =
+held_whole t k d level sidebar s {a} {first} de dr mid last ea ef ee er =
     between s (item (start (element_no sidebar) (attrs_of t k sidebar)) ∷ []) (below t d level (nodes_in t (uncut sidebar) (first_child t k))) (item (line level) ∷ item (close (element_no sidebar)) ∷ [])
     ea (ee ∙ ap (λ (u : Step). emit_all a (below t d level (nodes_in t (uncut sidebar) u))) ef)
     (er t.source)
@@ -75,10 +76,10 @@ unfolding holder_in sidebar_in periph_in holder element_no attrs_of sidebar_attr
 held_by t d level true k = refl
 held_by t d level false k = refl
 
-module _ (t : Tape) (k d level : ℕ) (sidebar : Bool) (at a : ℕ) (desk da : List ℕ) (out mid : Bytes)
-    (ea : (source : Bytes) → desk_of source a da mid ≡ emit (desk_of source at desk out) (item (line level))) {first : Step} (ef : first ≡ first_child t k) {x : Bool}
+module _ (t : Tape) (k d level : ℕ) (sidebar : Bool) (a : ℕ) (desk da : Held) (out mid : Bytes)
+    (ea : (source : Bytes) → desk_of source da mid ≡ emit (desk_of source desk out) (item (line level))) {first : Step} (ef : first ≡ first_child t k) {x : Bool}
     (ex : x ≡ any (is_block_or_row t) (nodes_in t (uncut sidebar) first)) where
-  on_its_line : {r : Desk} (es : List Event) → r ≡ emit_all (desk_of t.source a da mid) es → r ≡ emit_all (desk_of t.source at desk out) (item (line level) ∷ es)
+  on_its_line : {r : Desk} (es : List Event) → r ≡ emit_all (desk_of t.source da mid) es → r ≡ emit_all (desk_of t.source desk out) (item (line level) ∷ es)
   unfolding emit_all
   on_its_line es er =
       er ∙ ap (λ (u : Desk). emit_all u es) (ea t.source)
@@ -87,13 +88,13 @@ module _ (t : Tape) (k d level : ℕ) (sidebar : Bool) (at a : ℕ) (desk da : L
   test = sym (ex ∙ ap (λ (u : Step). any (is_block_or_row t) (nodes_in t (uncut sidebar) u)) ef)
 
   pub held_full : x ≡ true → {r : Desk}
-      → r ≡ emit_all (desk_of t.source a da mid) (item (start (element_no sidebar) (attrs_of t k sidebar)) ∷ (below t d level (nodes_in t (uncut sidebar) (first_child t k)) ++ (item (line level) ∷ item (close (element_no sidebar)) ∷ [])))
-      → r ≡ emit_all (desk_of t.source at desk out) (item (line level) ∷ holder_in t d level sidebar k)
-  held_full h er = on_its_line (holder_in t d level sidebar k) (er ∙ ap (emit_all (desk_of t.source a da mid)) (sym (held_by t d level sidebar k ∙ rw (test ∙ h))))
+      → r ≡ emit_all (desk_of t.source da mid) (item (start (element_no sidebar) (attrs_of t k sidebar)) ∷ (below t d level (nodes_in t (uncut sidebar) (first_child t k)) ++ (item (line level) ∷ item (close (element_no sidebar)) ∷ [])))
+      → r ≡ emit_all (desk_of t.source desk out) (item (line level) ∷ holder_in t d level sidebar k)
+  held_full h er = on_its_line (holder_in t d level sidebar k) (er ∙ ap (emit_all (desk_of t.source da mid)) (sym (held_by t d level sidebar k ∙ rw (test ∙ h))))
 
-  pub held_bare : x ≡ false → {r : Desk} → r ≡ emit (desk_of t.source a da mid) (item (empty (element_no sidebar) (attrs_of t k sidebar)))
-      → r ≡ emit_all (desk_of t.source at desk out) (item (line level) ∷ holder_in t d level sidebar k)
-  held_bare h er = on_its_line (holder_in t d level sidebar k) (emit_one (desk_of t.source a da mid) (item (empty (element_no sidebar) (attrs_of t k sidebar))) er ∙ ap (emit_all (desk_of t.source a da mid)) (sym (held_by t d level sidebar k ∙ rw (test ∙ h))))
+  pub held_bare : x ≡ false → {r : Desk} → r ≡ emit (desk_of t.source da mid) (item (empty (element_no sidebar) (attrs_of t k sidebar)))
+      → r ≡ emit_all (desk_of t.source desk out) (item (line level) ∷ holder_in t d level sidebar k)
+  held_bare h er = on_its_line (holder_in t d level sidebar k) (emit_one (desk_of t.source da mid) (item (empty (element_no sidebar) (attrs_of t k sidebar))) er ∙ ap (emit_all (desk_of t.source da mid)) (sym (held_by t d level sidebar k ∙ rw (test ∙ h))))
 
 -- ---- a list of blocks
 
@@ -104,10 +105,10 @@ module _ (t : Tape) (span : Span) (d level : ℕ) (s s₀ : Desk) (step step₀ 
   all-over e =
       sym (ap (emit_all s) (ap (blocks_all_of (below t d level) t d level) e ∙ blocks_none (below t d level) t d level)) ∙ inv ∙ ap (emit_all s₀) (blocks_all t d level (nodes_in t span step₀))
 
-  pub blocks_done : step ≡ Done → s ≡ emit_all s₀ (blocks_e t d level (nodes_in t span step₀))
+  pub blocks_done : step ≡ None → s ≡ emit_all s₀ (blocks_e t d level (nodes_in t span step₀))
   blocks_done e = all-over (nodes_done t span e)
 
-  module _ {c : Cursor} (ec : step ≡ At c) {m : Member} (em : m ≡ member_of_of t span c.at) where
+  module _ {c : Cursor} (ec : step ≡ Some c) {m : Member} (em : m ≡ member_of_of t span c.at) where
     pub blocks_ended : m ≡ End → s ≡ emit_all s₀ (blocks_e t d level (nodes_in t span step₀))
     blocks_ended h = all-over (nodes-cut t span ec em h)
 
@@ -116,7 +117,7 @@ module _ (t : Tape) (span : Span) (d level : ℕ) (s s₀ : Desk) (step step₀ 
     blocks_skipped h en = sym (ap (λ (ks : List ℕ). emit_all s (blocks_all_of (below t d level) t d level ks)) (nodes_skip t span ec em h en)) ∙ inv
 
     module _ (hm : m ≡ Listed) {h : Holder} (eh : h ≡ holder_of t c.at) where
-      here : emit_all s (blocks_all_of (below t d level) t d level (nodes_in t span (At c))) ≡ emit_all s₀ (blocks_all_of (below t d level) t d level (nodes_in t span step₀))
+      here : emit_all s (blocks_all_of (below t d level) t d level (nodes_in t span (Some c))) ≡ emit_all s₀ (blocks_all_of (below t d level) t d level (nodes_in t span step₀))
       here = ap (λ (u : Step). emit_all s (blocks_all_of (below t d level) t d level (nodes_in t span u))) (sym ec) ∙ inv
 
       pub blocks_side : h ≡ Sidebar → {u : Desk} {n : Step} → u ≡ emit_all s (item (line level) ∷ holder_in t d level true c.at) → n ≡ next_sibling t c.at
@@ -143,6 +144,6 @@ module _ (t : Tape) (span : Span) (d level : ℕ) (s s₀ : Desk) (step step₀ 
 
       pub blocks_turned : h ≡ Neither → (u : Desk) (n : Step)
           → (member_of_of t span c.at ≡ Listed → holder_of t c.at ≡ Neither → (B : List ℕ → List Event)
-          → emit_all u (blocks_all_of B t d level (nodes_in t span n)) ≡ emit_all s (blocks_all_of B t d level (nodes_in t span (At c))))
+          → emit_all u (blocks_all_of B t d level (nodes_in t span n)) ≡ emit_all s (blocks_all_of B t d level (nodes_in t span (Some c))))
           → emit_all u (blocks_all_of (below t d level) t d level (nodes_in t span n)) ≡ emit_all s₀ (blocks_all_of (below t d level) t d level (nodes_in t span step₀))
       blocks_turned hh u n e = e (sym em ∙ hm) (sym eh ∙ hh) (below t d level) ∙ here

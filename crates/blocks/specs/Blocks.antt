@@ -2,7 +2,7 @@
 use Rattle.std.specs.Prelude.{ℕ, zero, suc, ◌+◌, List, [], ◌∷◌, Bool, true, false, cond, ◌||◌}
 use Rattle.parts.specs.Bytes.{b}
 use Rattle.tape.specs.File.{Tape, info_at}
-use Rattle.tape.specs.declared.Step.{Step}
+use Rattle.tape.specs.Found.{Step}
 use Rattle.tape.specs.Tree.{next_sibling, up_to}
 use Rattle.render.specs.Shape.{is_row, is_chapter_of, is_element_of, is_top_level_block_of}
 use Rattle.tags.specs.Items.{start, line}

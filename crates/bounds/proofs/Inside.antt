@@ -14,8 +14,8 @@ use Rattle.words.specs.declared.Set.TheVariants.{Unicode}
 use Rattle.tape.specs.File.{Tape, tape_of, kind_at, text_at_of, number_at}
 use Rattle.tape.specs.Tree.{children, first_child, found}
 use Rattle.tape.specs.Name.{marker_name}
-use Rattle.tape.specs.declared.Step.{Step}
-use Rattle.tape.specs.declared.Step.TheVariants.{At, Done}
+use Rattle.tape.specs.Found.{Step}
+use Rattle.std.specs.Prelude.{None, Some}
 use Rattle.render.specs.Shape.{is_open, is_chapter_of, is_verse_of}
 use Rattle.render.specs.Follow.{followed}
 use Rattle.render.specs.Label.{label_of}
@@ -106,11 +106,11 @@ module _ (file : Bytes) (z : Kept₇ file) where
 
     figure_light : (k : ℕ) (outer : Bool) (s : Step) → Light (1000000000 + 1000000000 * inner k + under d (inner k)) (figure_as f t k outer s)
     unfolding figure_as caption_of
-    figure_light k outer (At a) =
+    figure_light k outer (Some a) =
         light_asided
         (light_element {m = 6 * length (field_at t a.at 4)} 9 (styled (b "fig") ++ collected (legacy_pairs t k a.at)) (light_item (text (field_at t a.at 4)) (text_most (field_at t a.at 4)))
         (omega (arith, fig-cost, legacy_limit file z k a.at, field_limit file z a.at 4, attrs_append (styled (b "fig")) (collected (legacy_pairs t k a.at)))))
-    figure_light k outer Done =
+    figure_light k outer None =
         light_asided
         (light_element 9 (styled (b "fig") ++ collected (attributes_of t k (b "fig"))) (light as_inline k outer)
         (omega (arith, fig-cost, attributes_limit file z k (b "fig"), attrs_append (styled (b "fig")) (collected (attributes_of t k (b "fig"))))))

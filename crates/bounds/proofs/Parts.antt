@@ -13,8 +13,8 @@ use Rattle.words.specs.declared.Set.TheVariants.{Ascii, Unicode}
 use Rattle.tape.specs.File.{Tape, tape_of, node_at, kind_at, text_at_of, info_at, is_synthetic, base_len}
 use Rattle.tape.specs.Tree.{children, first_child}
 use Rattle.tape.specs.Name.{strip, marker_name}
-use Rattle.tape.specs.declared.Step.{Step}
-use Rattle.tape.specs.declared.Step.TheVariants.{At, Done}
+use Rattle.tape.specs.Found.{Step}
+use Rattle.std.specs.Prelude.{None, Some}
 use Rattle.render.specs.Shape.{is_text}
 use Rattle.render.specs.Children.{first_text_of}
 use Rattle.render.specs.Label.{label_of}
@@ -68,8 +68,8 @@ module _ (file : Bytes) (z : Kept₇ file) where
 
   under_limit : (s : Step) → length (step_text t s) ≤ 4194304
   unfolding step_text
-  under_limit Done = omega arith
-  under_limit (At c) = text_limit c.at
+  under_limit None = omega arith
+  under_limit (Some c) = text_limit c.at
 
   words_limit : (k : ℕ) → weigh (first_words t k) ≤ 4194305
   unfolding first_words
@@ -89,8 +89,8 @@ module _ (file : Bytes) (z : Kept₇ file) where
 
   lead_limit : (s : Step) → length (lead_text t s) ≤ 4194304
   unfolding lead_text
-  lead_limit Done = omega arith
-  lead_limit (At c) = go (is_text t c.at)
+  lead_limit None = omega arith
+  lead_limit (Some c) = go (is_text t c.at)
     where
       go : (x : Bool) → length (cond x (text_at_of t c.at) []) ≤ 4194304
       go true = text_limit c.at
@@ -104,8 +104,8 @@ module _ (file : Bytes) (z : Kept₇ file) where
 
   trimmed_limit : (s : Step) → size_or (trimmed_at t s) ≤ 4194304
   unfolding trimmed_at size_or
-  trimmed_limit Done = omega arith
-  trimmed_limit (At c) = omega (arith, trim_most Unicode (text_at_of t c.at), text_limit c.at)
+  trimmed_limit None = omega arith
+  trimmed_limit (Some c) = omega (arith, trim_most Unicode (text_at_of t c.at), text_limit c.at)
 
   pub category_limit : (k : ℕ) → size_or (written_category t k) ≤ 9000000
   unfolding written_category
@@ -121,8 +121,8 @@ module _ (file : Bytes) (z : Kept₇ file) where
 
   described_limit : (s : Step) → length (trimmed_text t s) ≤ 4194304
   unfolding trimmed_text
-  described_limit Done = omega arith
-  described_limit (At c) = omega (arith, trim_most Unicode (text_at_of t c.at), text_limit c.at)
+  described_limit None = omega arith
+  described_limit (Some c) = omega (arith, trim_most Unicode (text_at_of t c.at), text_limit c.at)
 
   by_limit : (k : ℕ) → length (described_by t k) ≤ 4194304
   unfolding described_by

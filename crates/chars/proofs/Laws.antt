@@ -6,14 +6,13 @@ use Prim.Native.Nat.{ℕ, ◌+◌, ◌-◌, ◌*◌, ◌≤◌, ◌<◌}
 use native.Mathlib.Omega.{arith}
 use lib.ListN.{length, get_or, take, drop, length-drop}
 use lib.Dec.{leb, eqb}
-use borrow.Author.Tests.{eq-eqb, ne_eqb, lt-ltb, le-ltb, le-leb, lt-leb, eqb-true, eqb-false, leb-true, leb-false, not-true, not-false}
+use borrow.Author.Tests.{ne_eqb, lt-ltb, le-ltb, le-leb, lt-leb, eqb-true, eqb-false, leb-true, leb-false}
 use Rattle.parts.specs.Bytes.{Bytes}
 use Rattle.parts.proofs.Laws.{drop_at}
-use Rattle.chars.specs.Range.{◌to◌, within, in_any}
+use Rattle.chars.specs.Range.{◌to◌, within}
 use Rattle.chars.specs.Utf8.{tail, table37, fits, row_len, seq_len, step, is_sequence, point, code_of, first_char, is_boundary}
 use Rattle.chars.specs.declared.Char.{Char}
 use Rattle.chars.proofs.Characters.{seq_le, seq_le_four, seq_is, byte_is_not, step_seq, step_byte}
-use Rattle.chars.specs.Space.{is_ascii_white}
 
 -- ---- ranges
 
@@ -29,24 +28,6 @@ module _ (l h x : ℕ) where
   pub inside : l ≤ x → x ≤ h → within (l to h) x ≡ true
   unfolding within
   inside m n = rw (le-leb l x m, le-leb x h n)
-
-  pub lies_low : x < l → false ≡ within (l to h) x
-  lies_low n = sym (below n)
-
-  pub lies_high : l ≤ x → leb x h ≡ within (l to h) x
-  unfolding within
-  lies_high n = rw (le-leb l x n)
-
--- a range of one number
-pub one_point : (n x : ℕ) → eqb x n ≡ within (n to n) x
-one_point n x = go (eqb x n) refl (leb x n) refl
-  where
-    go : (t : Bool) → eqb x n ≡ t → (u : Bool) → leb x n ≡ u → t ≡ within (n to n) x
-    go true e u f = let q = eqb-true x n e in sym (inside n n x (omega arith) (omega arith))
-    go false e true f =
-        let q = eqb-false x n e in
-        let k = leb-true x n f in sym (below n n x (omega arith))
-    go false e false f = let k = leb-false x n f in sym (beyond n n x (omega arith))
 
 -- ---- the rows of table 3-7
 
@@ -169,55 +150,34 @@ module _ (x y z w : ℕ) where
 
 -- ---- two, three and four bytes
 
-pub two_low : (x y : ℕ) → x < 194 → 128 ≤ x → x ≤ 223 → 0 ≡ seq_len (x ∷ y ∷ [])
-two_low x y n l h = sym (padded x (y ∷ []) ∙ two-rows x y 0 0 l h ∙ rw (below 194 223 x n))
+module _ (x y : ℕ) (l : 128 ≤ x) (h : x ≤ 223) where
+  pub two_low : x < 194 → 0 ≡ seq_len (x ∷ y ∷ [])
+  two_low n = sym (padded x (y ∷ []) ∙ two-rows x y 0 0 l h ∙ rw (below 194 223 x n))
 
-pub two_got : (x y : ℕ) {t : Bool} {r : ℕ} → 194 ≤ x → t ≡ within (128 to 191) y → r ≡ cond t 2 0 → 128 ≤ x → x ≤ 223 → r ≡ seq_len (x ∷ y ∷ [])
-two_got x y n e f l h = sym (padded x (y ∷ []) ∙ two-rows x y 0 0 l h ∙ rw (inside 194 223 x n h, ← e, ← f))
+  pub two_got : {t : Bool} → 194 ≤ x → t ≡ within (128 to 191) y → cond t 2 0 ≡ seq_len (x ∷ y ∷ [])
+  two_got n e = sym (padded x (y ∷ []) ∙ two-rows x y 0 0 l h ∙ rw (inside 194 223 x n h, ← e))
 
-module _ (x y z : ℕ) (l : 224 ≤ x) (h : x ≤ 239) {t : Bool} (e : t ≡ within (128 to 191) z) where
-  three_at : seq_len (x ∷ y ∷ z ∷ []) ≡ cond (second3 x y z 0 && t) 3 0
-  three_at = rw (e) (padded x (y ∷ z ∷ []) ∙ three_rows x y z 0 l h)
+module _ (x y z : ℕ) (l : 224 ≤ x) (h : x ≤ 239) {u : Bool} (f : u ≡ cond (eqb x 224) (within (160 to 191) y) (cond (eqb x 237) (within (128 to 159) y) (within (128 to 191) y))) where
+  pub three_got : {t : Bool} → t ≡ within (128 to 191) z → cond (u && t) 3 0 ≡ seq_len (x ∷ y ∷ z ∷ [])
+  unfolding second3
+  three_got e = sym (padded x (y ∷ z ∷ []) ∙ three_rows x y z 0 l h ∙ rw (← e, ← f))
 
-  pub three_tail : not t ≡ true → 0 ≡ seq_len (x ∷ y ∷ z ∷ [])
-  three_tail f = sym (three_at ∙ rw (not-true t f, and-false))
-
-  module _ (f : not t ≡ false) {u : Bool} {r : ℕ} where
-    pub three_low : x ≡ 224 → u ≡ within (160 to 191) y → r ≡ cond u 3 0 → r ≡ seq_len (x ∷ y ∷ z ∷ [])
-    unfolding second3
-    three_low q g i = sym (three_at ∙ rw (not-false t f, eq-eqb x 224 q, ← g, and-true, ← i))
-
-    pub three_high : (x ≡ 224 → ⊥) → x ≡ 237 → u ≡ within (128 to 159) y → r ≡ cond u 3 0 → r ≡ seq_len (x ∷ y ∷ z ∷ [])
-    unfolding second3
-    three_high p q g i = sym (three_at ∙ rw (not-false t f, ne_eqb x 224 p, eq-eqb x 237 q, ← g, and-true, ← i))
-
-    pub three_any : (x ≡ 224 → ⊥) → (x ≡ 237 → ⊥) → u ≡ within (128 to 191) y → r ≡ cond u 3 0 → r ≡ seq_len (x ∷ y ∷ z ∷ [])
-    unfolding second3
-    three_any p q g i = sym (three_at ∙ rw (not-false t f, ne_eqb x 224 p, ne_eqb x 237 q, ← g, and-true, ← i))
+  pub three_second : u ≡ false → 0 ≡ seq_len (x ∷ y ∷ z ∷ [])
+  three_second g = rw g at (three_got refl)
 
 pub four-none : (x y z w : ℕ) → 240 ≤ x → 244 < x → 0 ≡ seq_len (x ∷ y ∷ z ∷ w ∷ [])
 four-none x y z w l h = sym (no_rows x y z w h)
 
-module _ (x y z w : ℕ) (l : 240 ≤ x) (h : x ≤ 244) {t : Bool} (e : t ≡ within (128 to 191) z) where
-  pub four_third : not t ≡ true → 0 ≡ seq_len (x ∷ y ∷ z ∷ w ∷ [])
-  four_third f = sym (four-rows x y z w l h ∙ rw (← e, not-true t f, and-false))
+module _ (x y z w : ℕ) (l : 240 ≤ x) (h : x ≤ 244) {u : Bool} (f : u ≡ cond (eqb x 240) (within (144 to 191) y) (cond (eqb x 244) (within (128 to 143) y) (within (128 to 191) y))) where
+  pub four_got : {t v : Bool} → t ≡ within (128 to 191) z → v ≡ within (128 to 191) w → cond (u && (t && v)) 4 0 ≡ seq_len (x ∷ y ∷ z ∷ w ∷ [])
+  unfolding second4
+  four_got e g = sym (four-rows x y z w l h ∙ rw (← e, ← g, ← f))
 
-  module _ (f : not t ≡ false) {u : Bool} (g : u ≡ within (128 to 191) w) where
-    pub four_fourth : not u ≡ true → 0 ≡ seq_len (x ∷ y ∷ z ∷ w ∷ [])
-    four_fourth i = sym (four-rows x y z w l h ∙ rw (← e, not-false t f, ← g, not-true u i, and-false))
+  pub four_second : u ≡ false → 0 ≡ seq_len (x ∷ y ∷ z ∷ w ∷ [])
+  four_second i = rw i at (four_got refl refl)
 
-    module _ (i : not u ≡ false) {v : Bool} {r : ℕ} where
-      pub four_low : x ≡ 240 → v ≡ within (144 to 191) y → r ≡ cond v 4 0 → r ≡ seq_len (x ∷ y ∷ z ∷ w ∷ [])
-      unfolding second4
-      four_low p j k = sym (four-rows x y z w l h ∙ rw (← e, not-false t f, ← g, not-false u i, eq-eqb x 240 p, ← j, and-true, ← k))
-
-      pub four_high : (x ≡ 240 → ⊥) → x ≡ 244 → v ≡ within (128 to 143) y → r ≡ cond v 4 0 → r ≡ seq_len (x ∷ y ∷ z ∷ w ∷ [])
-      unfolding second4
-      four_high p q j k = sym (four-rows x y z w l h ∙ rw (← e, not-false t f, ← g, not-false u i, ne_eqb x 240 p, eq-eqb x 244 q, ← j, and-true, ← k))
-
-      pub four-any : (x ≡ 240 → ⊥) → (x ≡ 244 → ⊥) → v ≡ within (128 to 191) y → r ≡ cond v 4 0 → r ≡ seq_len (x ∷ y ∷ z ∷ w ∷ [])
-      unfolding second4
-      four-any p q j k = sym (four-rows x y z w l h ∙ rw (← e, not-false t f, ← g, not-false u i, ne_eqb x 240 p, ne_eqb x 244 q, ← j, and-true, ← k))
+  pub four_third : {t : Bool} → u ≡ true → t ≡ within (128 to 191) z → t ≡ false → 0 ≡ seq_len (x ∷ y ∷ z ∷ w ∷ [])
+  four_third i e k = rw (i, k) at (four_got e refl)
 
 -- ---- the first sequence
 
@@ -347,19 +307,3 @@ boundary_at s at h e f = sym (rw (ne_eqb at (length s) (λ q. omega arith), lt-l
 pub boundary_past : (s : Bytes) (at : ℕ) → length s ≤ at → eqb at (length s) ≡ is_boundary s at
 unfolding is_boundary
 boundary_past s at h = sym (rw (le-ltb at (length s) h, or-false))
-
--- ---- white space
-
-module _ (x : ℕ) {t : Bool} (e : t ≡ within (9 to 10) x) where
-  pub ascii_first : t ≡ true → true ≡ is_ascii_white x
-  unfolding is_ascii_white in_any
-  ascii_first h = rw (← e, h)
-
-  module _ (h : t ≡ false) {u : Bool} (f : u ≡ within (12 to 13) x) where
-    pub ascii_second : u ≡ true → true ≡ is_ascii_white x
-    unfolding is_ascii_white in_any
-    ascii_second i = rw (← e, h, ← f, i)
-
-    pub ascii_third : u ≡ false → eqb x 32 ≡ is_ascii_white x
-    unfolding is_ascii_white in_any
-    ascii_third i = rw (← e, h, ← f, i, or-false) (one_point 32 x)

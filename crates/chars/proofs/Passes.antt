@@ -1,15 +1,16 @@
 -- Laws of the test of UTF-8: blocks of ASCII, and sequences.
 use mathlib.Core.Path.{◌≡◌, refl, sym, ap, ◌∙◌}
-use mathlib.Core.Bool.{Bool, true, false, ◌||◌, or-false, or_assoc}
+use mathlib.Core.Bool.{Bool, true, false, ◌||◌}
 use mathlib.Core.List.{[], ◌∷◌}
 use Prim.Native.Nat.{ℕ, zero, suc, ◌+◌, ◌-◌, ◌≤◌, ◌<◌}
 use native.Mathlib.Omega.{arith}
-use lib.ListN.{length, get_or, take, drop, drop_of_length-le, length-drop}
+use lib.ListN.{length, take, drop, drop_of_length-le, length-drop}
 use lib.Seq.{drop-drop}
 use lib.Dec.{leb, eqb}
 use borrow.Author.Tests.{leb-false, eqb-true, eqb-false}
+use Rattle.std.specs.List.{list_any}
 use Rattle.parts.specs.Bytes.{Bytes}
-use Rattle.parts.proofs.Laws.{drop-part, drop_at}
+use Rattle.parts.proofs.Laws.{drop-part}
 use Rattle.chars.specs.Utf8.{seq_len, is_utf8}
 use Rattle.chars.specs.Pass.{any_high, PassTo}
 use Rattle.chars.proofs.Characters.{seq_le, utf8_nil, utf8_first, utf8_not}
@@ -17,17 +18,10 @@ use Rattle.chars.proofs.Laws.{len_one}
 
 -- ---- a block
 
-pub high_turn : (s : Bytes) (i : ℕ) (found : Bool) {z : Bool} → i < length s
-    → found || any_high (drop i s) ≡ z → (found || leb 128 (get_or s i 0)) || any_high (drop (i + 1) s) ≡ z
+pub any-high : (s : Bytes) → any_high s ≡ list_any (leb 128) s
 unfolding any_high
-high_turn s i found h inv =
-    or_assoc found (leb 128 (get_or s i 0)) (any_high (drop (i + 1) s))
-    ∙ sym (ap (λ (r : Bytes). found || any_high r) (drop_at s i h))
-    ∙ inv
-
-pub high_end : (s : Bytes) (i : ℕ) (found : Bool) {z : Bool} → length s ≤ i → found || any_high (drop i s) ≡ z → found ≡ z
-unfolding any_high
-high_end s i found h inv = sym (rw (drop_of_length-le s h) (or-false found)) ∙ inv
+any-high [] = refl
+any-high (x ∷ s) = ap (λ (t : Bool). leb 128 x || t) (any-high s)
 
 -- ASCII in front changes nothing
 ascii_skip : (n : ℕ) (s : Bytes) → n ≤ length s → any_high (take n s) ≡ false → is_utf8 (drop n s) ≡ is_utf8 s
@@ -59,10 +53,9 @@ module _ {s : Bytes} {i : ℕ} (p : PassTo s i) where
       }
 
   -- by a block without a byte beyond ASCII
-  pub pass_block : (n : ℕ) {t : Bool} → n ≤ length s - i → t ≡ any_high (take (i + n - i) (drop i s)) → t ≡ false → PassTo s (i + n)
-  pass_block n h et e =
-      let same : i + n - i ≡ n = omega arith in
-      let skip = ascii_skip n (drop i s) (omega (arith, length-drop i s)) (sym (et ∙ rw same) ∙ e) in
+  pub pass_block : (n : ℕ) → i + n ≤ length s → any_high (take n (drop i s)) ≡ false → PassTo s (i + n)
+  pass_block n h e =
+      let skip = ascii_skip n (drop i s) (omega (arith, length-drop i s)) e in
       record { within = omega (arith, p.within); rest = ap is_utf8 (sym (drop-drop n i s)) ∙ skip ∙ p.rest }
 
   module _ {n : ℕ} (e : n ≡ seq_len (drop i s)) where

@@ -1,12 +1,12 @@
 #![tactic(auto)]
 // Characters: UTF-8 and white space.
-ghost use Rattle.std.specs.Prelude.{◌≡◌, false, cond, [], ◌∷◌, ◌-◌, ◌≤◌, ◌<◌, min, length, drop};
+ghost use Rattle.std.specs.Prelude.{◌≡◌, ◌==◌, false, cond, [], ◌∷◌, ◌-◌, ◌≤◌, ◌<◌, length, drop};
 ghost use Rattle.chars.specs.Range.{◌to◌, within};
 ghost use Rattle.chars.specs.Utf8.{seq_len, point, first_char, is_utf8 as is_utf8_of, is_boundary};
 ghost use Rattle.chars.specs.Pass.{any_high, PassTo};
 ghost use Rattle.chars.specs.Space.{is_white, is_ascii_white, searched};
 
-use parts::{byte_at, from};
+use parts::{any_byte, blocks_without, byte_at, from};
 
 // A character: its code point, and how many bytes it takes.
 #[derive(Clone, Copy)]
@@ -21,76 +21,65 @@ const WHITE: [u32; 25] = [
     0x2005, 0x2006, 0x2007, 0x2008, 0x2009, 0x200A, 0x2028, 0x2029, 0x202F, 0x205F, 0x3000,
 ];
 
-// Whether a byte lies in a range.
-fn lies(x: u8, low: u8, high: u8) -> bool
-    ensures { result ≡ within (low to high) x }
-{
-    if x < low {
-        return false;
-    }
-    x <= high
-}
-
 // Whether a byte continues a sequence.
+#[tactic(auto, unfolding(crate::specs::Range::within))]
 fn is_tail(x: u8) -> bool
     ensures { result ≡ within (128 to 191) x }
 {
-    lies(x, 0x80, 0xBF)
-}
-
-// A length where the test holds, and else 0.
-fn when(t: bool, n: usize) -> usize
-    ensures { result ≡ cond t n 0 }
-{
-    if t { n } else { 0 }
+    matches!(x, 0x80..=0xBF)
 }
 
 // The rows of two bytes, of a first byte in 80..DF.
 fn two(x: u8, y: u8) -> usize
     ensures { 128 ≤ x → x ≤ 223 → result ≡ seq_len (x ∷ y ∷ []) }
 {
-    if x < 0xC2 {
-        return 0;
+    if 0xC2 <= x && is_tail(y) { 2 } else { 0 }
+}
+
+// Whether a byte may stand second behind a first one in E0..EF.
+#[tactic(auto, unfolding(crate::specs::Range::within))]
+fn second_of_three(x: u8, y: u8) -> bool
+    ensures { result ≡ cond (x == 224) (within (160 to 191) y) (cond (x == 237) (within (128 to 159) y) (within (128 to 191) y)) }
+{
+    match x {
+        0xE0 => matches!(y, 0xA0..=0xBF),
+        0xED => matches!(y, 0x80..=0x9F),
+        _ => is_tail(y),
     }
-    when(is_tail(y), 2)
 }
 
 // The rows of three bytes, of a first byte in E0..EF.
 fn three(x: u8, y: u8, z: u8) -> usize
     ensures { 224 ≤ x → x ≤ 239 → result ≡ seq_len (x ∷ y ∷ z ∷ []) }
 {
-    if !is_tail(z) {
-        return 0;
+    if second_of_three(x, y) && is_tail(z) {
+        3
+    } else {
+        0
     }
-    if x == 0xE0 {
-        return when(lies(y, 0xA0, 0xBF), 3);
+}
+
+// Whether a byte may stand second behind a first one in F0..F4.
+#[tactic(auto, unfolding(crate::specs::Range::within))]
+fn second_of_four(x: u8, y: u8) -> bool
+    ensures { result ≡ cond (x == 240) (within (144 to 191) y) (cond (x == 244) (within (128 to 143) y) (within (128 to 191) y)) }
+{
+    match x {
+        0xF0 => matches!(y, 0x90..=0xBF),
+        0xF4 => matches!(y, 0x80..=0x8F),
+        _ => is_tail(y),
     }
-    if x == 0xED {
-        return when(lies(y, 0x80, 0x9F), 3);
-    }
-    when(is_tail(y), 3)
 }
 
 // The rows of four bytes, of a first byte from F0 on.
 fn four(x: u8, y: u8, z: u8, w: u8) -> usize
     ensures { 240 ≤ x → result ≡ seq_len (x ∷ y ∷ z ∷ w ∷ []) }
 {
-    if 0xF4 < x {
-        return 0;
+    if x <= 0xF4 && second_of_four(x, y) && is_tail(z) && is_tail(w) {
+        4
+    } else {
+        0
     }
-    if !is_tail(z) {
-        return 0;
-    }
-    if !is_tail(w) {
-        return 0;
-    }
-    if x == 0xF0 {
-        return when(lies(y, 0x90, 0xBF), 4);
-    }
-    if x == 0xF4 {
-        return when(lies(y, 0x80, 0x8F), 4);
-    }
-    when(is_tail(y), 4)
 }
 
 // The length of the well-formed sequence that s begins with, and 0 where it begins with none.
@@ -118,58 +107,24 @@ pub fn seq_len(s: &[u8]) -> usize
 fn len_at(s: &[u8], i: usize) -> usize
     ensures { result ≡ seq_len (drop i s.now) }
 {
-    if i < s.len() {
-        if s[i] < 0x80 {
-            return 1;
-        }
+    if i < s.len() && s[i] < 0x80 {
+        return 1;
     }
     seq_len(from(s, i))
 }
 
-// Whether a text has a byte beyond ASCII; with no branch, so that the bytes of a block are tested at once.
 fn any_high(s: &[u8]) -> bool
     ensures { result ≡ any_high s.now }
 {
-    let mut found = false;
-    let mut i = 0;
-    while i < s.len() {
-        found = found | (0x80 <= s[i]);
-        i += 1;
-    }
-    found
+    any_byte(s, |x| 0x80 <= x)
 }
 
-// Where the whole blocks of ASCII end, each of so many bytes.
-fn ascii_blocks(s: &[u8], size: usize) -> usize
-    ensures { PassTo s.now result }
-{
-    if size == 0 {
-        return 0;
-    }
-    let mut i = 0;
-    while size <= s.len() - i {
-        let e = i + size;
-        if any_high(&s[i..e]) {
-            return i;
-        }
-        i = e;
-    }
-    i
-}
-
-// The same by long blocks, and by short ones behind them.
+// Where the whole blocks of ASCII end: long ones, and short ones behind them.
 fn ascii_len(s: &[u8]) -> usize
     ensures { PassTo s.now result }
 {
-    let n = ascii_blocks(s, 64);
-    n + ascii_blocks(&s[n..], 16)
-}
-
-// The lesser of two numbers.
-fn least(a: usize, z: usize) -> usize
-    ensures { result ≡ min a z }
-{
-    if a < z { a } else { z }
+    let n = blocks_without(s, 64, 64, any_high);
+    n + blocks_without(&s[n..], 16, 16, any_high)
 }
 
 // Where the sequences end that begin in the first `span` bytes, or the first place that begins none.
@@ -177,8 +132,9 @@ fn sequences(s: &[u8], span: usize) -> usize
     ensures pass_to { PassTo s.now result }
     ensures s_value { result ≡ 0 → 0 < span → 0 < length s.now → is_utf8_of s.now ≡ false }
 {
-    let end = least(s.len(), span);
+    let end = s.len().min(span);
     let mut i = 0;
+    // A `while`: each turn passes as many bytes as the sequence takes.
     while i < end {
         let n = len_at(s, i);
         if n == 0 {
@@ -194,9 +150,12 @@ fn next_span(blocks: usize, span: usize) -> usize
     ensures { 0 < span → 0 < result }
 {
     if 0 < blocks {
-        return 16;
+        16
+    } else if span < 4096 {
+        span * 2
+    } else {
+        span
     }
-    if span < 4096 { span * 2 } else { span }
 }
 
 // Whether s is UTF-8, in one pass: by blocks of ASCII, and by sequences where they end.
@@ -205,6 +164,7 @@ pub fn is_utf8(s: &[u8]) -> bool
 {
     let mut span: usize = 16;
     let mut i = 0;
+    // A `while`: each turn passes as many bytes as are walked.
     while i < s.len() {
         let n = ascii_len(&s[i..]);
         span = next_span(n, span);
@@ -218,17 +178,11 @@ pub fn is_utf8(s: &[u8]) -> bool
     true
 }
 
-fn wide(x: u8) -> u32
-    ensures { result ≡ x }
-{
-    x as u32
-}
-
 // How far a byte lies above a limit.
 fn above(x: u8, limit: u8) -> u32
     ensures { result ≡ x - limit }
 {
-    if x < limit { 0 } else { wide(x - limit) }
+    u32::from(x.saturating_sub(limit))
 }
 
 // The code points of table 3-6, by the number of bytes.
@@ -264,7 +218,7 @@ pub fn first_char(s: &[u8]) -> Char
             width: 1,
         },
         1 => Char {
-            code: wide(x),
+            code: u32::from(x),
             width: 1,
         },
         2 => Char {
@@ -287,22 +241,20 @@ pub fn is_boundary(s: &[u8], at: usize) -> bool
     ensures { result ≡ is_boundary s.now at }
 {
     if at < s.len() {
-        return !is_tail(s[at]);
+        !is_tail(s[at])
+    } else {
+        at == s.len()
     }
-    at == s.len()
 }
 
 // Whether a rising table holds a number.
 fn listed(table: &[u32], code: u32) -> bool
     ensures { result ≡ searched code table.now }
 {
-    let mut i = 0;
-    while i < table.len() {
-        let w = table[i];
-        if code <= w {
-            return w == code;
+    for w in table {
+        if code <= *w {
+            return *w == code;
         }
-        i += 1;
     }
     false
 }
@@ -312,24 +264,17 @@ pub fn is_white(code: u32) -> bool
     ensures { result ≡ is_white code }
 {
     // Most characters are asked for nothing more.
-    if 0x20 < code {
-        if code < 0x85 {
-            return false;
-        }
+    if 0x20 < code && code < 0x85 {
+        return false;
     }
     let table = WHITE;
     listed(&table, code)
 }
 
 // Whether a byte is ASCII white space.
+#[tactic(auto, unfolding(crate::specs::Space::is_ascii_white, crate::specs::Range::in_any, crate::specs::Range::within))]
 pub fn is_ascii_white(x: u8) -> bool
     ensures { result ≡ is_ascii_white x }
 {
-    if lies(x, 0x09, 0x0A) {
-        return true;
-    }
-    if lies(x, 0x0C, 0x0D) {
-        return true;
-    }
-    x == 0x20
+    x.is_ascii_whitespace()
 }

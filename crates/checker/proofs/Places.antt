@@ -2,22 +2,19 @@
 use mathlib.Core.Path.{◌≡◌, refl, sym, ap, ◌∙◌}
 use mathlib.Core.Bool.{Bool, true, false, cond, ◌||◌}
 use mathlib.Core.List.{List, [], ◌∷◌}
-use Prim.Native.Nat.{ℕ, zero, suc, ◌+◌, ◌-◌, ◌≤◌, ◌<◌}
+use Prim.Native.Nat.{ℕ, zero, suc, ◌-◌, ◌≤◌, ◌<◌}
 use native.Mathlib.Omega.{arith}
-use lib.ListN.{length, drop, get_or, length-drop, drop_of_length-le}
-use lib.Seq.{drop-cons}
-use lib.Dec.{eqb}
-use native.Mathlib.Numerals.{add-one}
-use Rattle.parts.specs.Bytes.{Bytes, begins, part}
-use Rattle.tags.specs.Form.{Read, bad, got, next, opening}
+use lib.ListN.{length, drop, length-drop, drop_of_length-le}
+use Rattle.parts.specs.Bytes.{Bytes}
+use Rattle.tags.specs.Form.{Read, bad, got, next}
 use Rattle.tags.proofs.Tokens.{Shorter, next_shorter}
 use Rattle.checker.specs.View.{View, view}
 use Rattle.checker.specs.Steps.{Pairs}
 use Rattle.checker.specs.Check.{Run, step_on, at_start, Alike}
-use Rattle.checker.specs.Code.{view_in, brief, sight_in, stack_of, held_in, run_in, state_at_start, room, Stepped}
-use Rattle.checker.specs.Place.{is_broken, more_broken, broken_at, broken_from, broken_place, line_end, line_ends, line_of}
+use Rattle.checker.specs.Code.{view_in, brief, sight_in, held_in, run_in, state_at_start}
+use Rattle.checker.specs.Place.{is_broken, more_broken, broken_at, broken_from}
 use Rattle.checker.specs.declared.Tag.{Tag}
-use Rattle.checker.specs.declared.Next.TheVariants.{Bad, Token as TokenV}
+use Rattle.std.specs.Prelude.{Some, None}
 use Rattle.checker.specs.declared.State.{State}
 use Rattle.checker.specs.declared.Verdict.{Verdict}
 use Rattle.checker.specs.declared.Verdict.TheVariants.{Accepted, NotTags, TooHigh, NoTree, BadMarks}
@@ -83,91 +80,54 @@ alike_from v s a = alike_at (length s) v s a
 -- ---- the loop
 
 -- at a place of the text: what is left breaks the rule where the whole does
-pub record Looking (v : Verdict) (x a : List ℕ) (s : State) (at : ℕ) : Type 0 where
-  pub going : Going x a s at
-  pub more : broken_from v (run_in x s a) (drop at x) ≡ broken_from v at_start x
+pub record Looking (v : Verdict) (x : List ℕ) (s : State) (at : ℕ) : Type 0 where
+  pub going : Going x s at
+  pub more : broken_from v (run_in x s) (drop at x) ≡ broken_from v at_start x
 
-pub look_start : (v : Verdict) (x a : List ℕ) (s : State) → length a ≡ room → s ≡ state_at_start → Looking v x a s 0
-unfolding held_in stack_of
-look_start v x a s l e = record { going = going_start x a s l e; more = rw e }
+pub look_start : (v : Verdict) (x : List ℕ) (s : State) → s ≡ state_at_start → Looking v x s 0
+unfolding held_in
+look_start v x s e = record { going = going_start x s e; more = rw e }
 
 module _ (v : Verdict) (x : List ℕ) (at : ℕ) (h : at < length x) where
   -- what is broken from here on tells the place
   place_here : drop at x ≡ broken_from v at_start x → at ≡ length x - length (broken_from v at_start x)
   place_here e = omega (arith, ap length e, length-drop at x)
 
-  pub look_bad : (a : List ℕ) (s : State) → sight_in x Bad ≡ brief (next (drop at x)) → Looking v x a s at
+  pub look_bad : (s : State) → sight_in x None ≡ brief (next (drop at x)) → Looking v x s at
       → at ≡ length x - length (broken_from v at_start x)
   unfolding sight_in brief
-  look_bad a s e g = go (next (drop at x)) refl
+  look_bad s e g = go (next (drop at x)) refl
     where
       go : (p : Read) → next (drop at x) ≡ p → at ≡ length x - length (broken_from v at_start x)
       go bad i =
-          place_here (sym (broken-by v (run_in x s a) (drop at x) ∙ ap (more_broken (broken_from v) v (run_in x s a) (drop at x)) i) ∙ g.more)
+          place_here (sym (broken-by v (run_in x s) (drop at x) ∙ ap (more_broken (broken_from v) v (run_in x s) (drop at x)) i) ∙ g.more)
       go (got t l) i = absurd (let no_way : ◌≡◌ {A = ℕ} 0 1 = cc in omega arith)
 
-  module _ (tag : Tag) (e : ℕ) (is : sight_in x (TokenV tag e) ≡ brief (next (drop at x))) (a a' : List ℕ) (s s' : State)
-      (el : length a' ≡ length a) (st : Stepped x s a tag s' a') {u : Bool} (eu : u ≡ is_broken v (run_in x s' a')) where
-    turned : broken_from v (run_in x s a) (drop at x) ≡ cond u (drop at x) (broken_from v (run_in x s' a') (drop e x))
+  module _ (tag : Tag) (e : ℕ) (is : sight_in x (Some (tag, e)) ≡ brief (next (drop at x))) (s s' : State)
+      (st : Alike (run_in x s') (step_on (run_in x s) (view_in x tag))) {u : Bool} (eu : u ≡ is_broken v (run_in x s')) where
+    turned : broken_from v (run_in x s) (drop at x) ≡ cond u (drop at x) (broken_from v (run_in x s') (drop e x))
     turned =
         let one = got_one x at h tag e is in
-        let r : Run = step_on (run_in x s a) (view_in x tag) in
-        broken-by v (run_in x s a) (drop at x)
-        ∙ ap (more_broken (broken_from v) v (run_in x s a) (drop at x)) one.1
-        ∙ ap (λ (w : View). cond (is_broken v (step_on (run_in x s a) w)) (drop at x) (broken_from v (step_on (run_in x s a) w) (drop e x))) one.2
-        ∙ ap (cond (is_broken v r) (drop at x)) (sym (alike_from v (drop e x) st.alike))
-        ∙ ap (λ (z : Bool). cond z (drop at x) (broken_from v (run_in x s' a') (drop e x))) (sym (eu ∙ alike_broken v st.alike))
+        let r : Run = step_on (run_in x s) (view_in x tag) in
+        broken-by v (run_in x s) (drop at x)
+        ∙ ap (more_broken (broken_from v) v (run_in x s) (drop at x)) one.1
+        ∙ ap (λ (w : View). cond (is_broken v (step_on (run_in x s) w)) (drop at x) (broken_from v (step_on (run_in x s) w) (drop e x))) one.2
+        ∙ ap (cond (is_broken v r) (drop at x)) (sym (alike_from v (drop e x) st))
+        ∙ ap (λ (z : Bool). cond z (drop at x) (broken_from v (run_in x s') (drop e x))) (sym (eu ∙ alike_broken v st))
 
-    pub look_up : u ≡ true → Looking v x a s at → at ≡ length x - length (broken_from v at_start x)
+    pub look_up : u ≡ true → Looking v x s at → at ≡ length x - length (broken_from v at_start x)
     look_up up g =
-        place_here (sym (turned ∙ ap (λ (z : Bool). cond z (drop at x) (broken_from v (run_in x s' a') (drop e x))) up) ∙ g.more)
+        place_here (sym (turned ∙ ap (λ (z : Bool). cond z (drop at x) (broken_from v (run_in x s') (drop e x))) up) ∙ g.more)
 
-    pub look_turn : u ≡ false → Looking v x a s at → Looking v x a' s' e
+    pub look_turn : u ≡ false → Looking v x s at → Looking v x s' e
     look_turn down g =
         record {
-          going = going_turn x at h tag e is a a' s s' el st g.going;
-          more = sym (turned ∙ ap (λ (z : Bool). cond z (drop at x) (broken_from v (run_in x s' a') (drop e x))) down) ∙ g.more;
+          going = going_turn x at h tag e is s s' st g.going;
+          more = sym (turned ∙ ap (λ (z : Bool). cond z (drop at x) (broken_from v (run_in x s') (drop e x))) down) ∙ g.more;
         }
 
-pub look_end : (v : Verdict) (x a : List ℕ) (s : State) (at : ℕ) → length x ≤ at → Looking v x a s at → length x ≡ length x - length (broken_from v at_start x)
+pub look_end : (v : Verdict) (x : List ℕ) (s : State) (at : ℕ) → length x ≤ at → Looking v x s at → length x ≡ length x - length (broken_from v at_start x)
 unfolding broken_from broken_at
-look_end v x a s at h g =
-    let none : broken_from v (run_in x s a) (drop at x) ≡ [] = ap (broken_from v (run_in x s a)) (drop_of_length-le x h) in
+look_end v x s at h g =
+    let none : broken_from v (run_in x s) (drop at x) ≡ [] = ap (broken_from v (run_in x s)) (drop_of_length-le x h) in
     omega (arith, ap length (sym none ∙ g.more))
-
--- ---- the place
-
-module _ (v : Verdict) (x : List ℕ) {t : Bool} (e : t ≡ begins opening x) where
-  pub place_front : t ≡ false → 0 ≡ broken_place v x
-  unfolding broken_place
-  place_front h = rw (← e, h)
-
-  pub place_found : {n : ℕ} → t ≡ true → n ≡ length x - length (broken_from v at_start x) → n ≡ broken_place v x
-  unfolding broken_place
-  place_found h z = rw (← e, h) z
-
--- ---- lines
-
-pub line_turn : (s : List ℕ) (i n w t : ℕ) → i < length s → w ≡ line_end (get_or s i 0) → n + line_ends (drop i s) ≡ t → n + w + line_ends (drop (i + 1) s) ≡ t
-unfolding line_ends
-line_turn s i n w t h e inv =
-    let one : line_ends (drop i s) ≡ line_end (get_or s i 0) + line_ends (drop (i + 1) s) = rw add-one (ap line_ends (drop-cons s i 0 h)) in
-    omega arith
-
-pub line_done : (s : List ℕ) (i n t : ℕ) → length s ≤ i → n + line_ends (drop i s) ≡ t → n ≡ t
-unfolding line_ends
-line_done s i n t h inv =
-    let none : line_ends (drop i s) ≡ 0 = ap line_ends (drop_of_length-le s h) in
-    omega arith
-
-pub line_one : (c : ℕ) {w : ℕ} → w ≡ line_end c → w ≤ 1
-unfolding line_end
-line_one c e = rw e (go (eqb c 10))
-  where
-    go : (z : Bool) → cond z 1 0 ≤ 1
-    go true = omega arith
-    go false = omega arith
-
-pub line_found : (x : List ℕ) (at : ℕ) {p : List ℕ} {n : ℕ} → p ≡ part x 0 at → n ≡ line_ends p → n + 1 ≡ line_of x at
-unfolding line_of
-line_found x at ep en = rw (en, ep)

@@ -1,30 +1,30 @@
 -- Laws of the walk over the whole text.
 use mathlib.Core.Path.{◌≡◌, refl, sym, ap, ◌∙◌, subst}
-use mathlib.Core.Bool.{Bool, true, false, cond}
+use mathlib.Core.Bool.{Bool, true, false, cond, ◌&&◌}
 use mathlib.Core.List.{List, [], ◌∷◌}
 use mathlib.Core.Option.{Option, some, none}
+use Rattle.std.specs.Prelude.{Some, None}
 use Prim.Native.Nat.{ℕ, suc, ◌+◌, ◌-◌, ◌≤◌, ◌<◌}
 use native.Mathlib.Omega.{arith}
 use lib.ListN.{length, drop, get_or, length-drop, drop_of_length-le}
 use lib.Seq.{drop-cons}
 use lib.Dec.{eqb}
+use lib.Pointwise.{pointwise}
 use lib.IntN.{ℤ, pos}
 use lib.Signed.{mag}
 use Rattle.parts.specs.Bytes.{begins}
-use Rattle.parts.proofs.Laws.{begins-fits}
 use Rattle.tags.specs.Form.{Token, Read, bad, got, next, onto, more_tokens, tokens_at, tokens_from, opening, closing, tokens}
 use Rattle.tags.proofs.Tokens.{Shorter, next_shorter, tokens-by}
 use Rattle.checker.specs.View.{View, words, opened, closed, single, view}
 use Rattle.checker.specs.Steps.{rise, Trunk, grow, Turned, begun, ended, wrong, turn, Pairs, missed, chapter_to_of, verse_to, is_shut, is_milestone, pair_up}
 use Rattle.checker.specs.Check.{Run, step_on, fold_on, at_start, verdict_of, settle, fold_verdict, Alike}
-use Rattle.checker.specs.Code.{view_in, sight, brief, sight_in, stack_of, held_in, run_in, state_at_start, room, trunk_of_of, Told, Stepped}
+use Rattle.checker.specs.Code.{view_in, sight, brief, sight_in, trunk_of, held_in, run_in, state_at_start, Told}
 use Rattle.checker.specs.declared.Tag.{Tag}
-use Rattle.checker.specs.declared.Next.TheVariants.{Bad, Token as TokenV}
 use Rattle.checker.specs.declared.State.{State}
 use Rattle.checker.specs.declared.Verdict.{Verdict}
 use Rattle.checker.specs.declared.Verdict.TheVariants.{NotTags}
 use Rattle.checker.proofs.Decides.{never}
-use Rattle.checker.proofs.Folds.{mag_rise, stack_length, or-false}
+use Rattle.checker.proofs.Folds.{mag_rise, or-false}
 use Rattle.checker.proofs.Trees.{grow_stays, height_grown}
 
 -- ---- counts rise by one at most
@@ -98,33 +98,29 @@ alike_settle a (some ts) = alike_fold a ts
 -- ---- the loop
 
 -- at a place of the text: what is left to read makes the verdict of the whole, and nothing has grown past the place
-pub record Going (x a : List ℕ) (s : State) (at : ℕ) : Type 0 where
-  pub long : length a ≡ room
+pub record Going (x : List ℕ) (s : State) (at : ℕ) : Type 0 where
   pub low : mag s.height ≤ at
-  pub deep : s.tree.depth ≤ room
   pub told : Told s
-  pub few : s.marks.chapters ≤ at
-  pub little : s.marks.verses ≤ at
-  pub same : settle (run_in x s a) (tokens_from (drop at x)) ≡ settle at_start (tokens_from x)
+  pub few : s.marks.chapter.begun ≤ at
+  pub little : s.marks.verse.begun ≤ at
+  pub same : settle (run_in x s) (tokens_from (drop at x)) ≡ settle at_start (tokens_from x)
 
-pub going_start : (x a : List ℕ) (s : State) → length a ≡ room → s ≡ state_at_start → Going x a s 0
-unfolding held_in stack_of
-going_start x a s l e =
-    rw e (record { long = l; low = omega arith; deep = omega arith; told = λ h w. refl; few = omega arith; little = omega arith; same = refl })
+pub going_start : (x : List ℕ) (s : State) → s ≡ state_at_start → Going x s 0
+unfolding held_in
+going_start x s e =
+    rw e (record { low = omega arith; told = λ h w. refl; few = omega arith; little = omega arith; same = refl })
 
 -- the height still tells how many elements are open
-told_on : (x : List ℕ) (s : State) (a : List ℕ) (tag : Tag) (s' : State) (a' : List ℕ) → Alike (run_in x s' a') (step_on (run_in x s a) (view_in x tag)) → Told s → Told s'
+told_on : (x : List ℕ) (s : State) (tag : Tag) (s' : State) → Alike (run_in x s') (step_on (run_in x s) (view_in x tag)) → Told s → Told s'
 unfolding step_on
-told_on x s a tag s' a' g told h w =
-    let t : Trunk = (run_in x s a).trunk in
+told_on x s tag s' g told h w =
+    let t : Trunk = trunk_of s.tree in
     let v : View = view_in x tag in
     let low = or-false s.high _ (sym g.high ∙ h) in
-    let same : trunk_of_of s'.tree a' ≡ grow t v = g.trunk (sym g.high ∙ h) in
+    let same : trunk_of s'.tree ≡ grow t v = g.trunk (sym g.high ∙ h) in
     let whole : (grow t v).broken ≡ false = ap (λ (z : Trunk). z.broken) (sym same) ∙ w in
     let was : s.tree.broken ≡ false = unbroken t v whole in
-    let here : s.height ≡ pos (length t.stack) = told low.0 was ∙ ap pos (sym (stack_length a s.tree.depth)) in
-    g.height ∙ height_grown s.height t v here was whole
-    ∙ ap (λ (z : Trunk). pos (length z.stack)) (sym same) ∙ ap pos (stack_length a' s'.tree.depth)
+    g.height ∙ height_grown s.height t v (told low.0 was) was whole ∙ ap (λ (z : Trunk). pos (length z.stack)) (sym same)
   where
     unbroken : (t : Trunk) (v : View) → (grow t v).broken ≡ false → t.broken ≡ false
     unbroken t v e = go t.broken refl
@@ -140,7 +136,7 @@ module _ (x : List ℕ) (at : ℕ) (h : at < length x) where
   left : tokens_from (drop at x) ≡ more_tokens tokens_from (get_or x at 0 ∷ drop (suc at) x) (next (drop at x))
   left = tokens-by (drop at x) ∙ ap (λ (z : List ℕ). more_tokens tokens_from z (next (drop at x))) here
 
-  pub going_bad : (r : Run) {a : Verdict} → sight_in x Bad ≡ brief (next (drop at x)) → settle r (tokens_from (drop at x)) ≡ a → NotTags ≡ a
+  pub going_bad : (r : Run) {a : Verdict} → sight_in x None ≡ brief (next (drop at x)) → settle r (tokens_from (drop at x)) ≡ a → NotTags ≡ a
   unfolding sight_in brief settle
   going_bad r {a} e same = go (next (drop at x)) refl
     where
@@ -148,7 +144,7 @@ module _ (x : List ℕ) (at : ℕ) (h : at < length x) where
       go bad i = sym (ap (settle r) (left ∙ ap (more_tokens tokens_from (get_or x at 0 ∷ drop (suc at) x)) i)) ∙ same
       go (got t l) i = absurd (let no_way : ◌≡◌ {A = ℕ} 0 1 = cc in omega arith)
 
-  module _ (tag : Tag) (e : ℕ) (is : sight_in x (TokenV tag e) ≡ brief (next (drop at x))) where
+  module _ (tag : Tag) (e : ℕ) (is : sight_in x (Some (tag, e)) ≡ brief (next (drop at x))) where
     pub got_one : (t : Token) × (next (drop at x) ≡ got t (drop e x)) × (view t ≡ view_in x tag)
     unfolding sight_in brief
     got_one = go (next (drop at x)) refl
@@ -166,49 +162,51 @@ module _ (x : List ℕ) (at : ℕ) (h : at < length x) where
         let less : length (drop e x) < length (drop at x) = subst (Shorter (length (drop at x))) got_one.1 (next_shorter (drop at x)) in
         omega (arith, length-drop e x, length-drop at x)
 
-    pub going_turn : (a a' : List ℕ) (s s' : State) → length a' ≡ length a → Stepped x s a tag s' a' → Going x a s at → Going x a' s' e
+    pub going_turn : (s s' : State) → Alike (run_in x s') (step_on (run_in x s) (view_in x tag)) → Going x s at → Going x s' e
     unfolding step_on
-    going_turn a a' s s' el st g =
+    going_turn s s' st g =
         let on : at < e = going_on in
-        let eh : s'.height ≡ rise s.height (view_in x tag) = st.alike.height in
-        let ec : s'.marks.chapters ≡ (pair_up (run_in x s a).pairs (view_in x tag)).chapters = ap (λ (p : Pairs). p.chapters) st.alike.pairs in
-        let ev : s'.marks.verses ≡ (pair_up (run_in x s a).pairs (view_in x tag)).verses = ap (λ (p : Pairs). p.verses) st.alike.pairs in
+        let eh : s'.height ≡ rise s.height (view_in x tag) = st.height in
+        let ec : s'.marks.chapter.begun ≡ (pair_up (run_in x s).pairs (view_in x tag)).chapters = ap (λ (p : Pairs). p.chapters) st.pairs in
+        let ev : s'.marks.verse.begun ≡ (pair_up (run_in x s).pairs (view_in x tag)).verses = ap (λ (p : Pairs). p.verses) st.pairs in
         let t : Token = got_one.0 in
         record {
-          long = el ∙ g.long;
           low = omega (arith, ap mag eh, mag_rise s.height (view_in x tag), g.low);
-          deep = st.deep;
-          told = told_on x s a tag s' a' st.alike g.told;
-          few = omega (arith, ec, (pair-count (run_in x s a).pairs (view_in x tag)).0, g.few);
-          little = omega (arith, ev, (pair-count (run_in x s a).pairs (view_in x tag)).1, g.little);
+          told = told_on x s tag s' st g.told;
+          few = omega (arith, ec, (pair-count (run_in x s).pairs (view_in x tag)).0, g.few);
+          little = omega (arith, ev, (pair-count (run_in x s).pairs (view_in x tag)).1, g.little);
           same =
-              alike_settle st.alike (tokens_from (drop e x))
-              ∙ ap (λ (v : View). settle (step_on (run_in x s a) v) (tokens_from (drop e x))) (sym got_one.2)
-              ∙ sym (settle-onto (run_in x s a) t (tokens_from (drop e x)))
-              ∙ sym (ap (settle (run_in x s a)) (left ∙ ap (more_tokens tokens_from (get_or x at 0 ∷ drop (suc at) x)) got_one.1))
+              alike_settle st (tokens_from (drop e x))
+              ∙ ap (λ (v : View). settle (step_on (run_in x s) v) (tokens_from (drop e x))) (sym got_one.2)
+              ∙ sym (settle-onto (run_in x s) t (tokens_from (drop e x)))
+              ∙ sym (ap (settle (run_in x s)) (left ∙ ap (more_tokens tokens_from (get_or x at 0 ∷ drop (suc at) x)) got_one.1))
               ∙ g.same;
         }
 
-pub going_end : (x a : List ℕ) (s : State) (at : ℕ) {r : Verdict} → length x ≤ at → r ≡ verdict_of (run_in x s a) → Going x a s at → r ≡ settle at_start (tokens_from x)
+pub going_end : (x : List ℕ) (s : State) (at : ℕ) {r : Verdict} → length x ≤ at → r ≡ verdict_of (run_in x s) → Going x s at → r ≡ settle at_start (tokens_from x)
 unfolding settle fold_on tokens_from tokens_at
-going_end x a s at h e g = e ∙ sym (ap (λ (z : List ℕ). settle (run_in x s a) (tokens_from z)) (drop_of_length-le x h)) ∙ g.same
+going_end x s at h e g = e ∙ sym (ap (λ (z : List ℕ). settle (run_in x s) (tokens_from z)) (drop_of_length-le x h)) ∙ g.same
 
 -- ---- the opening and the end
+
+-- a text no longer than the word begins with it where the two are equal
+begins_pointwise : (w s : List ℕ) → length s ≤ length w → pointwise eqb w s ≡ begins w s
+unfolding begins
+begins_pointwise [] [] h = refl
+begins_pointwise [] (y ∷ s) h = absurd (omega arith)
+begins_pointwise (x ∷ w) [] h = refl
+begins_pointwise (x ∷ w) (y ∷ s) h = ap (λ (t : Bool). eqb x y && t) (begins_pointwise w s (omega arith))
 
 module _ (x : List ℕ) {t : Bool} (e : t ≡ begins opening x) where
   pub not_opened : t ≡ false → NotTags ≡ fold_verdict x
   unfolding fold_verdict tokens settle
   not_opened h = rw (← e, h)
 
-  module _ (h : t ≡ true) where
-    pub opening_in : 6 ≤ length x
-    opening_in = omega (arith, begins-fits opening x (sym e ∙ h))
+  module _ (h : t ≡ true) {u : Bool} (f : u ≡ pointwise eqb closing (drop (length x - 6) x)) where
+    pub not_closed : u ≡ false → NotTags ≡ fold_verdict x
+    unfolding fold_verdict tokens settle
+    not_closed l = rw (← e, h, ← begins_pointwise closing (drop (length x - 6) x) (omega (arith, length-drop (length x - 6) x)), ← f, l)
 
-    module _ {r : List ℕ} (er : r ≡ drop (length x - 6) x) {u : Bool} (f : u ≡ begins closing r) where
-      pub not_closed : u ≡ false → NotTags ≡ fold_verdict x
-      unfolding fold_verdict tokens settle
-      not_closed l = rw (← e, h, ← er, ← f, l)
-
-      pub in_form : {a : Verdict} → u ≡ true → a ≡ settle at_start (tokens_from x) → a ≡ fold_verdict x
-      unfolding fold_verdict tokens
-      in_form l z = rw (← e, h, ← er, ← f, l) z
+    pub in_form : {a : Verdict} → u ≡ true → a ≡ settle at_start (tokens_from x) → a ≡ fold_verdict x
+    unfolding fold_verdict tokens
+    in_form l z = rw (← e, h, ← begins_pointwise closing (drop (length x - 6) x) (omega (arith, length-drop (length x - 6) x)), ← f, l) z

@@ -1,22 +1,18 @@
 -- What the code's values stand for.
-use Rattle.std.specs.Prelude.{ℕ, zero, suc, ◌≤◌, ◌≡◌, false, List, [], ◌∷◌, take, drop, get_or, ℤ, pos}
+use Rattle.std.specs.Prelude.{ℕ, ◌+◌, ◌^◌, ◌<◌, ◌≡◌, Bool, true, false, [], Option, Some, None, length, take, drop, pos}
 use Rattle.parts.specs.Bytes.{Bytes}
 use Rattle.tags.specs.Form.{Read, bad, got}
 use Rattle.checker.specs.View.{Mark, bare, plain, other, start, ends, View, words, opened, closed, single, view}
-use Rattle.checker.specs.Steps.{rise, Trunk, Held, shut, held, Turned, begun, ended, wrong, Pairs}
-use Rattle.checker.specs.Check.{Run, step_on, Alike}
+use Rattle.checker.specs.Steps.{Trunk, Held, shut, held, Turned, begun, ended, wrong, turn, Pairs}
+use Rattle.checker.specs.Check.{Run}
+use Rattle.checker.specs.Stack.{room}
 use Rattle.checker.specs.declared.Part.{Part}
 use Rattle.checker.specs.declared.Form.{Form}
 use Rattle.checker.specs.declared.Form.TheVariants.{Bare, Plain, Start, End, Other}
 use Rattle.checker.specs.declared.Tag.{Tag}
 use Rattle.checker.specs.declared.Tag.TheVariants.{Words, Opened, Closed, Single}
-use Rattle.checker.specs.declared.Next.{Next}
-use Rattle.checker.specs.declared.Next.TheVariants.{Bad, Token as TokenV}
 use Rattle.checker.specs.declared.Tree.{Tree}
-use Rattle.checker.specs.declared.Open.{Open}
-use Rattle.checker.specs.declared.Open.TheVariants.{At, Shut}
-use Rattle.checker.specs.declared.Turn.{Turn}
-use Rattle.checker.specs.declared.Turn.TheVariants.{Begun, Ended, Wrong}
+use Rattle.checker.specs.declared.Kind.{Kind}
 use Rattle.checker.specs.declared.Marks.{Marks}
 use Rattle.checker.specs.declared.State.{State}
 
@@ -50,69 +46,80 @@ brief bad = nothing
 brief (got t r) = sight (view t) r
 
 -- the next token and its end
-unfoldable pub sight_in : Bytes → Next → Sight
-sight_in s Bad = nothing
-sight_in s (TokenV t e) = sight (view_in s t) (drop e s)
+unfoldable pub sight_in : Bytes → Option (Tag × ℕ) → Sight
+sight_in s None = nothing
+sight_in s (Some n) = sight (view_in s n.0) (drop n.1 s)
 
--- the room of the code's list of open elements, enough for every height that is not over 160
-abbrev pub room : ℕ
-room = 160
+-- the tree so far
+abbrev pub trunk_of : Tree → Trunk
+trunk_of t = record { stack = t.stack; seen = t.seen; done = t.done; broken = t.broken }
 
--- the first elements of the list, the last of them innermost
-unfoldable pub stack_of : List ℕ → ℕ → List ℕ
-stack_of a zero = []
-stack_of a (suc d) = get_or a d 0 ∷ stack_of a d
-
--- the tree so far: the open elements are as many of the list as the depth
-abbrev pub trunk_of_of : Tree → List ℕ → Trunk
-trunk_of_of t a = record { stack = stack_of a t.depth; seen = t.seen; done = t.done; broken = t.broken }
+-- there is room for what a tag opens
+abbrev pub HasRoom : Tree → Tag → Type 0
+HasRoom t tag = (n : ℕ) → tag ≡ Opened n → length t.stack < room
 
 -- what is open of a kind
-unfoldable pub held_in : Bytes → Open → Held
-held_in s Shut = shut
-held_in s (At p) = held (bytes_of s p)
+unfoldable pub held_in : Bytes → Option Part → Held
+held_in s None = shut
+held_in s (Some p) = held (bytes_of s p)
 
 -- what a chapter or verse tag does
-unfoldable pub turn_in : Bytes → Turn → Turned
-turn_in s (Begun p) = begun (bytes_of s p)
-turn_in s Ended = ended
-turn_in s Wrong = wrong
+abbrev pub turn_in : Bytes → Kind → Form → Turned
+turn_in s k f = turn (held_in s k.held) (mark_in s f)
+
+-- what is open of its kind then
+unfoldable pub held_then : Turned → Held → Held
+held_then (begun i) h = held i
+held_then ended h = shut
+held_then wrong h = h
+
+-- how many of its kind began then
+unfoldable pub begun_then : Turned → ℕ → ℕ
+begun_then (begun i) n = n + 1
+begun_then ended n = n
+begun_then wrong n = n
+
+-- whether it may stand there
+unfoldable pub is_right : Turned → Bool
+is_right (begun i) = true
+is_right ended = true
+is_right wrong = false
 
 -- the milestones so far
 abbrev pub pairs_in : Bytes → Marks → Pairs
 pairs_in s m =
     record {
-      chapter = held_in s m.chapter;
-      verse = held_in s m.verse;
-      chapters = m.chapters;
-      verses = m.verses;
+      chapter = held_in s m.chapter.held;
+      verse = held_in s m.verse.held;
+      chapters = m.chapter.begun;
+      verses = m.verse.begun;
       amiss = m.wrong;
     }
 
--- the state, with the list of open elements
-abbrev pub run_in : Bytes → State → List ℕ → Run
-run_in s z a =
-    record { height = z.height; high = z.high; trunk = trunk_of_of z.tree a; pairs = pairs_in s z.marks }
+-- one milestone more of each kind can be counted
+abbrev pub CanCount : Marks → Type 0
+CanCount m = (m.chapter.begun + 1 < 2 ^ 64) × (m.verse.begun + 1 < 2 ^ 64)
 
--- the state at the start of a text
+-- the state
+abbrev pub run_in : Bytes → State → Run
+run_in s z = record { height = z.height; high = z.high; trunk = trunk_of z.tree; pairs = pairs_in s z.marks }
+
+-- the tree at the start of a text
+abbrev pub tree_at_start : Tree
+tree_at_start = record { stack = []; seen = false; done = false; broken = false }
+
+-- the chapters or the verses there
+abbrev pub kind_at_start : Kind
+kind_at_start = record { held = None; begun = 0 }
+
+-- the milestones there
+abbrev pub marks_at_start : Marks
+marks_at_start = record { chapter = kind_at_start; verse = kind_at_start; wrong = false }
+
+-- the state there
 abbrev pub state_at_start : State
-state_at_start =
-    record {
-      height = pos 0;
-      high = false;
-      tree = record { depth = 0; seen = false; done = false; broken = false };
-      marks = record { chapter = Shut; verse = Shut; chapters = 0; verses = 0; wrong = false };
-    }
+state_at_start = record { height = pos 0; high = false; tree = tree_at_start; marks = marks_at_start }
 
 -- the height tells how many elements are open, unless one was over 160 or the tree is broken
 abbrev pub Told : State → Type 0
-Told s = s.high ≡ false → s.tree.broken ≡ false → s.height ≡ pos s.tree.depth
-
--- the same of the height behind one tag more
-abbrev pub TellsNext : Tree → Tag → ℤ → Type 0
-TellsNext t tag h = t.broken ≡ false → (s : Bytes) → h ≡ rise (pos t.depth) (view_in s tag)
-
--- one token more, from one state and its list to another: as `stepOn` says, and the depth keeps within the room
-pub record Stepped (x : Bytes) (s : State) (a : List ℕ) (tag : Tag) (r : State) (z : List ℕ) : Type 0 where
-  pub alike : Alike (run_in x r z) (step_on (run_in x s a) (view_in x tag))
-  pub deep : r.tree.depth ≤ room
+Told s = s.high ≡ false → s.tree.broken ≡ false → s.height ≡ pos (length s.tree.stack)

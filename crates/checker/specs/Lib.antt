@@ -4,5 +4,6 @@ pub mod Words
 pub mod Steps
 pub mod Meaning
 pub mod Check
+pub mod Stack
 pub mod Code
 pub mod Place

@@ -1,20 +1,20 @@
 #![tactic(auto)]
 // The checker of finished text: one pass over the bytes, a state folded over the tokens, no heap.
-ghost use Rattle.std.specs.Prelude.{◌≡◌, ℕ, ◌+◌, ◌-◌, ◌≤◌, ◌<◌, ◌^◌, List, false, ◌||◌, length, drop, pos, ◌+ℤ◌, ◌-ℤ◌};
-ghost use Rattle.std.specs.Int.Signed.{mag, lt_z};
-ghost use Rattle.std.specs.Int.{w64};
-ghost use Rattle.std.proofs.Common.{SFits};
+ghost use Rattle.std.specs.Prelude.{◌≡◌, ℕ, ◌+◌, ◌-◌, ◌≤◌, ◌<◌, ◌^◌, List, [], ◌∷◌, false, cond, length, drop};
+ghost use Rattle.std.specs.Int.Signed.{mag};
 ghost use Rattle.tags.specs.Form.{pairs_row, tagged, next, tokens_from};
-ghost use Rattle.checker.specs.View.{id_key_of, bare, noted_by, noted, mark_on, single as single_v};
+ghost use Rattle.checker.specs.View.{id_key_of, bare, noted_by, mark_on};
 ghost use Rattle.checker.specs.Answer.{answer_of};
-ghost use Rattle.checker.specs.Words.{highest, Judged};
-ghost use Rattle.checker.specs.Steps.{rise, broke, push, pop, grow, turn, missed, chapter_to_of, verse_to, is_shut, is_held, is_milestone, pair_up};
-ghost use Rattle.checker.specs.Check.{at_start, one_tree, paired_off, verdict_of, settle, fold_verdict};
-ghost use Rattle.checker.specs.Code.{bytes_of, mark_in, view_in, brief, sight_in, room, stack_of, trunk_of_of, held_in, turn_in, pairs_in, run_in, state_at_start, Told, TellsNext, Stepped};
-ghost use Rattle.checker.specs.Place.{is_broken, broken_from, broken_place, line_end, line_ends, line_of};
+ghost use Rattle.checker.specs.Words.{Judged};
+ghost use Rattle.checker.specs.Steps.{rise, broke, pop, grow_in, grow, missed, is_milestone, pair_up};
+ghost use Rattle.checker.specs.Check.{at_start, step_on, none_open_of, one_tree, paired_off, verdict_of, settle, Alike};
+ghost use Rattle.checker.specs.Stack.{room, is_innermost};
+ghost use Rattle.checker.specs.Code.{bytes_of, mark_in, view_in, brief, sight_in, trunk_of, HasRoom, held_in, turn_in, held_then, begun_then, is_right, CanCount, pairs_in, run_in, tree_at_start, kind_at_start, marks_at_start, state_at_start, Told};
+ghost use Rattle.checker.specs.Place.{is_broken, broken_from, broken_place, line_ends, line_of};
 
-use parts::{begins_with, from, part, same};
-use tags::{Element, Found, Head, Tail, head_at, pair_at, tail_at};
+use parts::{begins_with, from, part};
+use std::marker::Model;
+use tags::{Element, Head, Tail, head_at, pair_at, tail_at};
 
 // The greatest height that a text may have.
 const HIGHEST: i64 = 160;
@@ -54,6 +54,7 @@ struct Attrs {
     end: usize,
 }
 
+// A token; elements are numbers, as `tags` gives them.
 #[derive(Clone, Copy)]
 enum Tag {
     Words,
@@ -62,45 +63,49 @@ enum Tag {
     Single(u8, Form),
 }
 
-// The next token, and where it ends.
-#[derive(Clone, Copy)]
-enum Next {
-    Bad,
-    Token(Tag, usize),
+// The elements that are open, the innermost last; of fixed room, as there is no heap.
+#[derive(Drop)]
+struct Stack {
+    elements: [u8; ROOM],
+    depth: usize,
 }
 
-// The elements still open stand in a stack beside it, as many as depth.
-#[derive(Clone, Copy)]
+impl Model for Stack {
+    ghost use Rattle.std.specs.Prelude.{ℕ, ◌≤◌, List};
+    ghost use Rattle.checker.specs.Stack.{room, stack_of};
+
+    ghost Value = { List ℕ };
+
+    ghost view = { λ s. stack_of s.elements s.depth };
+
+    ghost invariant = { λ s. s.depth ≤ room };
+}
+
+// The tree so far; the flags are those of `Trunk` in specs/Steps.
+#[derive(Drop)]
 struct Tree {
-    depth: usize,
+    stack: Stack,
     seen: bool,
     done: bool,
     broken: bool,
 }
 
+// The chapters or the verses so far: the one that is open, by its identifier, and how many began.
 #[derive(Clone, Copy)]
-enum Open {
-    At(Part),
-    Shut,
-}
-
-#[derive(Clone, Copy)]
-enum Turn {
-    Begun(Part),
-    Ended,
-    Wrong,
+struct Kind {
+    held: Option<Part>,
+    begun: usize,
 }
 
 #[derive(Clone, Copy)]
 struct Marks {
-    chapter: Open,
-    verse: Open,
-    chapters: usize,
-    verses: usize,
+    chapter: Kind,
+    verse: Kind,
     wrong: bool,
 }
 
-#[derive(Clone, Copy)]
+// The fold over the tokens.
+#[derive(Drop)]
 struct State {
     height: i64,
     high: bool,
@@ -126,586 +131,425 @@ fn part_of(s: &[u8], p: Part) -> &[u8]
     part(s, p.start, p.len)
 }
 
+#[tactic(auto, using(crate::proofs::Laws::pointwise_same), unfolding(crate::specs::View::id_key_of))]
 fn key_of(key: &[u8]) -> IdKey
     ensures { result ≡ id_key_of key.now }
 {
-    if same(key, b"eid") {
-        return IdKey::Eid;
+    if key == b"eid".as_slice() {
+        IdKey::Eid
+    } else if key == b"sid".as_slice() {
+        IdKey::Sid
+    } else {
+        IdKey::Another
     }
-    if same(key, b"sid") {
-        return IdKey::Sid;
-    }
-    IdKey::Another
 }
 
 // The form with one more attribute.
+#[tactic(auto, unfolding(crate::specs::Code::mark_in, crate::specs::View::noted_by))]
 fn formed(form: Form, key: IdKey, value: Part) -> Form
     ensures { (s : List ℕ) → mark_in s result ≡ noted_by (mark_in s form) key (bytes_of s value) }
 {
-    match form {
-        Form::Bare => match key {
-            IdKey::Eid => Form::End(value),
-            IdKey::Sid => Form::Start(value),
-            IdKey::Another => Form::Plain,
-        },
-        Form::Plain => match key {
-            IdKey::Eid => Form::Other,
-            IdKey::Sid => Form::Start(value),
-            IdKey::Another => Form::Plain,
-        },
-        Form::Start(p) => match key {
-            IdKey::Eid => Form::Other,
-            IdKey::Sid => Form::Other,
-            IdKey::Another => Form::Start(p),
-        },
-        Form::End(_) => Form::Other,
-        Form::Other => Form::Other,
+    match (form, key) {
+        (Form::Bare, IdKey::Eid) => Form::End(value),
+        (Form::Bare | Form::Plain, IdKey::Sid) => Form::Start(value),
+        (Form::Bare | Form::Plain, IdKey::Another) => Form::Plain,
+        (Form::Start(id), IdKey::Another) => Form::Start(id),
+        _ => Form::Other,
     }
 }
 
-fn with_attr(form: Form, key: &[u8], value: Part) -> Form
-    ensures { (s : List ℕ) → mark_in s result ≡ noted (mark_in s form) (record { key = key.entry.now; value = bytes_of s value }) }
-{
-    formed(form, key_of(key), value)
-}
-
 // The attributes from a place on: what they make the tag, and where they end.
+#[tactic(auto, using(crate::proofs::Laws::attrs_in))]
 fn attrs_at(text: &[u8], at: usize) -> Attrs
     ensures { (drop result.«end» text.now ≡ (pairs_row (drop at text.now)).rest) × (mark_in text.now result.form ≡ mark_on bare (pairs_row (drop at text.now)).list) }
 {
     let mut form = Form::Bare;
     let mut i = at;
-    let mut next = pair_at(from(text, i));
-    while let Found::Got(k, v) = next {
-        let key = part(from(text, i), 1, k);
-        form = with_attr(
-            form,
-            key,
-            Part {
-                start: i + (k + 3),
-                len: v,
-            },
-        );
+    // A `while`: each turn passes a whole attribute.
+    while let Some((k, v)) = pair_at(from(text, i)) {
+        let key = part(text, i + 1, k);
+        let value = Part {
+            start: i + k + 3,
+            len: v,
+        };
+        form = formed(form, key_of(key), value);
         i += k + v + 4;
-        next = pair_at(from(text, i));
     }
     Attrs { form, end: i }
 }
 
 // Behind `<name`.
-fn tag_at(text: &[u8], n: u8, at: usize) -> Next
+#[tactic(auto, using(crate::proofs::Laws::open_in, crate::proofs::Laws::empty_in, crate::proofs::Laws::tag_open, crate::proofs::Laws::tag_empty, crate::proofs::Laws::tag_bad))]
+fn tag_at(text: &[u8], n: u8, at: usize) -> Option<(Tag, usize)>
     ensures { sight_in text.now result ≡ brief (tagged n (drop at text.now)) }
 {
-    let a = attrs_at(text, at);
-    let form = a.form;
-    let end = a.end;
+    let Attrs { form, end } = attrs_at(text, at);
     match tail_at(from(text, end)) {
-        Tail::Open => Next::Token(Tag::Opened(n), end + 1),
-        Tail::Empty => Next::Token(Tag::Single(n, form), end + 3),
-        Tail::Neither => Next::Bad,
+        Tail::Open => Some((Tag::Opened(n), end + 1)),
+        Tail::Empty => Some((Tag::Single(n, form), end + 3)),
+        Tail::Neither => None,
     }
 }
 
-fn next_at(text: &[u8], at: usize) -> Next
+// The next token, and where it ends.
+#[tactic(auto, using(crate::proofs::Laws::next_bad, crate::proofs::Laws::words_in, crate::proofs::Laws::next_words, crate::proofs::Laws::closing_in, crate::proofs::Laws::next_closing, crate::proofs::Laws::opening_in, crate::proofs::Laws::next_opening))]
+fn next_at(text: &[u8], at: usize) -> Option<(Tag, usize)>
     ensures { sight_in text.now result ≡ brief (next (drop at text.now)) }
 {
     match head_at(from(text, at)) {
-        Head::Bad => Next::Bad,
-        Head::Words(k) => Next::Token(Tag::Words, at + k),
-        Head::Closing(n, l) => Next::Token(Tag::Closed(n), at + l),
+        Head::Bad => None,
+        Head::Words(k) => Some((Tag::Words, at + k)),
+        Head::Closing(n, l) => Some((Tag::Closed(n), at + l)),
         Head::Opening(n, l) => tag_at(text, n, at + l),
     }
 }
 
 // ---- heights
 
-fn up(h: i64) -> i64
-    requires { SFits w64 (h +ℤ pos 1) }
-    ensures { result ≡ h +ℤ pos 1 }
-{
-    h + 1
-}
-
-fn down(h: i64) -> i64
-    requires { SFits w64 (h -ℤ pos 1) }
-    ensures { result ≡ h -ℤ pos 1 }
-{
-    h - 1
-}
-
-fn over(h: i64) -> bool
-    ensures { result ≡ lt_z (pos highest) h }
-{
-    h > HIGHEST
-}
-
-// A height below zero: a closing tag with nothing open.
-fn under(h: i64) -> bool
-    ensures { result ≡ lt_z h (pos 0) }
-{
-    h < 0
-}
-
+#[tactic(auto, using(crate::proofs::Folds::up_fits, crate::proofs::Folds::down_fits), unfolding(crate::specs::Steps::rise, crate::specs::Code::view_in))]
 fn level(h: i64, tag: Tag) -> i64
     requires { mag h + 1 < 2 ^ 63 }
     ensures { (s : List ℕ) → result ≡ rise h (view_in s tag) }
 {
     match tag {
-        Tag::Words => h,
-        Tag::Opened(_) => up(h),
-        Tag::Closed(_) => down(h),
-        Tag::Single(_, _) => h,
+        Tag::Opened(_) => h + 1,
+        Tag::Closed(_) => h - 1,
+        Tag::Words | Tag::Single(_, _) => h,
     }
-}
-
-fn is_high(high: bool, h: i64) -> bool
-    ensures { result ≡ (high || lt_z (pos highest) h) }
-{
-    if high {
-        return true;
-    }
-    over(h)
 }
 
 // ---- one tree
 
-fn broken(t: Tree) -> Tree
-    ensures { (a : List ℕ) → trunk_of_of result a ≡ broke (trunk_of_of t a) }
-{
-    Tree {
-        depth: t.depth,
-        seen: t.seen,
-        done: t.done,
-        broken: true,
+impl Stack {
+    #[tactic(auto, unfolding(crate::specs::Stack::stack_of))]
+    fn new() -> Self
+        ensures { result ≡ [] }
+    {
+        Stack {
+            elements: [0; ROOM],
+            depth: 0,
+        }
+    }
+
+    #[tactic(auto, using(crate::proofs::Folds::none_open))]
+    fn is_empty(&self) -> bool
+        ensures { result ≡ none_open_of self.now }
+    {
+        self.depth == 0
+    }
+
+    #[tactic(auto, using(crate::proofs::Folds::stack_length, crate::proofs::Folds::push_in))]
+    fn push(&mut self, element: u8)
+        requires { length self.old < room }
+        ensures { self.new ≡ element ∷ self.old }
+    {
+        self.elements[self.depth] = element;
+        self.depth += 1;
+    }
+
+    // Takes the innermost element away, if it is this one.
+    #[tactic(auto, using(crate::proofs::Folds::innermost_in, crate::proofs::Folds::innermost_other, crate::proofs::Folds::innermost_none, crate::proofs::Folds::popped_in))]
+    fn pop_if(&mut self, element: u8) -> bool
+        ensures found { result ≡ is_innermost self.old element }
+        ensures popped { self.new ≡ cond result (drop 1 self.old) self.old }
+    {
+        if self.depth > 0 && self.elements[self.depth - 1] == element {
+            self.depth -= 1;
+            true
+        } else {
+            false
+        }
     }
 }
 
-fn pushed(t: Tree, stack: &mut [u8], n: u8, seen: bool) -> Tree
-    requires { t.depth < length stack.old }
-    ensures { trunk_of_of result stack.new ≡ push (trunk_of_of t stack.old) n seen }
-{
-    let d = t.depth;
-    stack[d] = n;
-    Tree {
-        depth: d + 1,
-        seen,
-        done: t.done,
-        broken: t.broken,
-    }
-}
-
-fn popped(t: Tree, stack: &[u8], n: u8, height: i64) -> Tree
-    requires { (t.depth ≤ length stack.now) × (height ≡ pos t.depth -ℤ pos 1) }
-    ensures { trunk_of_of result stack.now ≡ pop (trunk_of_of t stack.now) n (stack_of stack.now t.depth) }
-{
-    if under(height) {
-        return broken(t);
-    }
-    let d = t.depth - 1;
-    if stack[d] == n {
+impl Tree {
+    fn new() -> Self
+        ensures { result ≡ tree_at_start }
+    {
         Tree {
-            depth: d,
-            seen: t.seen,
-            done: n == Element::USX,
-            broken: t.broken,
+            stack: Stack::new(),
+            seen: false,
+            done: false,
+            broken: false,
         }
-    } else {
-        broken(t)
     }
-}
 
-// One tag more, and the height behind it, which is not over 160 and tells how many elements are open then.
-fn grown(t: Tree, stack: &mut [u8], tag: Tag, height: i64) -> Tree
-    requires { (length stack.old ≡ room) × (t.depth ≤ room) × TellsNext t tag height × (lt_z (pos highest) height ≡ false) }
-    ensures { (s : List ℕ) → trunk_of_of result stack.new ≡ grow (trunk_of_of t stack.old) (view_in s tag) }
-{
-    if t.broken {
-        return t;
-    }
-    if t.done {
-        return broken(t);
-    }
-    match tag {
-        Tag::Words => t,
-        Tag::Opened(n) => {
-            if n == Element::USX {
-                if t.seen {
-                    return broken(t);
-                }
-                return pushed(t, stack, n, true);
-            }
-            pushed(t, stack, n, t.seen)
+    // One tag more.
+    #[tactic(auto, unfolding(crate::specs::Steps::grow, crate::specs::Steps::broke))]
+    fn grow(&mut self, tag: Tag)
+        requires { self.old.broken ≡ false → HasRoom self.old tag }
+        ensures { (s : List ℕ) → trunk_of self.new ≡ grow (trunk_of self.old) (view_in s tag) }
+    {
+        if self.broken {
+            return;
         }
-        Tag::Closed(n) => popped(t, stack, n, height),
-        Tag::Single(n, _) => {
-            if n == Element::USX {
-                return broken(t);
-            }
-            t
+        if self.done || !self.takes(tag) {
+            self.broken = true;
         }
     }
-}
 
-// Once a height was over 160 the tree is nothing to the answer.
-fn rooted(t: Tree, stack: &mut [u8], tag: Tag, height: i64, high: bool) -> Tree
-    requires { (length stack.old ≡ room) × (t.depth ≤ room) × (high ≡ false → TellsNext t tag height × (lt_z (pos highest) height ≡ false)) }
-    ensures same { high ≡ false → (s : List ℕ) → trunk_of_of result stack.new ≡ grow (trunk_of_of t stack.old) (view_in s tag) }
-    ensures deep { result.depth ≤ room }
-{
-    if high {
-        return t;
+    // One tag more while usx is not closed; false where it may not stand there.
+    #[tactic(auto, unfolding(crate::specs::Steps::grow_in, crate::specs::Steps::broke, crate::specs::Steps::push, crate::specs::Code::view_in))]
+    fn takes(&mut self, tag: Tag) -> bool
+        requires { HasRoom self.old tag }
+        ensures { (s : List ℕ) → grow_in (trunk_of self.old) (view_in s tag) ≡ cond result (trunk_of self.new) (broke (trunk_of self.new)) }
+    {
+        match tag {
+            Tag::Words => true,
+            Tag::Opened(Element::USX) if self.seen => false,
+            Tag::Opened(n) => {
+                self.seen |= n == Element::USX;
+                self.stack.push(n);
+                true
+            }
+            Tag::Closed(n) => self.closes(n),
+            Tag::Single(n, _) => n != Element::USX,
+        }
     }
-    grown(t, stack, tag, height)
+
+    #[tactic(auto, using(crate::proofs::Folds::pop_by), unfolding(crate::specs::Steps::broke))]
+    fn closes(&mut self, n: u8) -> bool
+        ensures { pop (trunk_of self.old) n self.old.stack ≡ cond result (trunk_of self.new) (broke (trunk_of self.new)) }
+    {
+        if self.stack.pop_if(n) {
+            self.done = n == Element::USX;
+            true
+        } else {
+            false
+        }
+    }
+
+    #[tactic(auto, unfolding(crate::specs::Check::one_tree))]
+    fn is_whole(&self) -> bool
+        ensures { result ≡ one_tree (trunk_of self.now) }
+    {
+        !self.broken && self.seen && self.stack.is_empty()
+    }
 }
 
 // ---- milestones
 
-fn amiss(m: Marks) -> Marks
-    ensures { (s : List ℕ) → pairs_in s result ≡ missed (pairs_in s m) }
-{
-    let chapter = m.chapter;
-    let verse = m.verse;
-    Marks {
-        chapter,
-        verse,
-        chapters: m.chapters,
-        verses: m.verses,
-        wrong: true,
-    }
-}
-
-// Whether an end of that identifier belongs to what is open.
-fn closes(text: &[u8], open: Open, id: Part) -> bool
-    ensures { result ≡ is_held (held_in text.now «open») (bytes_of text.now id) }
-{
-    match open {
-        Open::Shut => false,
-        Open::At(q) => same(part_of(text, q), part_of(text, id)),
-    }
-}
-
-fn turned(text: &[u8], open: Open, form: Form) -> Turn
-    ensures { turn_in text.now result ≡ turn (held_in text.now «open») (mark_in text.now form) }
-{
-    match form {
-        Form::Start(p) => match open {
-            Open::Shut => Turn::Begun(p),
-            Open::At(_) => Turn::Wrong,
-        },
-        Form::End(p) => {
-            if closes(text, open, p) {
-                return Turn::Ended;
-            }
-            Turn::Wrong
-        }
-        Form::Bare => Turn::Wrong,
-        Form::Plain => Turn::Wrong,
-        Form::Other => Turn::Wrong,
-    }
-}
-
-fn chapter_to(m: Marks, t: Turn) -> Marks
-    requires { m.chapters + 1 < 2 ^ 64 }
-    ensures { (s : List ℕ) → pairs_in s result ≡ chapter_to_of (pairs_in s m) (turn_in s t) }
-{
-    let verse = m.verse;
-    match t {
-        Turn::Begun(p) => Marks {
-            chapter: Open::At(p),
-            verse,
-            chapters: m.chapters + 1,
-            verses: m.verses,
-            wrong: m.wrong,
-        },
-        Turn::Ended => Marks {
-            chapter: Open::Shut,
-            verse,
-            chapters: m.chapters,
-            verses: m.verses,
-            wrong: m.wrong,
-        },
-        Turn::Wrong => amiss(m),
-    }
-}
-
-fn verse_to(m: Marks, t: Turn) -> Marks
-    requires { m.verses + 1 < 2 ^ 64 }
-    ensures { (s : List ℕ) → pairs_in s result ≡ verse_to (pairs_in s m) (turn_in s t) }
-{
-    let chapter = m.chapter;
-    match t {
-        Turn::Begun(p) => Marks {
-            chapter,
-            verse: Open::At(p),
-            chapters: m.chapters,
-            verses: m.verses + 1,
-            wrong: m.wrong,
-        },
-        Turn::Ended => Marks {
-            chapter,
-            verse: Open::Shut,
-            chapters: m.chapters,
-            verses: m.verses,
-            wrong: m.wrong,
-        },
-        Turn::Wrong => amiss(m),
-    }
-}
-
-fn is_shut(open: Open) -> bool
-    ensures { (s : List ℕ) → result ≡ is_shut (held_in s «open») }
-{
-    match open {
-        Open::Shut => true,
-        Open::At(_) => false,
-    }
-}
-
+#[tactic(auto, unfolding(crate::specs::Steps::is_milestone))]
 fn is_milestone(n: u8) -> bool
     ensures { result ≡ is_milestone n }
 {
-    if n == Element::CHAPTER {
-        return true;
-    }
-    n == Element::VERSE
+    n == Element::CHAPTER || n == Element::VERSE
 }
 
-fn single(text: &[u8], m: Marks, n: u8, form: Form) -> Marks
-    requires { (m.chapters + 1 < 2 ^ 64) × (m.verses + 1 < 2 ^ 64) }
-    ensures { pairs_in text.now result ≡ pair_up (pairs_in text.now m) (single_v n (mark_in text.now form)) }
-{
-    let chapter = m.chapter;
-    let verse = m.verse;
-    if n == Element::CHAPTER {
-        if is_shut(verse) {
-            return chapter_to(m, turned(text, chapter, form));
+impl Kind {
+    fn new() -> Self
+        ensures { result ≡ kind_at_start }
+    {
+        Kind {
+            held: None,
+            begun: 0,
         }
-        return amiss(m);
     }
-    if n == Element::VERSE {
-        return verse_to(m, turned(text, verse, form));
+
+    // One tag more of the kind; false where it is neither a start nor the end of what is open.
+    #[tactic(auto, using(crate::proofs::Laws::pointwise_same), unfolding(crate::specs::Steps::turn, crate::specs::Code::held_in, crate::specs::Code::mark_in, crate::specs::Code::held_then, crate::specs::Code::begun_then, crate::specs::Code::is_right))]
+    fn turn(&mut self, text: &[u8], form: Form) -> bool
+        requires { self.old.begun + 1 < 2 ^ 64 }
+        ensures held { held_in text.now self.new.held ≡ held_then (turn_in text.now self.old form) (held_in text.now self.old.held) }
+        ensures begun { self.new.begun ≡ begun_then (turn_in text.now self.old form) self.old.begun }
+        ensures right { result ≡ is_right (turn_in text.now self.old form) }
+    {
+        match (form, self.held) {
+            (Form::Start(id), None) => {
+                self.held = Some(id);
+                self.begun += 1;
+                true
+            }
+            (Form::End(id), Some(held)) if part_of(text, held) == part_of(text, id) => {
+                self.held = None;
+                true
+            }
+            _ => false,
+        }
     }
-    m
 }
 
-fn paired(text: &[u8], m: Marks, tag: Tag) -> Marks
-    requires { (m.chapters + 1 < 2 ^ 64) × (m.verses + 1 < 2 ^ 64) }
-    ensures { pairs_in text.now result ≡ pair_up (pairs_in text.now m) (view_in text.now tag) }
-{
-    match tag {
-        Tag::Words => m,
-        Tag::Opened(n) => {
-            if is_milestone(n) {
-                return amiss(m);
-            }
-            m
+impl Marks {
+    fn new() -> Self
+        ensures { result ≡ marks_at_start }
+    {
+        Marks {
+            chapter: Kind::new(),
+            verse: Kind::new(),
+            wrong: false,
         }
-        Tag::Closed(n) => {
-            if is_milestone(n) {
-                return amiss(m);
-            }
-            m
+    }
+
+    // One tag more.
+    #[tactic(auto, unfolding(crate::specs::Steps::missed))]
+    fn add(&mut self, text: &[u8], tag: Tag)
+        requires { CanCount self.old }
+        ensures { pairs_in text.now self.new ≡ pair_up (pairs_in text.now self.old) (view_in text.now tag) }
+    {
+        if !self.takes(text, tag) {
+            self.wrong = true;
         }
-        Tag::Single(n, form) => single(text, m, n, form),
+    }
+
+    // One tag more; false where it may not stand there.
+    #[tactic(auto, using(crate::proofs::Folds::chapter_taken, crate::proofs::Folds::chapter_left, crate::proofs::Folds::verse_taken), unfolding(crate::specs::Steps::pair_up, crate::specs::Steps::missed, crate::specs::Code::view_in))]
+    fn takes(&mut self, text: &[u8], tag: Tag) -> bool
+        requires { CanCount self.old }
+        ensures { pair_up (pairs_in text.now self.old) (view_in text.now tag) ≡ cond result (pairs_in text.now self.new) (missed (pairs_in text.now self.new)) }
+    {
+        match tag {
+            Tag::Words => true,
+            Tag::Opened(n) | Tag::Closed(n) => !is_milestone(n),
+            Tag::Single(Element::CHAPTER, form) => self.verse.held.is_none()
+                && self.chapter.turn(text, form),
+            Tag::Single(Element::VERSE, form) => self.verse.turn(text, form),
+            Tag::Single(_, _) => true,
+        }
+    }
+
+    #[tactic(auto, unfolding(crate::specs::Check::paired_off, crate::specs::Steps::is_shut, crate::specs::Code::held_in))]
+    fn is_whole(&self) -> bool
+        ensures { (s : List ℕ) → result ≡ paired_off (pairs_in s self.now) }
+    {
+        !self.wrong && self.chapter.held.is_none() && self.verse.held.is_none()
     }
 }
 
 // ---- the whole
 
-fn at_start() -> State
-    ensures { result ≡ state_at_start }
-{
-    State {
-        height: 0,
-        high: false,
-        tree: Tree {
-            depth: 0,
-            seen: false,
-            done: false,
-            broken: false,
-        },
-        marks: Marks {
-            chapter: Open::Shut,
-            verse: Open::Shut,
-            chapters: 0,
-            verses: 0,
-            wrong: false,
-        },
-    }
-}
-
-fn step(text: &[u8], s: State, stack: &mut [u8], tag: Tag) -> State
-    requires { (length stack.old ≡ room) × (mag s.height + 1 < 2 ^ 63) × (s.tree.depth ≤ room) × (s.marks.chapters + 1 < 2 ^ 64) × (s.marks.verses + 1 < 2 ^ 64) × Told s }
-    ensures { Stepped text.now s stack.old tag result stack.new }
-{
-    let t = s.tree;
-    let m = s.marks;
-    let height = level(s.height, tag);
-    let high = is_high(s.high, height);
-    let tree = rooted(t, stack, tag, height, high);
-    let marks = paired(text, m, tag);
-    State {
-        height,
-        high,
-        tree,
-        marks,
-    }
-}
-
-fn judged(s: State, stack: &[u8]) -> Verdict
-    ensures { (x : List ℕ) → result ≡ verdict_of (run_in x s stack.now) }
-{
-    let t = s.tree;
-    let m = s.marks;
-    if s.high {
-        return Verdict::TooHigh;
-    }
-    if is_tree(t) {
-        if is_paired(m) {
-            return Verdict::Accepted {
-                chapters: m.chapters,
-                verses: m.verses,
-            };
+impl State {
+    fn new() -> Self
+        ensures { result ≡ state_at_start }
+    {
+        State {
+            height: 0,
+            high: false,
+            tree: Tree::new(),
+            marks: Marks::new(),
         }
-        return Verdict::BadMarks;
     }
-    Verdict::NoTree
-}
 
-fn is_tree(t: Tree) -> bool
-    ensures { (a : List ℕ) → result ≡ one_tree (trunk_of_of t a) }
-{
-    if t.broken {
-        return false;
+    // One tag more; once a height was over 160 the tree is nothing to the answer.
+    #[tactic(auto, unfolding(crate::specs::Check::step_on))]
+    fn step(&mut self, text: &[u8], tag: Tag)
+        requires low { mag self.old.height + 1 < 2 ^ 63 }
+        requires few { CanCount self.old.marks }
+        requires told { Told self.old }
+        ensures { Alike (run_in text.now self.new) (step_on (run_in text.now self.old) (view_in text.now tag)) }
+    {
+        self.height = level(self.height, tag);
+        self.high |= self.height > HIGHEST;
+        if !self.high {
+            self.tree.grow(tag);
+        }
+        self.marks.add(text, tag);
     }
-    if t.seen {
-        return t.depth == 0;
-    }
-    false
-}
 
-fn is_paired(m: Marks) -> bool
-    ensures { (s : List ℕ) → result ≡ paired_off (pairs_in s m) }
-{
-    if m.wrong {
-        return false;
+    #[tactic(auto, unfolding(crate::specs::Check::verdict_of))]
+    fn verdict(&self) -> Verdict
+        ensures { (x : List ℕ) → result ≡ verdict_of (run_in x self.now) }
+    {
+        if self.high {
+            Verdict::TooHigh
+        } else if !self.tree.is_whole() {
+            Verdict::NoTree
+        } else if !self.marks.is_whole() {
+            Verdict::BadMarks
+        } else {
+            Verdict::Accepted {
+                chapters: self.marks.chapter.begun,
+                verses: self.marks.verse.begun,
+            }
+        }
     }
-    let chapter = m.chapter;
-    let verse = m.verse;
-    if is_shut(chapter) {
-        return is_shut(verse);
+
+    // Whether the rule of an answer is broken.
+    #[tactic(auto, unfolding(crate::specs::Place::is_broken))]
+    fn breaks(&self, answer: Verdict) -> bool
+        ensures { (x : List ℕ) → result ≡ is_broken answer (run_in x self.now) }
+    {
+        match answer {
+            Verdict::Accepted { .. } | Verdict::NotTags => false,
+            Verdict::TooHigh => self.high,
+            Verdict::NoTree => self.high || self.tree.broken,
+            Verdict::BadMarks => self.marks.wrong,
+        }
     }
-    false
 }
 
 // The rest of a text from its first byte, where its opening and its end are as they must be.
+#[tactic(auto, using(crate::proofs::Whole::going_start, crate::proofs::Whole::going_bad, crate::proofs::Whole::going_on))]
 fn walk(text: &[u8]) -> Verdict
     ensures { result ≡ settle at_start (tokens_from text.now) }
 {
-    let mut stack = [0u8; ROOM];
-    let mut s = at_start();
+    let mut state = State::new();
     let mut at = 0;
+    // A `while`: each turn passes a whole token.
     while at < text.len() {
-        match next_at(text, at) {
-            Next::Bad => {
-                return Verdict::NotTags;
-            }
-            Next::Token(tag, end) => {
-                s = step(text, s, &mut stack, tag);
-                at = end;
-            }
-        }
+        let Some((tag, end)) = next_at(text, at) else {
+            return Verdict::NotTags;
+        };
+        state.step(text, tag);
+        at = end;
     }
-    judged(s, &stack)
+    state.verdict()
 }
 
 // The answer to a text, by document 01's rules.
 pub fn check(text: &[u8]) -> Verdict
     ensures { Judged text.now (answer_of result) }
 {
-    if begins_with(text, b"<usx version=\"3.0\">") {
-        let n = text.len();
-        if begins_with(from(text, n - 6), b"</usx>") {
-            return walk(text);
-        }
+    if begins_with(text, b"<usx version=\"3.0\">") && text.ends_with(b"</usx>") {
+        walk(text)
+    } else {
+        Verdict::NotTags
     }
-    Verdict::NotTags
 }
 
 // ---- where the first rule broke, for people
 
-// Whether the rule of an answer is broken.
-fn is_broken(answer: Verdict, s: State) -> bool
-    ensures { (x a : List ℕ) → result ≡ is_broken answer (run_in x s a) }
-{
-    let t = s.tree;
-    let m = s.marks;
-    match answer {
-        Verdict::Accepted {
-            chapters: _,
-            verses: _,
-        } => false,
-        Verdict::NotTags => false,
-        Verdict::TooHigh => s.high,
-        Verdict::NoTree => s.high || t.broken,
-        Verdict::BadMarks => m.wrong,
-    }
-}
-
 // The start of the first token that cannot be read or breaks the rule of an answer, or else the end.
+#[tactic(auto, using(crate::proofs::Whole::going_on, crate::proofs::Places::look_bad, crate::proofs::Places::look_up, crate::proofs::Places::look_end))]
 fn broken_at(text: &[u8], answer: Verdict) -> usize
     ensures { result ≡ length text.now - length (broken_from answer at_start text.now) }
 {
-    let mut stack = [0u8; ROOM];
-    let mut s = at_start();
+    let mut state = State::new();
     let mut at = 0;
+    // A `while`: each turn passes a whole token.
     while at < text.len() {
-        match next_at(text, at) {
-            Next::Bad => {
-                return at;
-            }
-            Next::Token(tag, end) => {
-                s = step(text, s, &mut stack, tag);
-                if is_broken(answer, s) {
-                    return at;
-                }
-                at = end;
-            }
+        let Some((tag, end)) = next_at(text, at) else {
+            return at;
+        };
+        state.step(text, tag);
+        if state.breaks(answer) {
+            return at;
         }
+        at = end;
     }
     text.len()
 }
 
 // How many bytes stand before the place where a text breaks the rule of its answer.
+#[tactic(auto, unfolding(crate::specs::Place::broken_place))]
 pub fn place(text: &[u8], answer: Verdict) -> usize
     ensures { result ≡ broken_place answer text.now }
 {
     if begins_with(text, b"<usx version=\"3.0\">") {
-        return broken_at(text, answer);
+        broken_at(text, answer)
+    } else {
+        0
     }
-    0
-}
-
-fn line_end(c: u8) -> usize
-    ensures { result ≡ line_end c }
-{
-    if c == b'\n' { 1 } else { 0 }
 }
 
 fn line_ends(s: &[u8]) -> usize
     ensures count { result ≡ line_ends s.now }
     ensures fits { result ≤ length s.now }
 {
-    let mut n = 0;
-    let mut i = 0;
-    while i < s.len() {
-        n += line_end(s[i]);
-        i += 1;
-    }
-    n
+    s.iter().filter(|&&c| c == b'\n').count()
 }
 
 // The line that a place stands in, from 1.
+#[tactic(auto, unfolding(crate::specs::Place::line_of))]
 pub fn line_of(text: &[u8], at: usize) -> usize
     ensures { result ≡ line_of text.now at }
 {

@@ -6,8 +6,8 @@ use mathlib.Core.Logic.{inl, inr}
 use Prim.Native.Nat.{ℕ, zero, suc}
 use lib.ListN.{length}
 use Rattle.tape.specs.File.{Tape, kind_at}
-use Rattle.tape.specs.declared.Step.{Step}
-use Rattle.tape.specs.declared.Step.TheVariants.{At, Done}
+use Rattle.tape.specs.Found.{Step}
+use Rattle.std.specs.Prelude.{None, Some}
 use Rattle.tape.specs.Kind as kinds
 use Rattle.nest.specs.Walk.{In}
 use Rattle.figure.specs.Figure.{legacy_at}
@@ -21,8 +21,8 @@ use Rattle.depth.proofs.Members.{Within, all-within, fold_within}
 module _ (t : Tape) (f g : Manner → ℕ → Bool → List Event) (k : ℕ) (outer : Bool) (same : (m : Manner) → f m k outer ≡ g m k outer) where
   figure-same : (s : Step) → figure_as f t k outer s ≡ figure_as g t k outer s
   unfolding figure_as
-  figure-same (At a) = refl
-  figure-same Done = rw (same as_inline)
+  figure-same (Some a) = refl
+  figure-same None = rw (same as_inline)
 
   marker-same : (r : Role) → marker_as f t k outer r ≡ marker_as g t k outer r
   unfolding marker_as

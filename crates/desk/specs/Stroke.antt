@@ -6,6 +6,7 @@ use Rattle.tags.specs.Names.{name_of}
 use Rattle.tags.specs.Items.{Attr, Item, start, empty, close, text, line, new_line}
 use Rattle.events.specs.Profile.{Profile, rust}
 use Rattle.events.specs.Emit.{Desk}
+use Rattle.desk.specs.declared.Desk.{Desk as Held}
 use Rattle.desk.specs.Desk.{desk_of, put_on}
 
 -- the front of a tag, a key, a piece of its value (a name, as it is, or with its escapes), the value's end, the two ends of a tag, a closing tag, a piece of text, a new line
@@ -67,6 +68,6 @@ ink_all p (s ∷ ss) = ink p s ++ ink_all p ss
 unfoldable pub strokes : Desk → List Stroke → Desk
 strokes w ss = put_on w (ink_all w.profile ss)
 
--- from one count, numbers and buffer to others by strokes, whatever the source is
-pub record Drew (at : ℕ) (d : List ℕ) (out : Bytes) (ss : List Stroke) (last_at : ℕ) (last-d : List ℕ) (last : Bytes) : Type 0 where
-  pub on : (source : Bytes) → desk_of source last_at last-d last ≡ strokes (desk_of source at d out) ss
+-- from one desk and buffer to others by strokes, whatever the source is
+pub record Drew (d : Held) (out : Bytes) (ss : List Stroke) (last-d : Held) (last : Bytes) : Type 0 where
+  pub on : (source : Bytes) → desk_of source last-d last ≡ strokes (desk_of source d out) ss

@@ -1,19 +1,41 @@
 #![tactic(auto)]
-// The desk: how much of the text is written goes in and out as a number, and all else stands in lent numbers.
+// The desk: how much of the text is written and which byte of it the buffer starts with, what is open, and which text it is.
+ghost use Rattle.std.specs.Prelude.{◌≡◌};
+ghost use Rattle.usx_state.specs.Mark.{new_marks};
+
 mod group;
-mod held;
 mod plain;
 mod stroke;
 mod text;
 
-pub use group::{
-    attr_as_it_stands, close_char, close_para, open_char, open_para, open_sid, open_verse,
-    open_verse_end, shut_value,
-};
-pub use held::{Numbers, keep, marks_of, new_desk};
-pub use plain::line;
-pub use stroke::{
-    Element, attr, close_tag, digits, end_tag, end_value, key, open_styled, open_tag, piece,
-    plain_piece, shut_tag,
-};
-pub use text::{piece_joined, text_body, text_escaped, text_joined, text_segment, text_words};
+pub use stroke::Element;
+use usx_state::Marks;
+use window::Window;
+
+// Which text is written: there is one, that of the Rust.
+#[derive(Clone, Copy, PartialEq, Eq)]
+pub enum Profile {
+    Rust,
+}
+
+#[derive(Clone, Copy)]
+pub struct Desk {
+    pub window: Window,
+    pub marks: Marks,
+    pub profile: Profile,
+}
+
+impl Desk {
+    // Nothing is written and nothing is open; the buffer starts with this byte of the text.
+    pub fn new(from: usize, number: u32) -> Desk
+        ensures window { result.window ≡ record { at = 0; from = from } }
+        ensures marks { result.marks ≡ new_marks number }
+        ensures profile { result.profile ≡ Profile.Rust }
+    {
+        Desk {
+            window: Window { at: 0, from },
+            marks: Marks::new(number),
+            profile: Profile::Rust,
+        }
+    }
+}

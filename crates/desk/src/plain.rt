@@ -7,27 +7,24 @@ ghost use Rattle.events.specs.Event.{item};
 ghost use Rattle.events.specs.Emit.{emit};
 ghost use Rattle.desk.specs.Desk.{desk_of, indent};
 
-use crate::held::Numbers;
-use window::{Window, put_run};
+use crate::Desk;
+use window::Window;
 
 // Two spaces a level.
-fn put_indent(w: Window, out: &mut [u8], level: usize) -> Window
-    ensures { page_of result out.new ≡ paint (page_of w out.old) (indent level) }
+fn put_indent(w: &mut Window, out: &mut [u8], level: usize)
+    ensures { page_of w.new out.new ≡ paint (page_of w.old out.old) (indent level) }
 {
-    let mut v = w;
-    let mut left = level;
-    while 0 < left {
-        v = put_run(v, out, b"  ");
-        left -= 1;
+    for _ in 0..level {
+        w.put_run(out, b"  ");
     }
-    v
 }
 
-// A new line and its indent.
-pub fn line(at: usize, desk: &mut Numbers, out: &mut [u8], level: usize) -> usize
-    ensures { (source : Bytes) → desk_of source result desk.new out.new ≡ emit (desk_of source at desk.old out.old) (item (line_item level)) }
-{
-    let w = put_run(Window { at, from: desk[0] }, out, b"\n");
-    let v = put_indent(w, out, level);
-    v.at
+impl Desk {
+    // A new line and its indent.
+    pub fn line(&mut self, out: &mut [u8], level: usize)
+        ensures { (source : Bytes) → desk_of source self.new out.new ≡ emit (desk_of source self.old out.old) (item (line_item level)) }
+    {
+        self.window.put_run(out, b"\n");
+        put_indent(&mut self.window, out, level);
+    }
 }

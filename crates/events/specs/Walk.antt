@@ -1,5 +1,5 @@
 -- The events of a tape: white space, attributes, folding. Depth is fuel: 64 is enough for every admitted tape, and more changes nothing.
-use Rattle.std.specs.Prelude.{ℕ, zero, suc, ◌+◌, List, [], ◌∷◌, ◌++◌, Bool, true, false, cond, not, ◌&&◌, ◌||◌, length, eqb}
+use Rattle.std.specs.Prelude.{ℕ, zero, suc, ◌+◌, List, [], ◌∷◌, ◌++◌, Bool, true, false, cond, not, ◌&&◌, ◌||◌, length, eqb, None, Some}
 use Rattle.std.proofs.Math.Option.{Option, none, some}
 use Rattle.parts.specs.Bytes.{Bytes, b, same}
 use Rattle.texts.specs.Text.{body_of, has_break, normalize_text, written, segments}
@@ -7,10 +7,8 @@ use Rattle.texts.specs.declared.Normalized.{Normalized}
 use Rattle.tape.specs.File.{Tape, kind_at, node_at, text_at_of, info_at, is_synthetic, is_nested, number_at, entry_name}
 use Rattle.tape.specs.Tree.{children, first_child, up_to, without, found, from_first}
 use Rattle.tape.specs.Name.{marker_name}
-use Rattle.tape.specs.declared.Info.{Info}
-use Rattle.tape.specs.declared.Info.TheVariants.{Known, Unknown}
-use Rattle.tape.specs.declared.Step.{Step}
-use Rattle.tape.specs.declared.Step.TheVariants.{At, Done}
+use Rattle.tape.specs.Found.{Info}
+use Rattle.tape.specs.Found.{Step}
 use Rattle.render.specs.Shape.{is_open, is_chapter_of, is_verse_of, is_row, is_element_of, is_top_level_block_of, is_category_marker_of, trims_after_of, unknown_shape_of}
 use Rattle.render.specs.First.{any}
 use Rattle.render.specs.Follow.{inline_follows_of, followed}
@@ -87,8 +85,8 @@ role_of_category category = cond (eqb category categories.note) note (cond (eqb 
 
 -- `write_node`: unknown by shape; by the entry's name `usfm` and `fig`; by the name in the source `ref`; `id`; by category
 unfoldable pub role_by : Tape → ℕ → Info → Role
-role_by t k Unknown = role_of_shape (unknown_shape_of t k)
-role_by t k (Known e) =
+role_by t k None = role_of_shape (unknown_shape_of t k)
+role_by t k (Some e) =
     cond (same (entry_name t e) (b "usfm")) unwritten
     (cond (same (entry_name t e) (b "fig")) figure
     (cond (same (marker_name t k) (b "ref")) ref
@@ -117,8 +115,8 @@ linked (some loc) es = element el.ref (escaped (b "loc") loc ∷ []) es
 
 -- `write_figure`: the positional form of old writes no child
 unfoldable pub figure_as : (Manner → ℕ → Bool → List Event) → Tape → ℕ → Bool → Step → List Event
-figure_as inside t k outer (At a) = asided (element el.figure (styled (b "fig") ++ collected (legacy_pairs t k a.at)) (item (text (caption_of t a.at)) ∷ []))
-figure_as inside t k outer Done = asided (element el.figure (styled (b "fig") ++ collected (attributes_of t k (b "fig"))) (inside as_inline k outer))
+figure_as inside t k outer (Some a) = asided (element el.figure (styled (b "fig") ++ collected (legacy_pairs t k a.at)) (item (text (caption_of t a.at)) ∷ []))
+figure_as inside t k outer None = asided (element el.figure (styled (b "fig") ++ collected (attributes_of t k (b "fig"))) (inside as_inline k outer))
 
 -- a MarkerOpen by its role; `inside` has the events inside a container, `outer` says whether inline content follows the parent
 unfoldable pub marker_as : (Manner → ℕ → Bool → List Event) → Tape → ℕ → Bool → Role → List Event
@@ -246,8 +244,8 @@ node_e t d k outer = node_in_of (inside t d) t k outer
 
 -- cells are known markers
 unfoldable pub is_known : Info → Bool
-is_known (Known e) = true
-is_known Unknown = false
+is_known (Some e) = true
+is_known None = false
 
 -- a row's cell: a marker that has an entry
 unfoldable pub is_cell_of : Tape → ℕ → Bool
@@ -317,8 +315,8 @@ place_of t k =
 
 -- what is written as a figure, by the entry's name, may stand as a block; by its category no note does
 unfoldable pub is_figure : Tape → Info → Bool
-is_figure t (Known e) = same (entry_name t e) (b "fig")
-is_figure t Unknown = false
+is_figure t (Some e) = same (entry_name t e) (b "fig")
+is_figure t None = false
 
 -- one turn along a list of blocks: what is written, and where the list goes on
 pub record Blocks : Type 0 where

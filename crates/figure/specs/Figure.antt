@@ -1,13 +1,12 @@
 -- Figures: the positional form of old, by `figure_legacy`.
-use Rattle.std.specs.Prelude.{ℕ, List, [], ◌∷◌, ◌++◌, cond, get_or, eqb}
+use Rattle.std.specs.Prelude.{ℕ, List, [], ◌∷◌, ◌++◌, cond, get_or, eqb, None, Some}
 use Rattle.parts.specs.Bytes.{Bytes, b}
 use Rattle.words.specs.Words.{trim, onto}
 use Rattle.words.specs.declared.Set.TheVariants.{Unicode}
 use Rattle.tape.specs.File.{Tape, text_at_of}
 use Rattle.tape.specs.Name.{strip}
 use Rattle.tape.specs.Tree.{children}
-use Rattle.tape.specs.declared.Step.{Step}
-use Rattle.tape.specs.declared.Step.TheVariants.{At, Done}
+use Rattle.tape.specs.Found.{Step}
 use Rattle.render.specs.First.{first_with}
 use Rattle.render.specs.Shape.{is_attribute}
 use Rattle.render.specs.Children.{first_text_of}
@@ -15,8 +14,8 @@ use Rattle.attrs.specs.Attr.{Pair, has_equals}
 
 -- an Attribute whose text holds no `=`
 unfoldable pub if_legacy : Tape → Step → Step
-if_legacy t Done = Done
-if_legacy t (At a) = cond (has_equals (strip 124 (text_at_of t a.at))) Done (At a)
+if_legacy t None = None
+if_legacy t (Some a) = cond (has_equals (strip 124 (text_at_of t a.at))) None (Some a)
 
 -- `figure_legacy_raw`: the first Attribute, where it has no `=` behind one `|`
 unfoldable pub legacy_at : Tape → ℕ → Step
@@ -33,8 +32,8 @@ field_at t a n = trim Unicode (get_or (split 124 (strip 124 (text_at_of t a))) n
 
 -- the text of a node without white space at both ends
 unfoldable pub trimmed_text : Tape → Step → Bytes
-trimmed_text t Done = []
-trimmed_text t (At c) = trim Unicode (text_at_of t c.at)
+trimmed_text t None = []
+trimmed_text t (Some c) = trim Unicode (text_at_of t c.at)
 
 -- the description: the first Text child, trimmed
 unfoldable pub described_by : Tape → ℕ → Bytes

@@ -34,40 +34,15 @@ module _ (name alt published : Bytes) {a : Bool} (ea : a ≡ same name alt) wher
 module _ (anchor : ℕ) (name : Bytes) where
   pub slot_chapter : anchor ≡ 6 → {r : Claim} → r ≡ slot_by name (b "ca") (b "cp") → r ≡ slot_of anchor name
   unfolding slot_of
-  slot_chapter h e = rw (eq-eqb anchor 6 h) e
+  slot_chapter h e = rw h e
 
-  pub slot_verse : (anchor ≡ 6 → ⊥) → anchor ≡ 7 → {r : Claim} → r ≡ slot_by name (b "va") (b "vp") → r ≡ slot_of anchor name
+  pub slot_verse : anchor ≡ 7 → {r : Claim} → r ≡ slot_by name (b "va") (b "vp") → r ≡ slot_of anchor name
   unfolding slot_of
-  slot_verse n h e = rw (ne_eqb anchor 6 n, eq-eqb anchor 7 h) e
+  slot_verse h e = rw h e
 
   pub slot_wrong : (anchor ≡ 6 → ⊥) → (anchor ≡ 7 → ⊥) → Stops ≡ slot_of anchor name
   unfolding slot_of
   slot_wrong n h = rw (ne_eqb anchor 6 n, ne_eqb anchor 7 h)
-
-module _ (gotAlt gotPub : Bool) {c : Claim} where
-  pub free_alt : c ≡ Alt → gotAlt ≡ false → Alt ≡ free gotAlt gotPub c
-  unfolding free
-  free_alt e h = rw (e, h)
-
-  pub taken_alt : c ≡ Alt → gotAlt ≡ true → Stops ≡ free gotAlt gotPub c
-  unfolding free
-  taken_alt e h = rw (e, h)
-
-  pub free_pub : c ≡ Pub → gotPub ≡ false → Pub ≡ free gotAlt gotPub c
-  unfolding free
-  free_pub e h = rw (e, h)
-
-  pub taken_pub : c ≡ Pub → gotPub ≡ true → Stops ≡ free gotAlt gotPub c
-  unfolding free
-  taken_pub e h = rw (e, h)
-
-  pub free_blank : c ≡ Blank → Stops ≡ free gotAlt gotPub c
-  unfolding free
-  free_blank e = rw e
-
-  pub free-stops : c ≡ Stops → Stops ≡ free gotAlt gotPub c
-  unfolding free
-  free-stops e = rw e
 
 -- ---- what a node is to the fold
 

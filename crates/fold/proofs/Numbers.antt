@@ -21,8 +21,8 @@ use Rattle.tape.specs.File.{Tape, node_at, kind_at, text_at_of}
 use Rattle.tape.specs.Tree.{first_child, next_sibling, walk_from}
 use Rattle.tape.specs.declared.Node.{Node}
 use Rattle.tape.specs.declared.Cursor.{Cursor}
-use Rattle.tape.specs.declared.Step.{Step}
-use Rattle.tape.specs.declared.Step.TheVariants.{At, Done}
+use Rattle.tape.specs.Found.{Step}
+use Rattle.std.specs.Prelude.{Option, None, Some}
 use Rattle.tape.proofs.Walk.{walk_turn, walk_end, children_walk}
 use Rattle.fold.specs.Fold.{own_text, texts_of, number_in}
 use Rattle.fold.specs.Number.{gap_space, collapse, run_list, to_come, piece_list, word_some, piece_some}
@@ -30,7 +30,6 @@ use Rattle.fold.specs.declared.Run.{Run}
 use Rattle.fold.specs.declared.Run.TheVariants.{Word, White}
 use Rattle.fold.specs.declared.Number.{Number}
 use Rattle.fold.specs.declared.Piece.{Piece}
-use Rattle.fold.specs.declared.Piece.TheVariants.{Some, Done as PieceDone}
 
 -- ---- collapsing byte by byte is joining the words
 
@@ -265,16 +264,16 @@ module _ (t : Tape) (rest : Part) (next : Step) (begun gap : Bool) {z : Bytes} (
   unfolding to_come
   came = sym inv ∙ (rw es at (er (texts_of t (walk_from t next))))
 
-  piece_here : {p after : Part} {x : Bool} → r ≡ Word p x after → z ≡ piece_list t (Some p x (record { rest = after; next = next; begun = true; gap = false }))
+  piece_here : {p after : Part} {x : Bool} → r ≡ Word p x after → z ≡ piece_list t (Some (record { part = p; space = x; left = record { rest = after; next = next; begun = true; gap = false } }))
   unfolding run_list piece_list to_come
   piece_here e = came ∙ rw e
 
   module _ {sp : Bool} (e : r ≡ White sp) where
-    none_here : next ≡ Done → z ≡ piece_list t PieceDone
+    none_here : next ≡ None → z ≡ piece_list t None
     unfolding run_list piece_list texts_of collapse
     none_here en = came ∙ rw e (ap (λ (ks : List ℕ). collapse begun sp (texts_of t ks)) (walk_end t en))
 
-    pub number_on : {c : Cursor} → next ≡ At c → (p : Part) → bytes_of t.source p ≡ own_text t c.at → {n : Step} → n ≡ next_sibling t c.at
+    pub number_on : {c : Cursor} → next ≡ Some c → (p : Part) → bytes_of t.source p ≡ own_text t c.at → {n : Step} → n ≡ next_sibling t c.at
         → to_come t (record { rest = p; next = n; begun = begun; gap = sp }) ≡ z
     unfolding run_list to_come texts_of
     number_on {c} ec p ep en =
@@ -288,20 +287,20 @@ module _ (t : Tape) (n : Number) (rest : Part) (next : Step) (begun gap : Bool)
   unfolding to_come
   handed = refl
 
-  pub number-piece : {p after : Part} {x : Bool} → r ≡ Word p x after → to_come t n ≡ piece_list t (Some p x (record { rest = after; next = next; begun = true; gap = false }))
+  pub number-piece : {p after : Part} {x : Bool} → r ≡ Word p x after → to_come t n ≡ piece_list t (Some (record { part = p; space = x; left = record { rest = after; next = next; begun = true; gap = false } }))
   number-piece e = handed ∙ piece_here t rest next begun gap inv r es er e
 
-  pub number_done : {sp : Bool} → r ≡ White sp → next ≡ Done → to_come t n ≡ piece_list t PieceDone
+  pub number_done : {sp : Bool} → r ≡ White sp → next ≡ None → to_come t n ≡ piece_list t None
   number_done e en = handed ∙ none_here t rest next begun gap inv r es er e en
 
   pub piece-some : word_some s r → {p after : Part} {x : Bool} → r ≡ Word p x after → 0 < length (bytes_of t.source p)
   piece-some h e = rw es at (rw e at h)
 
 -- each piece leaves less to come
-pub number_less : (t : Tape) (n : Number) (r : Piece) → to_come t n ≡ piece_list t r → piece_some t r → {p : Part} {x : Bool} {left : Number} → r ≡ Some p x left
-    → length (to_come t left) < length (to_come t n)
+pub number_less : (t : Tape) (n : Number) (r : Option Piece) → to_come t n ≡ piece_list t r → piece_some t r → {p : Piece} → r ≡ Some p
+    → length (to_come t p.left) < length (to_come t n)
 unfolding piece_list
-number_less t n r er h {p} {x} {left} e =
-    let size : 0 < length (bytes_of t.source p) = rw e at h in
-    let whole : to_come t n ≡ gap_space x ++ (bytes_of t.source p ++ to_come t left) = er ∙ rw e in
-    omega (arith, ap length whole, length-append (gap_space x) (bytes_of t.source p ++ to_come t left), length-append (bytes_of t.source p) (to_come t left))
+number_less t n r er h {p} e =
+    let size : 0 < length (bytes_of t.source p.part) = rw e at h in
+    let whole : to_come t n ≡ gap_space p.space ++ (bytes_of t.source p.part ++ to_come t p.left) = er ∙ rw e in
+    omega (arith, ap length whole, length-append (gap_space p.space) (bytes_of t.source p.part ++ to_come t p.left), length-append (bytes_of t.source p.part) (to_come t p.left))

@@ -1,5 +1,5 @@
 -- Alternate and published numbers behind a chapter or verse, by `fold_alt_pub`.
-use Rattle.std.specs.Prelude.{ℕ, List, [], ◌∷◌, ◌++◌, Bool, true, false, cond, ◌&&◌, eqb}
+use Rattle.std.specs.Prelude.{ℕ, List, [], ◌∷◌, ◌++◌, Bool, true, false, cond, ◌&&◌, eqb, None, Some}
 use Rattle.std.proofs.Math.Option.{Option, none, some}
 use Rattle.parts.specs.Bytes.{Bytes, b, same}
 use Rattle.words.specs.Words.{words, joined}
@@ -7,8 +7,7 @@ use Rattle.words.specs.declared.Set.TheVariants.{Ascii}
 use Rattle.tape.specs.File.{Tape, kind_at, text_at_of}
 use Rattle.tape.specs.Name.{marker_name}
 use Rattle.tape.specs.Tree.{children}
-use Rattle.tape.specs.declared.Step.{Step}
-use Rattle.tape.specs.declared.Step.TheVariants.{At, Done}
+use Rattle.tape.specs.Found.{Step}
 use Rattle.render.specs.Shape.{is_open, is_blank_text}
 use Rattle.render.specs.Children.{is_plain_text_of}
 use Rattle.fold.specs.declared.Claim.{Claim}
@@ -78,5 +77,5 @@ fold_at t anchor ks = fold_from t anchor none none ks
 
 -- the number of the marker that a step leads to
 unfoldable pub folded_number : Tape → Step → Option Bytes
-folded_number t Done = none
-folded_number t (At c) = some (number_in t c.at)
+folded_number t None = none
+folded_number t (Some c) = some (number_in t c.at)

@@ -1,5 +1,5 @@
 -- A folded number, as it is walked: pieces of texts, with a space where white space stood between two.
-use Rattle.std.specs.Prelude.{ℕ, ◌≤◌, ◌<◌, length, [], ◌∷◌, ◌++◌, Bool, true, false, cond, ◌&&◌}
+use Rattle.std.specs.Prelude.{Option, None, Some, ℕ, ◌≤◌, ◌<◌, length, [], ◌∷◌, ◌++◌, Bool, true, false, cond, ◌&&◌}
 use Rattle.parts.specs.Bytes.{Bytes}
 use Rattle.words.specs.Words.{bytes_of}
 use Rattle.chars.specs.Space.{is_ascii_white}
@@ -10,7 +10,6 @@ use Rattle.fold.specs.declared.Run.{Run}
 use Rattle.fold.specs.declared.Run.TheVariants.{Word, White}
 use Rattle.fold.specs.declared.Number.{Number}
 use Rattle.fold.specs.declared.Piece.{Piece}
-use Rattle.fold.specs.declared.Piece.TheVariants.{Some, Done}
 
 -- one space, or nothing
 unfoldable pub gap_space : Bool → Bytes
@@ -39,9 +38,9 @@ unfoldable pub number_start : Tape → ℕ → Number
 number_start t k = record { rest = record { start = 0; len = 0 }; next = first_child t k; begun = false; gap = false }
 
 -- an answer: a piece, with or without a space in front, and what comes behind it
-unfoldable pub piece_list : Tape → Piece → Bytes
-piece_list t (Some p space left) = gap_space space ++ (bytes_of t.source p ++ to_come t left)
-piece_list t Done = []
+unfoldable pub piece_list : Tape → Option Piece → Bytes
+piece_list t (Some p) = gap_space p.space ++ (bytes_of t.source p.part ++ to_come t p.left)
+piece_list t None = []
 
 -- a word is not empty
 abbrev pub word_some : Bytes → Run → Type 0
@@ -49,6 +48,6 @@ word_some source (Word p space rest) = 0 < length (bytes_of source p)
 word_some source (White gap) = 0 ≤ 0
 
 -- nor is a piece
-abbrev pub piece_some : Tape → Piece → Type 0
-piece_some t (Some p space left) = 0 < length (bytes_of t.source p)
-piece_some t Done = 0 ≤ 0
+abbrev pub piece_some : Tape → Option Piece → Type 0
+piece_some t (Some p) = 0 < length (bytes_of t.source p.part)
+piece_some t None = 0 ≤ 0

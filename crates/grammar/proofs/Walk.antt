@@ -14,9 +14,8 @@ use Rattle.texts.specs.Text.{body_of, has_break, written, segments}
 use Rattle.texts.specs.declared.Normalized.{Normalized}
 use Rattle.tape.specs.File.{Tape, kind_at, node_at, text_at_of, info_at, entry_at, bears_marker}
 use Rattle.tape.specs.Tree.{children, first_child, up_to, without, found}
-use Rattle.tape.specs.declared.Info.TheVariants.{Known, Unknown}
-use Rattle.tape.specs.declared.Step.{Step}
-use Rattle.tape.specs.declared.Step.TheVariants.{At, Done}
+use Rattle.tape.specs.Found.{Step}
+use Rattle.std.specs.Prelude.{None, Some}
 use Rattle.render.specs.Shape.{is_open, is_chapter_of, is_verse_of, is_row, is_element_of, is_top_level_block_of, is_category_marker_of}
 use Rattle.render.specs.First.{any}
 use Rattle.render.specs.Follow.{followed}
@@ -76,7 +75,7 @@ element-marked : (t : Tape) (k n : ℕ) → is_element_of n (info_at t k) ≡ tr
 unfolding info_at is_element_of
 element-marked t k n e = go (bears_marker (kind_at t k)) (ltb (node_at t k).marker (length t.entries)) e
   where
-    go : (z w : Bool) → is_element_of n (cond (z && w) (Known (entry_at t (node_at t k).marker)) Unknown) ≡ true → z ≡ true
+    go : (z w : Bool) → is_element_of n (cond (z && w) (Some (entry_at t (node_at t k).marker)) None) ≡ true → z ≡ true
     go true w e = refl
     go false w e = absurd (let no_way : ◌≡◌ {A = ℕ} 0 1 = cc in omega arith)
 
@@ -134,8 +133,8 @@ module _ (t : Tape) where
   module _ (h : ℕ) (within : Manner → ℕ → Bool → List Event) (g : (m : Manner) (k : ℕ) (outer : Bool) → Grown t h (within m k outer)) where
     grown_figure : (k : ℕ) (outer : Bool) (s : Step) → Grown t (suc h) (figure_as within t k outer s)
     unfolding figure_as
-    grown_figure k outer (At a) = grown_asided (grown_element (old_figure k a.at) (leaf a_text none))
-    grown_figure k outer Done = grown_asided (grown_element (a_figure k) (g as_inline k outer))
+    grown_figure k outer (Some a) = grown_asided (grown_element (old_figure k a.at) (leaf a_text none))
+    grown_figure k outer None = grown_asided (grown_element (a_figure k) (g as_inline k outer))
 
     grown_marker : (k : ℕ) (outer : Bool) → is_open t k ≡ true → (r : Role) → role_of t k ≡ r → Grown t (suc (suc h)) (marker_as within t k outer r)
     unfolding marker_as

@@ -6,8 +6,8 @@ use Prim.Native.Nat.{ℕ}
 use Rattle.tape.specs.File.{Tape}
 use Rattle.tape.specs.Tree.{next_sibling, found}
 use Rattle.tape.specs.declared.Cursor.{Cursor}
-use Rattle.tape.specs.declared.Step.{Step}
-use Rattle.tape.specs.declared.Step.TheVariants.{At, Done}
+use Rattle.tape.specs.Found.{Step}
+use Rattle.std.specs.Prelude.{None, Some}
 use Rattle.render.specs.First.{first_with, any}
 use Rattle.render.proofs.Finds.{first_hit, first_miss}
 use Rattle.lists.specs.Span.{nodes_in, member_of_of}
@@ -20,7 +20,7 @@ use Rattle.lists.proofs.Nodes.{nodes_done, nodes-cut, nodes_skip, nodes_go}
 
 module _ (p : ℕ → Bool) where
   any_yes : (k : ℕ) (ks : List ℕ) → p k ≡ true → any p (k ∷ ks) ≡ true
-  unfolding any found
+  unfolding any
   any_yes k ks h = ap found (first_hit p k ks h)
 
   any_no : (k : ℕ) (ks : List ℕ) → p k ≡ false → any p (k ∷ ks) ≡ any p ks
@@ -28,16 +28,16 @@ module _ (p : ℕ → Bool) where
   any_no k ks h = ap found (first_miss p k ks h)
 
   any_none : {ks : List ℕ} → ks ≡ [] → any p ks ≡ false
-  unfolding any found first_with
+  unfolding any first_with
   any_none h = rw h
 
 -- ---- a walk to it
 
 module _ (p : ℕ → Bool) (t : Tape) (span : Span) (s₀ s : Step) (inv : any p (nodes_in t span s) ≡ any p (nodes_in t span s₀)) where
-  pub has_ended : s ≡ Done → false ≡ any p (nodes_in t span s₀)
+  pub has_ended : s ≡ None → false ≡ any p (nodes_in t span s₀)
   has_ended e = sym (any_none p (nodes_done t span e)) ∙ inv
 
-  module _ {c : Cursor} (es : s ≡ At c) {m : Member} (em : m ≡ member_of_of t span c.at) where
+  module _ {c : Cursor} (es : s ≡ Some c) {m : Member} (em : m ≡ member_of_of t span c.at) where
     pub has_cut : m ≡ End → false ≡ any p (nodes_in t span s₀)
     has_cut h = sym (any_none p (nodes-cut t span es em h)) ∙ inv
 

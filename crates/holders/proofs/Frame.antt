@@ -14,10 +14,11 @@ use Rattle.events.specs.Emit.{Desk, lay, emit}
 use Rattle.events.proofs.Emits.{as_append}
 use Rattle.desk.specs.Stroke.{opens as open_stroke, key, piece, end_value_of, ends as end_stroke, closes as close_stroke, strokes_of, strokes_of_attrs, strokes_of_attr, strokes, Drew}
 use Rattle.desk.proofs.Strokes.{drew_two, strokes_item}
+use Rattle.desk.specs.declared.Desk.{Desk as Held}
 
 -- the tag around the whole text
-pub usx_opened : {at a d r : ℕ} (n n₁ n₂ n₃ : List ℕ) {out o₁ o₂ last : Bytes} → Drew at n out (open_stroke 1 ∷ []) a n₁ o₁ → Drew a n₁ o₁ (key (b "version") ∷ piece false (b "3.0") ∷ end_value_of ∷ []) d n₂ o₂
-    → Drew d n₂ o₂ (end_stroke ∷ []) r n₃ last → Drew at n out (strokes_of (start 1 (escaped (b "version") (b "3.0") ∷ []))) r n₃ last
+pub usx_opened : (n n₁ n₂ n₃ : Held) {out o₁ o₂ last : Bytes} → Drew n out (open_stroke 1 ∷ []) n₁ o₁ → Drew n₁ o₁ (key (b "version") ∷ piece false (b "3.0") ∷ end_value_of ∷ []) n₂ o₂
+    → Drew n₂ o₂ (end_stroke ∷ []) n₃ last → Drew n out (strokes_of (start 1 (escaped (b "version") (b "3.0") ∷ []))) n₃ last
 unfolding strokes_of strokes_of_attrs strokes_of_attr escaped
 usx_opened n n₁ n₂ n₃ e₁ e₂ e₃ = drew_two n n₁ n₃ e₁ (drew_two n₁ n₂ n₃ e₂ e₃)
 

@@ -25,6 +25,7 @@ use Rattle.desk.specs.Desk.{desk_of}
 use Rattle.desk.specs.Stroke.{opens, key, piece, end_value_of, ends, shuts, closes, strokes_of_attr, strokes_of_attrs, strokes_of, strokes, Drew}
 use Rattle.desk.proofs.Strokes.{drew_none, drew_two, drew_attr, drew_item, strokes_item, attrs_append}
 use Rattle.holders.specs.Holders.{is_block_or_row, sidebar_attrs, periph_attrs, attrs_of, element_no}
+use Rattle.desk.specs.declared.Desk.{Desk as Held}
 
 -- ---- what a list is searched for
 
@@ -39,10 +40,10 @@ module _ (t : Tape) (k : ℕ) {x : Bool} (ex : x ≡ is_top_level_block_of t k) 
 
 -- ---- a sidebar's attributes
 
-module _ (t : Tape) (k : ℕ) {at u v r : ℕ} (d d₁ d₂ last-d : List ℕ) {out o₁ o₂ last : Bytes} where
-  pub sidebar_put : {name : Bytes} → name ≡ marker_name t k → Drew at d out (opens 13 ∷ key (b "style") ∷ piece true name ∷ end_value_of ∷ []) u d₁ o₁
-      → Drew u d₁ o₁ (strokes_of_attrs (perhaps (b "category") (written_category t k))) v d₂ o₂ → Drew v d₂ o₂ (strokes_of_attrs (unclosed t k)) r last-d last
-      → Drew at d out (opens (element_no true) ∷ strokes_of_attrs (sidebar_attrs t k)) r last-d last
+module _ (t : Tape) (k : ℕ) (d d₁ d₂ last-d : Held) {out o₁ o₂ last : Bytes} where
+  pub sidebar_put : {name : Bytes} → name ≡ marker_name t k → Drew d out (opens 13 ∷ key (b "style") ∷ piece true name ∷ end_value_of ∷ []) d₁ o₁
+      → Drew d₁ o₁ (strokes_of_attrs (perhaps (b "category") (written_category t k))) d₂ o₂ → Drew d₂ o₂ (strokes_of_attrs (unclosed t k)) last-d last
+      → Drew d out (opens (element_no true) ∷ strokes_of_attrs (sidebar_attrs t k)) last-d last
   unfolding element_no sidebar_attrs style rawly strokes_of_attrs strokes_of_attr
   sidebar_put en e₁ e₂ e₃ =
       rw (attrs_append (perhaps (b "category") (written_category t k)) (unclosed t k), ← en) (drew_two d d₁ last-d e₁ (drew_two d₁ d₂ last-d e₂ e₃))
@@ -60,47 +61,47 @@ joined-some s h e =
     let yes : is_blank_of Unicode s ≡ true = (blank_words Unicode s).1 bare in
     let no_way : ◌≡◌ {A = ℕ} 0 1 = cc in omega arith
 
-module _ (t : Tape) (k : ℕ) {text : Bytes} (et : text ≡ step_text t (first_text_of t k)) {x : Bool} (ex : x ≡ is_blank_of Unicode text) {at : ℕ} (d : List ℕ) {out : Bytes} where
-  pub alt_none : x ≡ true → Drew at d out (strokes_of_attrs (perhaps (b "alt") (periph_alt t k))) at d out
+module _ (t : Tape) (k : ℕ) {text : Bytes} (et : text ≡ step_text t (first_text_of t k)) {x : Bool} (ex : x ≡ is_blank_of Unicode text) (d : Held) {out : Bytes} where
+  pub alt_none : x ≡ true → Drew d out (strokes_of_attrs (perhaps (b "alt") (periph_alt t k))) d out
   unfolding strokes_of_attrs perhaps periph_alt unless_empty first_words joined
   alt_none h = rw (← et, (blank_words Unicode text).0 (sym ex ∙ h)) (drew_none d)
 
-  pub alt_some : x ≡ false → {a z r : ℕ} (d₁ d₂ last-d : List ℕ) {o₁ o₂ last : Bytes} → Drew at d out (key (b "alt") ∷ []) a d₁ o₁
-      → Drew a d₁ o₁ (piece false (joined (words Unicode text)) ∷ []) z d₂ o₂ → Drew z d₂ o₂ (end_value_of ∷ []) r last-d last
-      → Drew at d out (strokes_of_attrs (perhaps (b "alt") (periph_alt t k))) r last-d last
+  pub alt_some : x ≡ false → (d₁ d₂ last-d : Held) {o₁ o₂ last : Bytes} → Drew d out (key (b "alt") ∷ []) d₁ o₁
+      → Drew d₁ o₁ (piece false (joined (words Unicode text)) ∷ []) d₂ o₂ → Drew d₂ o₂ (end_value_of ∷ []) last-d last
+      → Drew d out (strokes_of_attrs (perhaps (b "alt") (periph_alt t k))) last-d last
   unfolding strokes_of_attrs strokes_of_attr escaped perhaps periph_alt first_words
   alt_some h d₁ d₂ last-d e₁ e₂ e₃ =
       let s : Bytes = joined (words Unicode text) in
       rw (← et, unless_some s (joined-some text (sym ex ∙ h))) (drew_attr d d₁ d₂ last-d (b "alt") false s e₁ e₂ e₃)
 
-module _ (t : Tape) (k : ℕ) {at u v r : ℕ} (d d₁ d₂ last-d : List ℕ) {out o₁ o₂ last : Bytes} where
-  pub periph_put : Drew at d out (opens 14 ∷ []) u d₁ o₁ → Drew u d₁ o₁ (strokes_of_attrs (perhaps (b "alt") (periph_alt t k))) v d₂ o₂
-      → Drew v d₂ o₂ (strokes_of_attrs (collected (attributes_of t k (b "periph")))) r last-d last → Drew at d out (opens (element_no false) ∷ strokes_of_attrs (periph_attrs t k)) r last-d last
+module _ (t : Tape) (k : ℕ) (d d₁ d₂ last-d : Held) {out o₁ o₂ last : Bytes} where
+  pub periph_put : Drew d out (opens 14 ∷ []) d₁ o₁ → Drew d₁ o₁ (strokes_of_attrs (perhaps (b "alt") (periph_alt t k))) d₂ o₂
+      → Drew d₂ o₂ (strokes_of_attrs (collected (attributes_of t k (b "periph")))) last-d last → Drew d out (opens (element_no false) ∷ strokes_of_attrs (periph_attrs t k)) last-d last
   unfolding element_no periph_attrs
   periph_put e₁ e₂ e₃ =
       rw (attrs_append (perhaps (b "alt") (periph_alt t k)) (collected (attributes_of t k (b "periph")))) (drew_two d d₁ last-d e₁ (drew_two d₁ d₂ last-d e₂ e₃))
 
 -- ---- either
 
-module _ (t : Tape) (k : ℕ) {at r : ℕ} (d last-d : List ℕ) {out last : Bytes} {sidebar : Bool} where
-  pub put_side : sidebar ≡ true → Drew at d out (opens (element_no true) ∷ strokes_of_attrs (sidebar_attrs t k)) r last-d last
-      → Drew at d out (opens (element_no sidebar) ∷ strokes_of_attrs (attrs_of t k sidebar)) r last-d last
+module _ (t : Tape) (k : ℕ) (d last-d : Held) {out last : Bytes} {sidebar : Bool} where
+  pub put_side : sidebar ≡ true → Drew d out (opens (element_no true) ∷ strokes_of_attrs (sidebar_attrs t k)) last-d last
+      → Drew d out (opens (element_no sidebar) ∷ strokes_of_attrs (attrs_of t k sidebar)) last-d last
   unfolding attrs_of
   put_side h e = rw h e
 
-  pub put_peri : sidebar ≡ false → Drew at d out (opens (element_no false) ∷ strokes_of_attrs (periph_attrs t k)) r last-d last
-      → Drew at d out (opens (element_no sidebar) ∷ strokes_of_attrs (attrs_of t k sidebar)) r last-d last
+  pub put_peri : sidebar ≡ false → Drew d out (opens (element_no false) ∷ strokes_of_attrs (periph_attrs t k)) last-d last
+      → Drew d out (opens (element_no sidebar) ∷ strokes_of_attrs (attrs_of t k sidebar)) last-d last
   unfolding attrs_of
   put_peri h e = rw h e
 
 -- ---- tags from their strokes
 
-module _ (source : Bytes) (n : ℕ) (qs : List Attr) {at a r : ℕ} (d d₁ last-d : List ℕ) {out o₁ last : Bytes} (e : Drew at d out (opens n ∷ strokes_of_attrs qs) a d₁ o₁) where
-  pub tag_started : Drew a d₁ o₁ (ends ∷ []) r last-d last → desk_of source r last-d last ≡ emit (desk_of source at d out) (item (start n qs))
+module _ (source : Bytes) (n : ℕ) (qs : List Attr) (d d₁ last-d : Held) {out o₁ last : Bytes} (e : Drew d out (opens n ∷ strokes_of_attrs qs) d₁ o₁) where
+  pub tag_started : Drew d₁ o₁ (ends ∷ []) last-d last → desk_of source last-d last ≡ emit (desk_of source d out) (item (start n qs))
   unfolding strokes_of
   tag_started f = drew_item d last-d (start n qs) (drew_two d d₁ last-d e f) source
 
-  pub tag_emptied : Drew a d₁ o₁ (shuts ∷ []) r last-d last → desk_of source r last-d last ≡ emit (desk_of source at d out) (item (empty n qs))
+  pub tag_emptied : Drew d₁ o₁ (shuts ∷ []) last-d last → desk_of source last-d last ≡ emit (desk_of source d out) (item (empty n qs))
   unfolding strokes_of
   tag_emptied f = drew_item d last-d (empty n qs) (drew_two d d₁ last-d e f) source
 

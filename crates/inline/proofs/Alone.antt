@@ -19,8 +19,8 @@ use Rattle.tape.specs.Name.{marker_name, name_in_of}
 use Rattle.tape.specs.Tree.{next_sibling, first_child, children, walk_from, found}
 use Rattle.tape.specs.declared.Cursor.{Cursor}
 use Rattle.tape.specs.declared.kinds.Kind.{Kind}
-use Rattle.tape.specs.declared.Step.{Step}
-use Rattle.tape.specs.declared.Step.TheVariants.{At, Done}
+use Rattle.tape.specs.Found.{Step}
+use Rattle.std.specs.Prelude.{None, Some}
 use Rattle.tape.proofs.Laws.{text_front}
 use Rattle.tape.proofs.Walk.{walk_at, walk_end, children_walk}
 use Rattle.render.specs.Shape.{is_open, is_inline_of, trims_after_of}
@@ -40,31 +40,29 @@ use Rattle.desk.proofs.Strokes.{drew_two}
 use Rattle.put_attrs.proofs.Along.{bare-text, given_barred}
 use Rattle.put_markers.proofs.Written.{drew_all}
 use Rattle.inline.specs.Lone.{LastAttribute, AttributeAt, OnlyText, OnlyAt, tail_at, lone_char, char_around, PutAs, KeepsBehind}
-use Rattle.inline.specs.declared.lone.Put.{Put}
-use Rattle.inline.specs.declared.lone.Put.TheVariants.{Nothing, Written}
+use Rattle.desk.specs.declared.Desk.{Desk as Held}
 
 -- ---- a text alone
 
-pub last-attribute : (t : Tape) (a : Cursor) {y : Kind} → y.code ≡ kind_at t a.at → y.code ≡ 2 → {w : Step} → w ≡ next_sibling t a.at → {x : Bool} → x ≡ found w → not x ≡ true → LastAttribute t a
-unfolding found
-last-attribute t a {y} ey g {w} ew {x} ex h = record { kind = sym ey ∙ g; last = sym ew ∙ done w refl (sym ex ∙ not-true x h) }
+pub last-attribute : (t : Tape) (a : Cursor) {y : Kind} → y.code ≡ kind_at t a.at → y.code ≡ 2 → {w : Step} → w ≡ next_sibling t a.at → {x : Bool} → found w ≡ not x → x ≡ true → LastAttribute t a
+last-attribute t a {y} ey g {w} ew {x} ex h = record { kind = sym ey ∙ g; last = sym ew ∙ done w refl (ex ∙ ap not h) }
   where
-    done : (s : Step) → w ≡ s → found s ≡ false → w ≡ Done
-    done Done e f = e
-    done (At k) e f = absurd (let n : ◌≡◌ {A = Bool} true false = f in let no_way : ◌≡◌ {A = ℕ} 0 1 = cc in omega arith)
+    done : (s : Step) → w ≡ s → found s ≡ false → w ≡ None
+    done None e f = e
+    done (Some k) e f = absurd (let n : ◌≡◌ {A = Bool} true false = f in let no_way : ◌≡◌ {A = ℕ} 0 1 = cc in omega arith)
 
 pub no_attribute : (t : Tape) (a : Cursor) → false ≡ true → LastAttribute t a
 no_attribute t a e = absurd (let n : ◌≡◌ {A = Bool} false true = e in let no_way : ◌≡◌ {A = ℕ} 0 1 = cc in omega arith)
 
-module _ (t : Tape) (n : ℕ) {s : Step} (es : s ≡ first_child t n) {k : Cursor} (ek : s ≡ At k) {z : Kind} (ez : z.code ≡ kind_at t k.at) (h : z.code ≡ 1) {x : Step}
+module _ (t : Tape) (n : ℕ) {s : Step} (es : s ≡ first_child t n) {k : Cursor} (ek : s ≡ Some k) {z : Kind} (ez : z.code ≡ kind_at t k.at) (h : z.code ≡ 1) {x : Step}
     (ex : x ≡ next_sibling t k.at) where
   only_by : AttributeAt t x → OnlyText t n k
   only_by r = record { first = sym es ∙ ek; text = sym ez ∙ h; rest = subst (AttributeAt t) ex r }
 
-  pub only_end : x ≡ Done → OnlyText t n k
+  pub only_end : x ≡ None → OnlyText t n k
   only_end e = only_by (subst (AttributeAt t) (sym e) tt)
 
-  pub only_attribute : {a : Cursor} → x ≡ At a → {y : Bool} → (y ≡ true → LastAttribute t a) → y ≡ true → OnlyText t n k
+  pub only_attribute : {a : Cursor} → x ≡ Some a → {y : Bool} → (y ≡ true → LastAttribute t a) → y ≡ true → OnlyText t n k
   only_attribute {a} ea f g = only_by (subst (AttributeAt t) (sym ea) (f g))
 
 -- ---- what it writes
@@ -84,8 +82,8 @@ passed_none node t behind trim k e = inline-turn node t behind trim k [] ∙ rw 
 
 -- nor does what follows the text
 rest-none : (node : ℕ → Bool → List Event) (t : Tape) (behind trim : Bool) (s : Step) → AttributeAt t s → inline_all node t behind trim (walk_from t s) ≡ []
-rest-none node t behind trim Done r = ap (inline_all node t behind trim) (walk_end t refl) ∙ inline-none node t behind trim
-rest-none node t behind trim (At a) r =
+rest-none node t behind trim None r = ap (inline_all node t behind trim) (walk_end t refl) ∙ inline-none node t behind trim
+rest-none node t behind trim (Some a) r =
     ap (inline_all node t behind trim) (walk_at t a ∙ ap (λ (ks : List ℕ). a.at ∷ ks) (walk_end t r.last)) ∙ passed_none node t behind trim a.at r.kind
 
 module _ (t : Tape) (n : ℕ) (k : Cursor) (o : OnlyText t n k) where
@@ -150,51 +148,51 @@ module _ (t : Tape) (k : Cursor) {tail : Bytes} {size front back : ℕ} {r : Boo
       let y : Bool = inline_follows_of t k.at || behind in
       rw (← whole, framed.whole, framed.edges false y, sole_edges front (size - front) y (λ z. omega arith))
 
-  pub lone_put : {s : Bytes} → s ≡ drop front tail → (source : Bytes) (at : ℕ) (d : List ℕ) (out name : Bytes) (last-d : List ℕ) (last : Bytes) (p : Put)
-      → ((n : ℕ) → OnlyText t n k → (x : Bytes) → escape false x ≡ take (size - front) s → PutAs source at d out (char_around t n name (item (text x) ∷ [])) last-d last p)
-      → (n : ℕ) → OnlyText t n k → (node : ℕ → Bool → List Event) (behind : Bool) → PutAs source at d out (char_around t n name (inline_all node t behind true (children t n))) last-d last p
-  lone_put ex source at d out name last-d last p f n o node behind =
-      subst (λ (es : List Event). PutAs source at d out (char_around t n name es) last-d last p) (sym (text-alone t n k o node behind ∙ shows behind)) (f n o body (stands ∙ ap (take (size - front)) (sym ex)))
+  pub lone_put : {s : Bytes} → s ≡ drop front tail → (source : Bytes) (d : Held) (out name : Bytes) (last-d : Held) (last : Bytes) (p : Bool)
+      → ((n : ℕ) → OnlyText t n k → (x : Bytes) → escape false x ≡ take (size - front) s → PutAs source d out (char_around t n name (item (text x) ∷ [])) last-d last p)
+      → (n : ℕ) → OnlyText t n k → (node : ℕ → Bool → List Event) (behind : Bool) → PutAs source d out (char_around t n name (inline_all node t behind true (children t n))) last-d last p
+  lone_put ex source d out name last-d last p f n o node behind =
+      subst (λ (es : List Event). PutAs source d out (char_around t n name es) last-d last p) (sym (text-alone t n k o node behind ∙ shows behind)) (f n o body (stands ∙ ap (take (size - front)) (sym ex)))
 
 -- ---- strokes
 
-module _ {at a z r : ℕ} (d d₁ d₂ d₃ : List ℕ) {out o₁ o₂ last : Bytes} where
-  pub held_drawn : (s : Bytes) → Drew at d out (ends ∷ []) a d₁ o₁ → ((t : Bytes) → escape false t ≡ edged s sole → Drew a d₁ o₁ (stroke.words t ∷ []) z d₂ o₂) → Drew z d₂ o₂ (closes 6 ∷ []) r d₃ last
-      → (t : Bytes) → escape false t ≡ s → Drew at d out (ends ∷ stroke.words t ∷ closes 6 ∷ []) r d₃ last
+module _ (d d₁ d₂ d₃ : Held) {out o₁ o₂ last : Bytes} where
+  pub held_drawn : (s : Bytes) → Drew d out (ends ∷ []) d₁ o₁ → ((t : Bytes) → escape false t ≡ edged s sole → Drew d₁ o₁ (stroke.words t ∷ []) d₂ o₂) → Drew d₂ o₂ (closes 6 ∷ []) d₃ last
+      → (t : Bytes) → escape false t ≡ s → Drew d out (ends ∷ stroke.words t ∷ closes 6 ∷ []) d₃ last
   held_drawn s e₁ e₂ e₃ t et = drew_two d d₁ d₃ e₁ (drew_two d₁ d₂ d₃ (e₂ t (et ∙ sym (sole-edged s))) e₃)
 
-  pub given_drawn : (name given : Bytes) → Drew at d out (opens 6 ∷ key (b "style") ∷ piece true name ∷ end_value_of ∷ []) a d₁ o₁ → {y : Bytes}
-      → ((qs : List Attr) → b " " ++ given ≡ attrs_bytes qs → Drew a d₁ o₁ (strokes_of_attrs qs) z d₂ o₂) → ((t : Bytes) → escape false t ≡ y → Drew z d₂ o₂ (ends ∷ stroke.words t ∷ closes 6 ∷ []) r d₃ last)
+  pub given_drawn : (name given : Bytes) → Drew d out (opens 6 ∷ key (b "style") ∷ piece true name ∷ end_value_of ∷ []) d₁ o₁ → {y : Bytes}
+      → ((qs : List Attr) → b " " ++ given ≡ attrs_bytes qs → Drew d₁ o₁ (strokes_of_attrs qs) d₂ o₂) → ((t : Bytes) → escape false t ≡ y → Drew d₂ o₂ (ends ∷ stroke.words t ∷ closes 6 ∷ []) d₃ last)
       → (qs : List Attr) → b " " ++ given ≡ attrs_bytes qs → (t : Bytes) → escape false t ≡ y
-      → Drew at d out (lone_char name qs t) r d₃ last
+      → Drew d out (lone_char name qs t) d₃ last
   unfolding strokes_of_all strokes_of strokes_of_attrs strokes_of_attr rawly
   given_drawn name given e₁ e₂ e₃ qs eq t et = rw (append_assoc (strokes_of_attrs qs) (ends ∷ []) (stroke.words t ∷ closes 6 ∷ [])) (drew_two d d₁ d₃ e₁ (drew_two d₁ d₂ d₃ (e₂ qs eq) (e₃ t et)))
 
-pub bare_drawn : {at a r : ℕ} (d d₁ d₂ : List ℕ) {out o₁ last : Bytes} (name : Bytes) → Drew at d out (opens 6 ∷ key (b "style") ∷ piece true name ∷ end_value_of ∷ []) a d₁ o₁ → {y : Bytes}
-    → ((t : Bytes) → escape false t ≡ y → Drew a d₁ o₁ (ends ∷ stroke.words t ∷ closes 6 ∷ []) r d₂ last) → (t : Bytes) → escape false t ≡ y → Drew at d out (lone_char name [] t) r d₂ last
+pub bare_drawn : (d d₁ d₂ : Held) {out o₁ last : Bytes} (name : Bytes) → Drew d out (opens 6 ∷ key (b "style") ∷ piece true name ∷ end_value_of ∷ []) d₁ o₁ → {y : Bytes}
+    → ((t : Bytes) → escape false t ≡ y → Drew d₁ o₁ (ends ∷ stroke.words t ∷ closes 6 ∷ []) d₂ last) → (t : Bytes) → escape false t ≡ y → Drew d out (lone_char name [] t) d₂ last
 unfolding strokes_of_all strokes_of strokes_of_attrs strokes_of_attr rawly
 bare_drawn d d₁ d₂ name e₁ e₂ t et = drew_two d d₁ d₂ e₁ (e₂ t et)
 
 -- ---- with its attributes
 
 -- the strokes of a char around a text are its events
-lone_events : {at r : ℕ} (d last-d : List ℕ) {out last : Bytes} (name : Bytes) (qs : List Attr) (x : Bytes) → Drew at d out (lone_char name qs x) r last-d last
-    → (source : Bytes) → desk_of source r last-d last ≡ emit_all (desk_of source at d out) (element 6 (rawly (b "style") name ∷ qs) (item (text x) ∷ []))
+lone_events : (d last-d : Held) {out last : Bytes} (name : Bytes) (qs : List Attr) (x : Bytes) → Drew d out (lone_char name qs x) last-d last
+    → (source : Bytes) → desk_of source last-d last ≡ emit_all (desk_of source d out) (element 6 (rawly (b "style") name ∷ qs) (item (text x) ∷ []))
 unfolding element
 lone_events d last-d name qs x e source = drew_all d last-d (start 6 (rawly (b "style") name ∷ qs) ∷ text x ∷ close 6 ∷ []) e source
 
-module _ (t : Tape) (k : Cursor) {x : Step} (ex : x ≡ next_sibling t k.at) {at r : ℕ} (d last-d : List ℕ) {out last : Bytes} (name : Bytes) {y : Bytes} where
-  pub around-bare : x ≡ Done → ((s : Bytes) → escape false s ≡ y → Drew at d out (lone_char name [] s) r last-d last) → (n : ℕ) → OnlyText t n k → (s : Bytes) → escape false s ≡ y
-      → desk_of t.source r last-d last ≡ emit_all (desk_of t.source at d out) (char_around t n name (item (text s) ∷ []))
-  unfolding collected found
+module _ (t : Tape) (k : Cursor) {x : Step} (ex : x ≡ next_sibling t k.at) (d last-d : Held) {out last : Bytes} (name : Bytes) {y : Bytes} where
+  pub around-bare : x ≡ None → ((s : Bytes) → escape false s ≡ y → Drew d out (lone_char name [] s) last-d last) → (n : ℕ) → OnlyText t n k → (s : Bytes) → escape false s ≡ y
+      → desk_of t.source last-d last ≡ emit_all (desk_of t.source d out) (char_around t n name (item (text s) ∷ []))
+  unfolding collected
   around-bare h f n o s es =
       lone_events d last-d name [] s (f s es) t.source
-      ∙ ap (λ (ps : List Pair). emit_all (desk_of t.source at d out) (element 6 (rawly (b "style") name ∷ collected ps) (item (text s) ∷ [])))
-      (sym (bare-text t n (sym o.first) k refl {x = record { code = kind_at t k.at }} refl o.text {n = Done} (sym h ∙ ex) {y = false} refl refl name))
+      ∙ ap (λ (ps : List Pair). emit_all (desk_of t.source d out) (element 6 (rawly (b "style") name ∷ collected ps) (item (text s) ∷ [])))
+      (sym (bare-text t n (sym o.first) k refl {x = record { code = kind_at t k.at }} refl o.text {n = None} (sym h ∙ ex) {y = true} refl refl name))
 
-  pub around-given : {a : Cursor} → x ≡ At a → {f : Bool} → f ≡ same name (b "fig") → f ≡ false → {given : Bytes} → given ≡ text_at_of t a.at → {u : Bool} → (u ≡ true → Barred given) → not u ≡ false
-      → {rest : Bytes} → rest ≡ drop 1 given → ((qs : List Attr) → b " " ++ rest ≡ attrs_bytes qs → (s : Bytes) → escape false s ≡ y → Drew at d out (lone_char name qs s) r last-d last)
-      → (n : ℕ) → OnlyText t n k → (s : Bytes) → escape false s ≡ y → desk_of t.source r last-d last ≡ emit_all (desk_of t.source at d out) (char_around t n name (item (text s) ∷ []))
+  pub around-given : {a : Cursor} → x ≡ Some a → {f : Bool} → f ≡ same name (b "fig") → f ≡ false → {given : Bytes} → given ≡ text_at_of t a.at → {u : Bool} → (u ≡ true → Barred given) → not u ≡ false
+      → {rest : Bytes} → rest ≡ drop 1 given → ((qs : List Attr) → b " " ++ rest ≡ attrs_bytes qs → (s : Bytes) → escape false s ≡ y → Drew d out (lone_char name qs s) last-d last)
+      → (n : ℕ) → OnlyText t n k → (s : Bytes) → escape false s ≡ y → desk_of t.source last-d last ≡ emit_all (desk_of t.source d out) (char_around t n name (item (text s) ∷ []))
   around-given {a} ea ef hf {given} eg {u} z hu er f n o s es =
       let l : LastAttribute t a = subst (AttributeAt t) (sym ex ∙ ea) o.rest in
       let qs : List Attr = collected (attributes_of t n name) in
@@ -208,9 +206,9 @@ unfolding inside
 inside_list t n zero outer h = absurd (h refl)
 inside_list t n (suc d) outer h = let e : d ≡ suc d - 1 = omega arith in ap (λ (j : ℕ). inline_all (node_in_of (inside t j) t) t (followed t n outer) true (children t n)) e
 
-keeps-behind : (t : Tape) (k : ℕ) → trims_after_of t k ≡ false → (p : Put) → KeepsBehind t k p
-keeps-behind t k e Nothing = tt
-keeps-behind t k e (Written z) = e
+keeps-behind : (t : Tape) (k : ℕ) → trims_after_of t k ≡ false → (p : Bool) → KeepsBehind t k p
+keeps-behind t k e false = tt
+keeps-behind t k e true = e
 
 module _ (t : Tape) (n : ℕ) {z : Kind} (ez : z.code ≡ kind_at t n) (hz : z.code ≡ 3) {name s : Bytes} (es : s ≡ text_at_of t n) (en : name ≡ name_in_of s) {y : Bool}
     (role : y ≡ true → name ≡ marker_name t n → role_of t n ≡ char) (runs : y ≡ true → is_open t n ≡ true → is_inline_of t n ≡ true) (hy : not y ≡ false) where
@@ -227,27 +225,27 @@ module _ (t : Tape) (n : ℕ) {z : Kind} (ez : z.code ≡ kind_at t n) (hz : z.c
       ∙ rw (ne_eqb (kind_at t n) 6 (λ e. omega arith), ne_eqb (kind_at t n) 7 (λ e. omega arith), eq-eqb (kind_at t n) 3 (sym ez ∙ hz), role (not-false y hy) named, closed (not-false x hx), flat (not-false x hx))
 
   pub lone_node : {x : Bool} → (x ≡ true → unclosed t n ≡ []) → (x ≡ true → link_of t n ≡ none) → not x ≡ false → (depth : ℕ) → (depth ≡ 0 → ⊥)
-      → {st : Step} → OnlyAt t n st → {k : Cursor} → st ≡ At k → (source : Bytes) (at : ℕ) (d : List ℕ) (out : Bytes) (last-d : List ℕ) (last : Bytes) (p : Put)
-      → ((m : ℕ) → OnlyText t m k → (node : ℕ → Bool → List Event) (behind : Bool) → PutAs source at d out (char_around t m name (inline_all node t behind true (children t m))) last-d last p)
-      → (outer : Bool) → PutAs source at d out (node_in_of (inside t depth) t n outer) last-d last p
-  lone_node closed flat hx depth hd {st} os {k} ek source at d out last-d last p f outer =
-      subst (λ (es : List Event). PutAs source at d out es last-d last p) (node-char closed flat hx depth hd outer)
+      → {st : Step} → OnlyAt t n st → {k : Cursor} → st ≡ Some k → (source : Bytes) (d : Held) (out : Bytes) (last-d : Held) (last : Bytes) (p : Bool)
+      → ((m : ℕ) → OnlyText t m k → (node : ℕ → Bool → List Event) (behind : Bool) → PutAs source d out (char_around t m name (inline_all node t behind true (children t m))) last-d last p)
+      → (outer : Bool) → PutAs source d out (node_in_of (inside t depth) t n outer) last-d last p
+  lone_node closed flat hx depth hd {st} os {k} ek source d out last-d last p f outer =
+      subst (λ (es : List Event). PutAs source d out es last-d last p) (node-char closed flat hx depth hd outer)
       (f n (subst (OnlyAt t n) ek os) (node_in_of (inside t (depth - 1)) t) (followed t n outer))
 
-  pub lone_keeps : (p : Put) → KeepsBehind t n p
+  pub lone_keeps : (p : Bool) → KeepsBehind t n p
   lone_keeps p =
       keeps-behind t n (sym (trims_other t n ez {r = true} (λ e. omega arith) (λ e. omega arith) (sym (runs (not-false y hy) (kind_is t n ez 3 hz))))) p
 
 -- ---- what was written, and what was not
 
-module _ (source : Bytes) (at : ℕ) (d : List ℕ) (out : Bytes) (es : List Event) (last-d : List ℕ) (last : Bytes) {r : Put} (p : PutAs source at d out es last-d last r) where
-  pub put_written : {z : ℕ} → r ≡ Written z → desk_of source z last-d last ≡ emit_all (desk_of source at d out) es
-  put_written e = subst (PutAs source at d out es last-d last) e p
+module _ (source : Bytes) (d : Held) (out : Bytes) (es : List Event) (last-d : Held) (last : Bytes) {r : Bool} (p : PutAs source d out es last-d last r) where
+  pub put_written : r ≡ true → desk_of source last-d last ≡ emit_all (desk_of source d out) es
+  put_written e = subst (PutAs source d out es last-d last) e p
 
-  pub put_nothing : r ≡ Nothing → desk_of source at last-d last ≡ desk_of source at d out
-  put_nothing e = subst (PutAs source at d out es last-d last) e p
+  pub put_nothing : r ≡ false → desk_of source last-d last ≡ desk_of source d out
+  put_nothing e = subst (PutAs source d out es last-d last) e p
 
-pub kept_behind : (t : Tape) (k : ℕ) {r : Put} → KeepsBehind t k r → {z : ℕ} → r ≡ Written z → trims_after_of t k ≡ false
+pub kept_behind : (t : Tape) (k : ℕ) {r : Bool} → KeepsBehind t k r → r ≡ true → trims_after_of t k ≡ false
 kept_behind t k p e = subst (KeepsBehind t k) e p
 
 -- events from a desk that is as another was

@@ -9,8 +9,8 @@ use Rattle.tape.specs.File.{Tape, kind_at, number_at}
 use Rattle.tape.specs.Tree.{next_sibling, first_child, children, walk_from}
 use Rattle.tape.specs.declared.Cursor.{Cursor}
 use Rattle.tape.specs.declared.kinds.Kind.{Kind}
-use Rattle.tape.specs.declared.Step.{Step}
-use Rattle.tape.specs.declared.Step.TheVariants.{At, Done}
+use Rattle.tape.specs.Found.{Step}
+use Rattle.std.specs.Prelude.{None, Some}
 use Rattle.tape.proofs.Walk.{walk_end, children_walk}
 use Rattle.render.specs.Shape.{trims_after_of}
 use Rattle.render.specs.Follow.{followed, Kept}
@@ -37,10 +37,9 @@ use Rattle.inline_turns.specs.declared.Sort.TheVariants.{End, Enter, Plain}
 use Rattle.inline_turns.specs.declared.Child.{Child}
 use Rattle.inline_turns.proofs.Sorts.{sort_turn, note_sort_turn}
 use Rattle.inline.specs.Lone.{PutAs, KeepsBehind}
-use Rattle.inline.specs.declared.lone.Put.{Put}
-use Rattle.inline.specs.declared.lone.Put.TheVariants.{Written}
 use Rattle.inline.proofs.Alone.{put_written, kept_behind}
 use Rattle.inline_turns.proofs.Laws.{asked_same, follows_learnt, turn-same, note_turn_same}
+use Rattle.desk.specs.declared.Desk.{Desk as Held}
 
 -- ---- markers
 
@@ -67,11 +66,11 @@ module _ (t : Tape) (d k : ℕ) (outer : Bool) (s : Desk) {role' : Role} (er : r
 -- ---- nodes
 
 module _ (t : Tape) (d k : ℕ) (outer : Bool) (s : Desk) {z : Kind} (ez : z.code ≡ kind_at t k) where
-  pub node-chapter : z.code ≡ 6 → {n : ℕ} → n ≡ number_at t k → {r : Desk} → r ≡ emit s (chapter n (folded_number t Done) (folded_number t Done)) → r ≡ emit_all s (node_in_of (inside t d) t k outer)
+  pub node-chapter : z.code ≡ 6 → {n : ℕ} → n ≡ number_at t k → {r : Desk} → r ≡ emit s (chapter n (folded_number t None) (folded_number t None)) → r ≡ emit_all s (node_in_of (inside t d) t k outer)
   unfolding node_in_of emit_all folded_number
   node-chapter h en er = rw (eq-eqb (kind_at t k) 6 (sym ez ∙ h), ← en) er
 
-  pub node-verse : (z.code ≡ 6 → ⊥) → z.code ≡ 7 → {r : Desk} → r ≡ emit s (verse (label_of t k) (folded_number t Done) (folded_number t Done)) → r ≡ emit_all s (node_in_of (inside t d) t k outer)
+  pub node-verse : (z.code ≡ 6 → ⊥) → z.code ≡ 7 → {r : Desk} → r ≡ emit s (verse (label_of t k) (folded_number t None) (folded_number t None)) → r ≡ emit_all s (node_in_of (inside t d) t k outer)
   unfolding node_in_of emit_all folded_number
   node-verse n₆ h er = rw (ne_eqb (kind_at t k) 6 (λ e. n₆ (ez ∙ e)), eq-eqb (kind_at t k) 7 (sym ez ∙ h)) er
 
@@ -123,21 +122,21 @@ module _ (t : Tape) (k : ℕ) (outer : Bool) (s : Desk) where
 
 -- ---- what is kept
 
-kept_for : (t : Tape) {step kept : Step} {c : Cursor} → KeptAt t step kept → step ≡ At c → Kept t c kept
+kept_for : (t : Tape) {step kept : Step} {c : Cursor} → KeptAt t step kept → step ≡ Some c → Kept t c kept
 kept_for t {step} {kept} h e = subst (λ (s : Step). KeptAt t s kept) e h
 
-pub kept_plain : (t : Tape) {step : Step} {c : Cursor} (kept : Step) → step ≡ At c → KeptAt t step kept → (n k : Step) → (Kept t c kept → KeptAt t n k) → KeptAt t n k
+pub kept_plain : (t : Tape) {step : Step} {c : Cursor} (kept : Step) → step ≡ Some c → KeptAt t step kept → (n k : Step) → (Kept t c kept → KeptAt t n k) → KeptAt t n k
 kept_plain t kept e h n k f = f (kept_for t h e)
 
 -- ---- a list of children
 
 module _ (node : ℕ → Bool → List Event) (t : Tape) (span : Span) (parent : Cursor) (outer : Bool) (known : Behind) (trim : Bool) {step : Step} (s : Desk) {s₀ : Desk}
     (inv : emit_all s (inline_all node t (behind_of t parent outer known) trim (nodes_in t span step)) ≡ s₀) where
-  pub inline_done : step ≡ Done → s ≡ s₀
+  pub inline_done : step ≡ None → s ≡ s₀
   unfolding emit_all
   inline_done e = sym (ap (emit_all s) (ap (inline_all node t (behind_of t parent outer known) trim) (nodes_done t span e) ∙ inline-none node t (behind_of t parent outer known) trim)) ∙ inv
 
-  module _ {c : Cursor} (ec : step ≡ At c) {r : Sort} (er : r ≡ sort_in_of t span c.at) where
+  module _ {c : Cursor} (ec : step ≡ Some c) {r : Sort} (er : r ≡ sort_in_of t span c.at) where
     turned : {n : Step} → n ≡ next_sibling t c.at → emit_all s (onward node t (behind_of t parent outer known) trim c.at (nodes_in t span n) r) ≡ s₀
     turned en = ap (emit_all s) (sym (sort_turn node t (behind_of t parent outer known) trim span ec en er)) ∙ inv
 
@@ -173,22 +172,22 @@ module _ (node : ℕ → Bool → List Event) (t : Tape) (span : Span) (parent :
         ∙ ap (λ (z : Sort). emit_all s (onward node t (behind_of t parent outer known) trim c.at (nodes_in t span (next_sibling t c.at)) z)) (sym h) ∙ turned refl
 
   -- one that is written whatever follows the parent
-  pub inline_lone : (c : Cursor) (source : Bytes) (at : ℕ) (d : List ℕ) (out : Bytes) (last-d : List ℕ) (last : Bytes) (p : Put) → s ≡ desk_of source at d out
-      → ((y : Bool) → PutAs source at d out (node c.at y) last-d last p) → KeepsBehind t c.at p → {z : ℕ} → p ≡ Written z → step ≡ At c → {r : Sort} → r ≡ sort_in_of t span c.at → r ≡ Enter
-      → {n : Step} → n ≡ next_sibling t c.at → emit_all (desk_of source z last-d last) (inline_all node t (behind_of t parent outer known) false (nodes_in t span n)) ≡ s₀
-  inline_lone c source at d out last-d last p es f k ep ec er h en =
+  pub inline_lone : (c : Cursor) (source : Bytes) (d : Held) (out : Bytes) (last-d : Held) (last : Bytes) (p : Bool) → s ≡ desk_of source d out
+      → ((y : Bool) → PutAs source d out (node c.at y) last-d last p) → KeepsBehind t c.at p → p ≡ true → step ≡ Some c → {r : Sort} → r ≡ sort_in_of t span c.at → r ≡ Enter
+      → {n : Step} → n ≡ next_sibling t c.at → emit_all (desk_of source last-d last) (inline_all node t (behind_of t parent outer known) false (nodes_in t span n)) ≡ s₀
+  inline_lone c source d out last-d last p es f k ep ec er h en =
       let y : Bool = behind_of t parent outer known in
-      entered ec er h (put_written source at d out (node c.at y) last-d last (f y) ep ∙ ap (λ (x : Desk). emit_all x (node c.at y)) (sym es)) (sym (kept_behind t c.at k ep)) en
+      entered ec er h (put_written source d out (node c.at y) last-d last (f y) ep ∙ ap (λ (x : Desk). emit_all x (node c.at y)) (sym es)) (sym (kept_behind t c.at k ep)) en
 
 -- ---- a note's children
 
 module _ (node : ℕ → Bool → List Event) (t : Tape) (first : ℕ) (parent : Cursor) (outer : Bool) (known : Behind) (trim : Bool) {step : Step} (s : Desk) {s₀ : Desk}
     (inv : emit_all s (note_all node t first (behind_of t parent outer known) trim (walk_from t step)) ≡ s₀) where
-  pub note_done : step ≡ Done → s ≡ s₀
+  pub note_done : step ≡ None → s ≡ s₀
   unfolding emit_all note_all
   note_done e = sym (ap (λ (ks : List ℕ). emit_all s (note_all node t first (behind_of t parent outer known) trim ks)) (walk_end t e)) ∙ inv
 
-  module _ {c : Cursor} (ec : step ≡ At c) {r : Sort} (er : r ≡ note_sort_of t c.at) where
+  module _ {c : Cursor} (ec : step ≡ Some c) {r : Sort} (er : r ≡ note_sort_of t c.at) where
     note_turned : {n : Step} → n ≡ next_sibling t c.at → emit_all s (note_onward node t (behind_of t parent outer known) trim first c.at (walk_from t n) r) ≡ s₀
     note_turned en = ap (emit_all s) (sym (note_sort_turn node t (behind_of t parent outer known) trim first ec en er)) ∙ inv
 
@@ -224,9 +223,9 @@ module _ (node : ℕ → Bool → List Event) (t : Tape) (first : ℕ) (parent :
         ∙ ap (λ (z : Sort). emit_all s (note_onward node t (behind_of t parent outer known) trim first c.at (walk_from t (next_sibling t c.at)) z)) (sym h) ∙ note_turned refl
 
   -- one that is written whatever follows the parent
-  pub note_lone : (c : Cursor) (source : Bytes) (at : ℕ) (d : List ℕ) (out : Bytes) (last-d : List ℕ) (last : Bytes) (p : Put) → s ≡ desk_of source at d out
-      → ((y : Bool) → PutAs source at d out (node c.at y) last-d last p) → KeepsBehind t c.at p → {z : ℕ} → p ≡ Written z → step ≡ At c → {r : Sort} → r ≡ note_sort_of t c.at → r ≡ Enter
-      → {n : Step} → n ≡ next_sibling t c.at → emit_all (desk_of source z last-d last) (note_all node t first (behind_of t parent outer known) false (walk_from t n)) ≡ s₀
-  note_lone c source at d out last-d last p es f k ep ec er h en =
+  pub note_lone : (c : Cursor) (source : Bytes) (d : Held) (out : Bytes) (last-d : Held) (last : Bytes) (p : Bool) → s ≡ desk_of source d out
+      → ((y : Bool) → PutAs source d out (node c.at y) last-d last p) → KeepsBehind t c.at p → p ≡ true → step ≡ Some c → {r : Sort} → r ≡ note_sort_of t c.at → r ≡ Enter
+      → {n : Step} → n ≡ next_sibling t c.at → emit_all (desk_of source last-d last) (note_all node t first (behind_of t parent outer known) false (walk_from t n)) ≡ s₀
+  note_lone c source d out last-d last p es f k ep ec er h en =
       let y : Bool = behind_of t parent outer known in
-      note_in ec er h (put_written source at d out (node c.at y) last-d last (f y) ep ∙ ap (λ (x : Desk). emit_all x (node c.at y)) (sym es)) (sym (kept_behind t c.at k ep)) en
+      note_in ec er h (put_written source d out (node c.at y) last-d last (f y) ep ∙ ap (λ (x : Desk). emit_all x (node c.at y)) (sym es)) (sym (kept_behind t c.at k ep)) en

@@ -17,8 +17,8 @@ use Rattle.tape.specs.Tree.{next_sibling, walk_from, left}
 use Rattle.tape.specs.declared.Sections.{Sections}
 use Rattle.tape.specs.declared.kinds.Kind.{Kind}
 use Rattle.tape.specs.declared.Cursor.{Cursor}
-use Rattle.tape.specs.declared.Step.{Step}
-use Rattle.tape.specs.declared.Step.TheVariants.{At, Done}
+use Rattle.tape.specs.Found.{Step}
+use Rattle.std.specs.Prelude.{None, Some}
 use Rattle.tape.proofs.Laws.{text_front}
 use Rattle.tape.proofs.Walk.{left-turn}
 use Rattle.leading_white.specs.Lean.{lean}
@@ -43,46 +43,47 @@ use Rattle.inline_turns.specs.declared.Behind.TheVariants.{Unasked, Follows, End
 use Rattle.inline_turns.specs.declared.Child.{Child}
 use Rattle.inline_turns.specs.declared.Going.{Going}
 use Rattle.inline_turns.specs.declared.Child.TheVariants.{Skipped, Anchor, Words, Passed}
+use Rattle.desk.specs.declared.Desk.{Desk as Held}
 
 -- ---- the solid sibling that is kept
 
 -- a step serves the child that it leads to
 pub kept_here : (t : Tape) (next : Step) → KeptAt t next next
-kept_here t Done = tt
-kept_here t (At c) = kept_first t c refl
+kept_here t None = tt
+kept_here t (Some c) = kept_first t c refl
 
 module _ (t : Tape) (c : Cursor) where
   -- what is solid behind a child serves the next
   solid_on : (next : Step) {solid : Step} → solid ≡ next_solid_of t c.at → next ≡ next_sibling t c.at → KeptAt t next solid
-  solid_on Done es en = tt
-  solid_on (At d) es en = kept_on t c.at d (sym en) es
+  solid_on None es en = tt
+  solid_on (Some d) es en = kept_on t c.at d (sym en) es
 
   pub kept_solid : {kept : Step} (next : Step) {solid : Step} → (Kept t c kept → solid ≡ next_solid_of t c.at) → Kept t c kept → next ≡ next_sibling t c.at → KeptAt t next solid
   kept_solid next es h en = solid_on next (es h) en
 
 module _ (c : Cursor) {kept : Step} (next : Step) where
-  pub past_done : kept ≡ Done → (t : Tape) → Kept t c kept → next ≡ next_sibling t c.at → KeptAt t next Done
+  pub past_done : kept ≡ None → (t : Tape) → Kept t c kept → next ≡ next_sibling t c.at → KeptAt t next None
   past_done ed t h en = solid_on t c next (behind_done t c ed h) en
 
   pub past_here : (t : Tape) → Kept t c kept → next ≡ next_sibling t c.at → KeptAt t next next
   past_here t h en = kept_here t next
 
-  pub past_far : (d : Cursor) → kept ≡ At d → (d.at ≡ c.at → ⊥) → (t : Tape) → Kept t c kept → next ≡ next_sibling t c.at → KeptAt t next (At d)
+  pub past_far : (d : Cursor) → kept ≡ Some d → (d.at ≡ c.at → ⊥) → (t : Tape) → Kept t c kept → next ≡ next_sibling t c.at → KeptAt t next (Some d)
   past_far d ed n t h en = solid_on t c next (behind_far t c d ed n h) en
 
 -- what is kept behind a child, itself
 
 module _ (k : ℕ) (next : Step) {kept : Step} where
-  pub past-none : kept ≡ Done → Done ≡ kept_past kept k next
+  pub past-none : kept ≡ None → None ≡ kept_past kept k next
   unfolding kept_past
   past-none h = rw h
 
-  module _ (d : Cursor) (h : kept ≡ At d) where
+  module _ (d : Cursor) (h : kept ≡ Some d) where
     pub past_itself : d.at ≡ k → next ≡ kept_past kept k next
     unfolding kept_past
     past_itself e = rw (h, eq-eqb d.at k e)
 
-    pub past-other : (d.at ≡ k → ⊥) → At d ≡ kept_past kept k next
+    pub past-other : (d.at ≡ k → ⊥) → Some d ≡ kept_past kept k next
     unfolding kept_past
     past-other n = rw (h, ne_eqb d.at k n)
 
@@ -214,10 +215,10 @@ module _ (t : Tape) (c : Cursor) (kept : Step) (s : Bytes) {e : Bool} (ee : e �
 -- ---- a glance behind a text
 
 module _ (t : Tape) {next : Step} where
-  pub runs_done : next ≡ Done → false ≡ true → (k : ℕ) → next ≡ next_sibling t k → next_solid_of t k ≡ next
+  pub runs_done : next ≡ None → false ≡ true → (k : ℕ) → next ≡ next_sibling t k → next_solid_of t k ≡ next
   runs_done ed h k en = solid_end t k (sym en ∙ ed) ∙ sym ed
 
-  module _ (d : Cursor) {x : Bool} (ed : next ≡ At d) where
+  module _ (d : Cursor) {x : Bool} (ed : next ≡ Some d) where
     pub runs_solid : (x ≡ true → is_solid t d.at ≡ true) → x ≡ true → (k : ℕ) → next ≡ next_sibling t k → next_solid_of t k ≡ next
     runs_solid f h k en = solid_here t k d (sym en ∙ ed) (f h) ∙ sym ed
 
@@ -265,16 +266,16 @@ framed-text : (t : Tape) (c : Cursor) (trim b : Bool) (kept : Step) (tail : Byte
 framed-text t c trim b kept tail f y en el here h =
     en ∙ sym (here.framed.edges (not trim) y) ∙ ap (λ (z : Bytes). normalize_text z (not trim) y) here.text ∙ el (text_at_of t c.at) trim (frame_ends t c.at tail f here) h
 
-module _ (c : Sections) (file : Bytes) (k : Cursor) (trim behind : Bool) (kept : Step) (at : ℕ) (d : List ℕ) (out : Bytes) where
+module _ (c : Sections) (file : Bytes) (k : Cursor) (trim behind : Bool) (kept : Step) (d : Held) (out : Bytes) where
   text-written : {n : Normalized} → n ≡ normalized (tape_in c file) k.at (text_at_of (tape_in c file) k.at) trim behind
-      → (r : ℕ) (last-d : List ℕ) (last : Bytes) → ((source : Bytes) → desk_of source r last-d last ≡ emit_all (desk_of source at d out) (broken (text_at_of (tape_in c file) k.at) n))
+      → (last-d : Held) (last : Bytes) → ((source : Bytes) → desk_of source last-d last ≡ emit_all (desk_of source d out) (broken (text_at_of (tape_in c file) k.at) n))
       → {x : Bool} → x ≡ trim && not n.shows → (node : ℕ → Bool → List Event) (ks : List ℕ)
-      → emit_all (desk_of (tape_in c file).source r last-d last) (inline_all node (tape_in c file) behind x ks)
-      ≡ emit_all (desk_of (tape_in c file).source at d out) (plain_from node (tape_in c file) behind trim k.at ks Words)
+      → emit_all (desk_of (tape_in c file).source last-d last) (inline_all node (tape_in c file) behind x ks)
+      ≡ emit_all (desk_of (tape_in c file).source d out) (plain_from node (tape_in c file) behind trim k.at ks Words)
   unfolding plain_from inline_on inline_turn
-  text-written {n} is r last-d last er {x} ex node ks =
+  text-written {n} is last-d last er {x} ex node ks =
       let t : Tape = tape_in c file in
-      let w : Desk = desk_of t.source at d out in
+      let w : Desk = desk_of t.source d out in
       let s : Bytes = text_at_of t k.at in
       ap (λ (z : Desk). emit_all z (inline_all node t behind x ks)) (er t.source)
       ∙ sym (emit-append w (broken s n) (inline_all node t behind x ks))
@@ -282,45 +283,45 @@ module _ (c : Sections) (file : Bytes) (k : Cursor) (trim behind : Bool) (kept :
       ∙ ap (λ (z : Normalized). emit_all w (broken s z ++ inline_all node t behind (trim && not z.shows) ks)) is
 
   pub words-written : {s : Bytes} → s ≡ lean (text_at_of (tape_in c file) k.at) → {n : Normalized} → (Kept (tape_in c file) k kept → n ≡ normalized (tape_in c file) k.at s trim behind)
-      → (r : ℕ) (last-d : List ℕ) (last : Bytes) → ((source : Bytes) → desk_of source r last-d last ≡ emit_all (desk_of source at d out) (broken s n))
+      → (last-d : Held) (last : Bytes) → ((source : Bytes) → desk_of source last-d last ≡ emit_all (desk_of source d out) (broken s n))
       → {x : Bool} → x ≡ trim && not n.shows
       → Kept (tape_in c file) k kept → (node : ℕ → Bool → List Event) (ks : List ℕ)
-      → emit_all (desk_of (tape_in c file).source r last-d last) (inline_all node (tape_in c file) behind x ks)
-      ≡ emit_all (desk_of (tape_in c file).source at d out) (plain_from node (tape_in c file) behind trim k.at ks Words)
-  words-written {s} es {n} en r last-d last er ex h =
+      → emit_all (desk_of (tape_in c file).source last-d last) (inline_all node (tape_in c file) behind x ks)
+      ≡ emit_all (desk_of (tape_in c file).source d out) (plain_from node (tape_in c file) behind trim k.at ks Words)
+  words-written {s} es {n} en last-d last er ex h =
       let t : Tape = tape_in c file in
       text-written (en h ∙ ap (λ (z : Bytes). normalized t k.at z trim behind) es ∙ normalized-lean t k.at (text_at_of t k.at) trim behind)
-      r last-d last
-      (λ source. er source ∙ ap (emit_all (desk_of source at d out)) (ap (λ (z : Bytes). broken z n) es ∙ broken-lean (text_at_of t k.at) n))
+      last-d last
+      (λ source. er source ∙ ap (emit_all (desk_of source d out)) (ap (λ (z : Bytes). broken z n) es ∙ broken-lean (text_at_of t k.at) n))
       ex
 
   -- a text that is told by its frame
   pub framed-written : (tail : Bytes) (front len : ℕ) (ends y : Bool) {n : Normalized} → n ≡ framed_text_of (record { front = front; len = len; ends = ends }) (not trim) y
       → ((s : Bytes) (trim : Bool) → ends ≡ ends_white s → Kept (tape_in c file) k kept → normalize_text s (not trim) y ≡ normalized (tape_in c file) k.at s trim behind)
-      → (r : ℕ) (last-d : List ℕ) (last : Bytes) → ((size : ℕ) (ends : Bool) → Framed tail size (record { front = front; len = len; ends = ends }) → (source : Bytes) → desk_of source r last-d last ≡ emit_all (desk_of source at d out) (broken (take size tail) n))
+      → (last-d : Held) (last : Bytes) → ((size : ℕ) (ends : Bool) → Framed tail size (record { front = front; len = len; ends = ends }) → (source : Bytes) → desk_of source last-d last ≡ emit_all (desk_of source d out) (broken (take size tail) n))
       → {x : Bool} → x ≡ trim && not n.shows
       → Here (tape_in c file) k.at tail (record { front = front; len = len; ends = ends }) → Kept (tape_in c file) k kept → (node : ℕ → Bool → List Event) (ks : List ℕ)
-      → emit_all (desk_of (tape_in c file).source r last-d last) (inline_all node (tape_in c file) behind x ks)
-      ≡ emit_all (desk_of (tape_in c file).source at d out) (plain_from node (tape_in c file) behind trim k.at ks Words)
-  framed-written tail front len ends y {n} en el r last-d last er ex here h =
+      → emit_all (desk_of (tape_in c file).source last-d last) (inline_all node (tape_in c file) behind x ks)
+      ≡ emit_all (desk_of (tape_in c file).source d out) (plain_from node (tape_in c file) behind trim k.at ks Words)
+  framed-written tail front len ends y {n} en el last-d last er ex here h =
       let t : Tape = tape_in c file in
       text-written (framed-text t k trim behind kept tail (record { front = front; len = len; ends = ends }) y en el here h)
-      r last-d last
-      (λ source. er here.size ends here.framed source ∙ ap (λ (z : Bytes). emit_all (desk_of source at d out) (broken z n)) here.text)
+      last-d last
+      (λ source. er here.size ends here.framed source ∙ ap (λ (z : Bytes). emit_all (desk_of source d out) (broken z n)) here.text)
       ex
 
   pub note-written : (parent : Cursor) {s : Bytes} → s ≡ lean (note_text (tape_in c file) (parent.at + 1) k.at) → {n : Normalized}
       → (Kept (tape_in c file) k kept → n ≡ normalized (tape_in c file) k.at s trim behind)
-      → (r : ℕ) (last-d : List ℕ) (last : Bytes) → ((source : Bytes) → desk_of source r last-d last ≡ emit_all (desk_of source at d out) (unbroken s n))
+      → (last-d : Held) (last : Bytes) → ((source : Bytes) → desk_of source last-d last ≡ emit_all (desk_of source d out) (unbroken s n))
       → {x : Bool} → x ≡ trim && not n.shows
       → Kept (tape_in c file) k kept → (node : ℕ → Bool → List Event) (ks : List ℕ)
-      → emit_all (desk_of (tape_in c file).source r last-d last) (note_all node (tape_in c file) (parent.at + 1) behind x ks)
-      ≡ emit_all (desk_of (tape_in c file).source at d out) (note_plain node (tape_in c file) behind trim (parent.at + 1) k.at ks Words)
+      → emit_all (desk_of (tape_in c file).source last-d last) (note_all node (tape_in c file) (parent.at + 1) behind x ks)
+      ≡ emit_all (desk_of (tape_in c file).source d out) (note_plain node (tape_in c file) behind trim (parent.at + 1) k.at ks Words)
   unfolding note_plain note_turn_of
-  note-written parent {s} es {n} en r last-d last er {x} ex h node ks =
+  note-written parent {s} es {n} en last-d last er {x} ex h node ks =
       let t : Tape = tape_in c file in
       let first : ℕ = parent.at + 1 in
-      let w : Desk = desk_of t.source at d out in
+      let w : Desk = desk_of t.source d out in
       let is : n ≡ normalized t k.at (note_text t first k.at) trim behind = en h ∙ ap (λ (z : Bytes). normalized t k.at z trim behind) es ∙ normalized-lean t k.at (note_text t first k.at) trim behind in
       ap (λ (z : Desk). emit_all z (note_all node t first behind x ks)) (er t.source)
       ∙ sym (emit-append w (unbroken s n) (note_all node t first behind x ks))
@@ -364,93 +365,93 @@ module _ (t : Tape) (parent c : Cursor) {x : Bool} (ex : x ≡ eqb c.at (parent.
 
 -- ---- a verse
 
-module _ (c : Sections) (file : Bytes) (span : Span) (k : Cursor) (at : ℕ) (d : List ℕ) (out : Bytes)
+module _ (c : Sections) (file : Bytes) (span : Span) (k : Cursor) (d : Held) (out : Bytes)
     {first : Step} (ef : first ≡ next_sibling (tape_in c file) k.at) {kind : Kind} (ek : kind.code ≡ 7) (f : Folds)
     (e : folded_in (tape_in c file) span f ≡ fold_at (tape_in c file) kind.code (nodes_in (tape_in c file) span first)) where
-  pub anchor_written : (r : ℕ) (last-d : List ℕ) (last : Bytes)
-      → desk_of (tape_in c file).source r last-d last ≡ emit (desk_of (tape_in c file).source at d out) (verse (label_of (tape_in c file) k.at) (folded_number (tape_in c file) f.alt) (folded_number (tape_in c file) f.published))
+  pub anchor_written : (last-d : Held) (last : Bytes)
+      → desk_of (tape_in c file).source last-d last ≡ emit (desk_of (tape_in c file).source d out) (verse (label_of (tape_in c file) k.at) (folded_number (tape_in c file) f.alt) (folded_number (tape_in c file) f.published))
       → (node : ℕ → Bool → List Event) (behind trim : Bool)
-      → emit_all (desk_of (tape_in c file).source r last-d last) (inline_all node (tape_in c file) behind true (nodes_in (tape_in c file) span f.rest))
-      ≡ emit_all (desk_of (tape_in c file).source at d out) (plain_from node (tape_in c file) behind trim k.at (nodes_in (tape_in c file) span (next_sibling (tape_in c file) k.at)) Anchor)
+      → emit_all (desk_of (tape_in c file).source last-d last) (inline_all node (tape_in c file) behind true (nodes_in (tape_in c file) span f.rest))
+      ≡ emit_all (desk_of (tape_in c file).source d out) (plain_from node (tape_in c file) behind trim k.at (nodes_in (tape_in c file) span (next_sibling (tape_in c file) k.at)) Anchor)
   unfolding plain_from inline_on inline_turn emit_all folded_in
-  anchor_written r last-d last er node behind trim =
+  anchor_written last-d last er node behind trim =
       let t : Tape = tape_in c file in
-      let w : Desk = desk_of t.source at d out in
+      let w : Desk = desk_of t.source d out in
       let folded : folded_in t span f ≡ fold_at t 7 (nodes_in t span (next_sibling t k.at)) = e ∙ rw (ek, ef) in
       ap (λ (z : Desk). emit_all z (inline_all node t behind true (nodes_in t span f.rest))) er
       ∙ ap (λ (z : Folded). emit_all (emit w (verse (label_of t k.at) z.alt z.published)) (inline_all node t behind true z.rest)) folded
 
-pub anchor_left : (t : Tape) (k : Cursor) (rest : Step) {first : Step} → first ≡ next_sibling t k.at → left t rest ≤ left t first → left t rest < left t (At k)
+pub anchor_left : (t : Tape) (k : Cursor) (rest : Step) {first : Step} → first ≡ next_sibling t k.at → left t rest ≤ left t first → left t rest < left t (Some k)
 anchor_left t k rest ef h = omega (arith, left-turn t k refl ef)
 
 -- ---- a turn
 
-pub turn-left : (t : Tape) (k : Cursor) {next : Step} → next ≡ next_sibling t k.at → left t next < left t (At k)
+pub turn-left : (t : Tape) (k : Cursor) {next : Step} → next ≡ next_sibling t k.at → left t next < left t (Some k)
 turn-left t k en = left-turn t k refl en
 
 pub anchor_kept : (t : Tape) (k : Cursor) (kept next solid : Step) → KeptAt t next solid → Kept t k kept → KeptAt t next solid
 anchor_kept t k kept next solid e h = e
 
-module _ (c : Sections) (file : Bytes) (span : Span) (k : Cursor) (trim behind : Bool) (kept : Step) (at : ℕ) (d : List ℕ) (out : Bytes) (g : Going) where
+module _ (c : Sections) (file : Bytes) (span : Span) (k : Cursor) (trim behind : Bool) (kept : Step) (d : Held) (out : Bytes) (g : Going) where
   -- what is left to write behind the turn is what was left before it, from such a child on
-  abbrev Goes : List ℕ → Bytes → Child → Type 0
+  abbrev Goes : Held → Bytes → Child → Type 0
   Goes last-d last child =
       Kept (tape_in c file) k kept → (node : ℕ → Bool → List Event)
-      → emit_all (desk_of (tape_in c file).source g.at last-d last) (inline_all node (tape_in c file) behind g.trim (nodes_in (tape_in c file) span g.next))
-      ≡ emit_all (desk_of (tape_in c file).source at d out) (plain_from node (tape_in c file) behind trim k.at (nodes_in (tape_in c file) span (next_sibling (tape_in c file) k.at)) child)
+      → emit_all (desk_of (tape_in c file).source last-d last) (inline_all node (tape_in c file) behind g.trim (nodes_in (tape_in c file) span g.next))
+      ≡ emit_all (desk_of (tape_in c file).source d out) (plain_from node (tape_in c file) behind trim k.at (nodes_in (tape_in c file) span (next_sibling (tape_in c file) k.at)) child)
 
-  pub plain_anchor : {child : Child} → child ≡ Anchor → (last-d : List ℕ) (last : Bytes)
+  pub plain_anchor : {child : Child} → child ≡ Anchor → (last-d : Held) (last : Bytes)
       → ((node : ℕ → Bool → List Event) (behind trim : Bool)
-      → emit_all (desk_of (tape_in c file).source g.at last-d last) (inline_all node (tape_in c file) behind g.trim (nodes_in (tape_in c file) span g.next))
-      ≡ emit_all (desk_of (tape_in c file).source at d out) (plain_from node (tape_in c file) behind trim k.at (nodes_in (tape_in c file) span (next_sibling (tape_in c file) k.at)) Anchor))
+      → emit_all (desk_of (tape_in c file).source last-d last) (inline_all node (tape_in c file) behind g.trim (nodes_in (tape_in c file) span g.next))
+      ≡ emit_all (desk_of (tape_in c file).source d out) (plain_from node (tape_in c file) behind trim k.at (nodes_in (tape_in c file) span (next_sibling (tape_in c file) k.at)) Anchor))
       → Goes last-d last child
   plain_anchor ec last-d last e h node = rw ec (e node behind trim)
 
-  pub plain-words : {child : Child} → child ≡ Words → (last-d : List ℕ) (last : Bytes)
+  pub plain-words : {child : Child} → child ≡ Words → (last-d : Held) (last : Bytes)
       → (Kept (tape_in c file) k kept → (node : ℕ → Bool → List Event) (ks : List ℕ)
-      → emit_all (desk_of (tape_in c file).source g.at last-d last) (inline_all node (tape_in c file) behind g.trim ks)
-      ≡ emit_all (desk_of (tape_in c file).source at d out) (plain_from node (tape_in c file) behind trim k.at ks Words))
+      → emit_all (desk_of (tape_in c file).source last-d last) (inline_all node (tape_in c file) behind g.trim ks)
+      ≡ emit_all (desk_of (tape_in c file).source d out) (plain_from node (tape_in c file) behind trim k.at ks Words))
       → g.next ≡ next_sibling (tape_in c file) k.at → Goes last-d last child
   plain-words ec last-d last e en h node = rw (ec, en) (e h node (nodes_in (tape_in c file) span (next_sibling (tape_in c file) k.at)))
 
-  module _ {child : Child} (es : g.at ≡ at) (et : g.trim ≡ trim) (en : g.next ≡ next_sibling (tape_in c file) k.at) where
+  module _ {child : Child} (et : g.trim ≡ trim) (en : g.next ≡ next_sibling (tape_in c file) k.at) where
     pub plain_passed : child ≡ Passed → Goes d out child
     unfolding plain_from
-    plain_passed ec h node = rw (ec, es, et, en)
+    plain_passed ec h node = rw (ec, et, en)
 
     pub plain_skipped : child ≡ Skipped → Goes d out child
     unfolding plain_from
-    plain_skipped ec h node = rw (ec, es, et, en)
+    plain_skipped ec h node = rw (ec, et, en)
 
 -- ---- a turn along a note
 
-module _ (c : Sections) (file : Bytes) (parent k : Cursor) (trim behind : Bool) (kept : Step) (at : ℕ) (d : List ℕ) (out : Bytes) (g : Going) where
+module _ (c : Sections) (file : Bytes) (parent k : Cursor) (trim behind : Bool) (kept : Step) (d : Held) (out : Bytes) (g : Going) where
   -- the same for a note
-  abbrev NoteGoes : List ℕ → Bytes → Child → Type 0
+  abbrev NoteGoes : Held → Bytes → Child → Type 0
   NoteGoes last-d last child =
       Kept (tape_in c file) k kept → (node : ℕ → Bool → List Event)
-      → emit_all (desk_of (tape_in c file).source g.at last-d last) (note_all node (tape_in c file) (parent.at + 1) behind g.trim (walk_from (tape_in c file) g.next))
-      ≡ emit_all (desk_of (tape_in c file).source at d out) (note_plain node (tape_in c file) behind trim (parent.at + 1) k.at (walk_from (tape_in c file) (next_sibling (tape_in c file) k.at)) child)
+      → emit_all (desk_of (tape_in c file).source last-d last) (note_all node (tape_in c file) (parent.at + 1) behind g.trim (walk_from (tape_in c file) g.next))
+      ≡ emit_all (desk_of (tape_in c file).source d out) (note_plain node (tape_in c file) behind trim (parent.at + 1) k.at (walk_from (tape_in c file) (next_sibling (tape_in c file) k.at)) child)
 
-  pub note_turn_words : {child : Child} → child ≡ Words → (last-d : List ℕ) (last : Bytes)
+  pub note_turn_words : {child : Child} → child ≡ Words → (last-d : Held) (last : Bytes)
       → (Kept (tape_in c file) k kept → (node : ℕ → Bool → List Event) (ks : List ℕ)
-      → emit_all (desk_of (tape_in c file).source g.at last-d last) (note_all node (tape_in c file) (parent.at + 1) behind g.trim ks)
-      ≡ emit_all (desk_of (tape_in c file).source at d out) (note_plain node (tape_in c file) behind trim (parent.at + 1) k.at ks Words))
+      → emit_all (desk_of (tape_in c file).source last-d last) (note_all node (tape_in c file) (parent.at + 1) behind g.trim ks)
+      ≡ emit_all (desk_of (tape_in c file).source d out) (note_plain node (tape_in c file) behind trim (parent.at + 1) k.at ks Words))
       → g.next ≡ next_sibling (tape_in c file) k.at → NoteGoes last-d last child
   note_turn_words ec last-d last e en h node = rw (ec, en) (e h node (walk_from (tape_in c file) (next_sibling (tape_in c file) k.at)))
 
-  module _ {child : Child} (es : g.at ≡ at) (et : g.trim ≡ trim) (en : g.next ≡ next_sibling (tape_in c file) k.at) where
+  module _ {child : Child} (et : g.trim ≡ trim) (en : g.next ≡ next_sibling (tape_in c file) k.at) where
     pub note_turn_passed : child ≡ Passed → NoteGoes d out child
     unfolding note_plain
-    note_turn_passed ec h node = rw (ec, es, et, en)
+    note_turn_passed ec h node = rw (ec, et, en)
 
     pub note_turn_anchor : child ≡ Anchor → NoteGoes d out child
     unfolding note_plain
-    note_turn_anchor ec h node = rw (ec, es, et, en)
+    note_turn_anchor ec h node = rw (ec, et, en)
 
     pub note_turn_skipped : child ≡ Skipped → NoteGoes d out child
     unfolding note_plain
-    note_turn_skipped ec h node = rw (ec, es, et, en)
+    note_turn_skipped ec h node = rw (ec, et, en)
 
 -- ---- where a turn leads, and whether it still trims
 

@@ -10,8 +10,8 @@ use Rattle.tape.specs.File.{Tape, kind_at}
 use Rattle.tape.specs.Tree.{next_sibling, walk_from}
 use Rattle.tape.specs.declared.kinds.Kind.{Kind}
 use Rattle.tape.specs.declared.Cursor.{Cursor}
-use Rattle.tape.specs.declared.Step.{Step}
-use Rattle.tape.specs.declared.Step.TheVariants.{At}
+use Rattle.tape.specs.Found.{Step}
+use Rattle.std.specs.Prelude.{Some}
 use Rattle.tape.proofs.Walk.{walk_turn}
 use Rattle.render.specs.Shape.{is_category_marker_of, is_top_level_block_of}
 use Rattle.lists.specs.Span.{nodes_in, member_of_of, listed_by}
@@ -132,7 +132,7 @@ module _ (node : ℕ → Bool → List Event) (t : Tape) (behind trim : Bool) wh
   member_on k ks Listed = inline-turn node t behind trim k ks ∙ listed_on k ks
 
   -- one turn along a list that may be cut or filtered
-  pub sort_turn : (span : Span) {c : Cursor} {s n : Step} {r : Sort} → s ≡ At c → n ≡ next_sibling t c.at → r ≡ sort_in_of t span c.at
+  pub sort_turn : (span : Span) {c : Cursor} {s n : Step} {r : Sort} → s ≡ Some c → n ≡ next_sibling t c.at → r ≡ sort_in_of t span c.at
       → inline_all node t behind trim (nodes_in t span s) ≡ onward node t behind trim c.at (nodes_in t span n) r
   unfolding sort_in_of
   sort_turn span {c} {s} {n} {r} es en er =
@@ -153,7 +153,7 @@ module _ (node : ℕ → Bool → List Event) (t : Tape) (behind trim : Bool) wh
       go false false false = refl
 
   -- one turn along a note's children
-  pub note_sort_turn : (first : ℕ) {c : Cursor} {s n : Step} {r : Sort} → s ≡ At c → n ≡ next_sibling t c.at → r ≡ note_sort_of t c.at
+  pub note_sort_turn : (first : ℕ) {c : Cursor} {s n : Step} {r : Sort} → s ≡ Some c → n ≡ next_sibling t c.at → r ≡ note_sort_of t c.at
       → note_all node t first behind trim (walk_from t s) ≡ note_onward node t behind trim first c.at (walk_from t n) r
   note_sort_turn first {c} {s} {n} {r} es en er =
       ap (note_all node t first behind trim) (walk_turn t c es en)

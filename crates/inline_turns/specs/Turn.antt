@@ -1,12 +1,11 @@
 -- Turns along a list of inline children, by what a child is to it.
-use Rattle.std.specs.Prelude.{ℕ, ◌≡◌, List, [], ◌++◌, Bool, true, false, cond, not, ◌&&◌, ◌||◌, take, eqb}
+use Rattle.std.specs.Prelude.{ℕ, ◌≡◌, List, [], ◌++◌, Bool, true, false, cond, not, ◌&&◌, ◌||◌, take, eqb, None, Some}
 use Rattle.parts.specs.Bytes.{Bytes}
 use Rattle.texts.specs.Text.{ends_white}
 use Rattle.put_body.specs.Frame.{Frame, Framed}
 use Rattle.tape.specs.File.{Tape, kind_at, text_at_of}
 use Rattle.tape.specs.Tree.{next_sibling}
-use Rattle.tape.specs.declared.Step.{Step}
-use Rattle.tape.specs.declared.Step.TheVariants.{At, Done}
+use Rattle.tape.specs.Found.{Step}
 use Rattle.render.specs.Shape.{is_category_marker_of, trims_after_of}
 use Rattle.render.specs.Follow.{Kept, next_solid_of, inline_follows_of, followed}
 use Rattle.tape.specs.declared.Cursor.{Cursor}
@@ -102,13 +101,13 @@ note_trim_by t first behind trim k Passed = trim
 
 -- it serves the child that a step leads to
 abbrev pub KeptAt : Tape → Step → Step → Type 0
-KeptAt t Done kept = Unit {0}
-KeptAt t (At c) kept = Kept t c kept
+KeptAt t None kept = Unit {0}
+KeptAt t (Some c) kept = Kept t c kept
 
 -- what is kept behind a child: what was, or the step behind where that was the child itself
 unfoldable pub kept_past : Step → ℕ → Step → Step
-kept_past Done k next = Done
-kept_past (At d) k next = cond (eqb d.at k) next (At d)
+kept_past None k next = None
+kept_past (Some d) k next = cond (eqb d.at k) next (Some d)
 
 -- what is kept behind a text: the solid sibling where it was looked for, which is where the text ends with white space
 unfoldable pub kept_behind_of : Tape → Bytes → Step → ℕ → Step → Step

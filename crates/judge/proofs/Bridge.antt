@@ -13,7 +13,7 @@ use Rattle.tape.specs.File.{Tape, node_at, kind_at, entry_at, text_at_of, info_a
 use Rattle.tape.specs.Name.{marker_name}
 use Rattle.tape.specs.declared.Node.{Node}
 use Rattle.tape.specs.declared.Entry.{Entry}
-use Rattle.tape.specs.declared.Info.{Info}
+use Rattle.tape.specs.Found.{Info}
 use Rattle.admit.specs.Decide.{label_cut, good_node, good_entry}
 use Rattle.draft.specs.Draft.{Draft, piece, entry, plain, leaf, opens, closes, relinked, next_index, innermost, add, linked, after, tape_from, size_of}
 use Rattle.draft.specs.Fault.{first, good_name, good_last, node_fault, fault}
@@ -21,7 +21,7 @@ use Rattle.draft.proofs.GoodAgain.{last_at}
 use Rattle.layout.specs.declared.Writer.{Writer}
 use Rattle.layout.specs.Layout.{Fits, file_len, read_as, draft_of}
 use Rattle.layout.proofs.States.{nodes-count, entries-count, names-count, source-count, size_plain, size_leaf, size_opens, size_closes, size_piece, size_entry}
-use Rattle.judge.specs.Phase.{fits, phase_of, number_of}
+use Rattle.judge.specs.Phase.{phase_of, number_of}
 use Rattle.judge.specs.Tests.{info_of, good_span, good_label, good_marker, good_here}
 use Rattle.judge.specs.Numbers.{node_number_of, piece_number_of, good_entry_for, entry_number_of}
 use Rattle.judge.proofs.NumberRule.{at_work}

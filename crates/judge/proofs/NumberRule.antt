@@ -2,22 +2,20 @@
 use mathlib.Core.Path.{◌≡◌, refl, sym, ◌∙◌}
 use mathlib.Core.Bool.{Bool, true, false, ◌&&◌, cond}
 use Prim.Native.Nat.{ℕ, ◌+◌, ◌-◌, ◌≤◌, ◌<◌}
-use native.Mathlib.Numerals.{add-one}
 use native.Mathlib.Omega.{arith}
-use lib.ListN.{length, get_or}
+use lib.ListN.{length}
 use lib.Dec.{eqb, ltb, leb}
-use borrow.Author.Tests.{ltb-true, leb-true, eqb-true, eqb-false, eq-eqb, ne_eqb, lt-ltb, le-ltb, le-leb, lt-leb}
+use borrow.Author.Tests.{ltb-true, leb-true, eqb-true, eqb-false, eq-eqb}
 use Rattle.parts.specs.Bytes.{Bytes}
 use Rattle.parts.proofs.Laws.{and-true}
 use Rattle.chars.specs.Utf8.{is_utf8}
 use Rattle.tape.specs.declared.Node.{Node}
 use Rattle.tape.specs.declared.Entry.{Entry}
-use Rattle.admit.specs.Decide.{all_below, good_byte}
 use Rattle.draft.specs.Fault.{first}
 use Rattle.draft.proofs.Kept.{passed}
 use Rattle.layout.specs.declared.Writer.{Writer}
 use Rattle.layout.specs.Layout.{Fits, file_len, draft_of}
-use Rattle.judge.specs.Phase.{limited, fits, phase_of, start_number_of, finish_number_of}
+use Rattle.judge.specs.Phase.{limited, fits, phase_of, finish_number_of}
 use Rattle.judge.specs.Tests.{good_here}
 use Rattle.judge.specs.Numbers.{node_number_of, piece_number_of, good_entry_for, entry_number_of}
 
@@ -50,22 +48,6 @@ limits_of w e = limited-fits w (file_len w) e (omega arith)
 pub limited-by : (w : Writer) {t : Bool} → t ≡ limited w → t ≡ true → limited w ≡ true
 limited-by w e h = sym e ∙ h
 
--- ---- the phase
-
-module _ (w : Writer) (n : ℕ) {t : Bool} (et : t ≡ limited w) where
-  pub phase_out : t ≡ false → 0 ≡ phase_of w n
-  unfolding phase_of fits
-  phase_out h = rw (← et, h)
-
-  module _ {z : ℕ} (h : t ≡ true) (ez : z ≡ file_len w) where
-    pub phase_in : z ≤ n → w.phase ≡ phase_of w n
-    unfolding phase_of fits
-    phase_in l = rw (← et, h, ← ez, le-leb z n l)
-
-    pub phase_short : n < z → 0 ≡ phase_of w n
-    unfolding phase_of fits
-    phase_short l = rw (← et, h, ← ez, lt-leb z n l)
-
 -- a state that is at work on a buffer of so many bytes
 pub record AtWork (w : Writer) (n : ℕ) : Type 0 where
   pub fits : Fits w n
@@ -83,9 +65,6 @@ at_work w n = go (fits w n) refl
     go false e h = absurd (let no_way : ◌≡◌ {A = ℕ} 0 1 = cc in omega arith)
 
 module _ (w : Writer) (n : ℕ) {k : ℕ} (ek : k ≡ phase_of w n) where
-  idle : (k ≡ 1 → ⊥) → eqb (phase_of w n) 1 ≡ false
-  idle h = ne_eqb (phase_of w n) 1 (λ e. h (ek ∙ e))
-
   module _ (h : k ≡ 1) where
     busy : eqb (phase_of w n) 1 ≡ true
     busy = eq-eqb (phase_of w n) 1 (sym ek ∙ h)
@@ -108,82 +87,6 @@ module _ (w : Writer) (n : ℕ) {k : ℕ} (ek : k ≡ phase_of w n) where
 
     pub busy_named : (m : ℕ) → m ≤ 16384 - w.names → w.names + m ≤ 16384
     busy_named m l = omega (arith, busy_names)
-
--- ---- start and finish
-
-pub start_made : (w : Writer) (n : ℕ) {k x y : ℕ} → k ≡ phase_of w n → x ≡ first (leb 52 n) 8 0 → y ≡ first (eqb k 0) 16 x → y ≡ start_number_of w n
-unfolding start_number_of
-start_made w n ek ex ey = rw (ey, ex, ek)
-
-pub finish_made : (w : Writer) (n : ℕ) {k x y : ℕ} → k ≡ phase_of w n → x ≡ first (eqb w.depth 0 && eqb w.inner 0) 7 0 → y ≡ first (eqb k 1) 16 x → y ≡ finish_number_of w n
-unfolding finish_number_of
-finish_made w n ek ex ey = rw (ey, ex, ek)
-
--- ---- a node
-
-module _ (w : Writer) (buf : Bytes) (n : Node) (nest : ℕ) {k : ℕ} (ek : k ≡ phase_of w (length buf)) where
-  pub node_idle : (k ≡ 1 → ⊥) → 16 ≡ node_number_of w buf n nest
-  unfolding node_number_of
-  node_idle h = rw (idle w (length buf) ek h)
-
-  pub node_made : {z room x y r : ℕ} {t : Bool} → k ≡ 1 → z ≡ file_len w → room ≡ first (leb (z + 16) (length buf)) 8 0
-      → t ≡ good_here (draft_of w buf).source (draft_of w buf).entries n → x ≡ first (eqb nest 0) nest room → y ≡ first t 5 x → r ≡ first (ltb (w.nodes + 1) 262144) 2 y
-      → r ≡ node_number_of w buf n nest
-  unfolding node_number_of
-  node_made h ez em et ex ey er = rw (er, ey, ex, et, em, ez, busy w (length buf) ek h)
-
--- ---- a source piece
-
-module _ (w : Writer) (n : ℕ) (s : Bytes) {k : ℕ} (ek : k ≡ phase_of w n) where
-  pub piece_idle : (k ≡ 1 → ⊥) → 16 ≡ piece_number_of w n s
-  unfolding piece_number_of
-  piece_idle h = rw (idle w n ek h)
-
-  pub piece_made : {z room x r : ℕ} {t : Bool} → k ≡ 1 → z ≡ file_len w → room ≡ first (leb (length s) (n - z)) 8 0 → t ≡ is_utf8 s → x ≡ first t 3 room
-      → r ≡ first (leb (length s) (4194304 - w.source)) 2 x → r ≡ piece_number_of w n s
-  unfolding piece_number_of
-  piece_made h ez em et ex er = rw (er, ex, et, em, ez, busy w n ek h)
-
--- ---- an entry
-
-module _ (s : Bytes) (i : ℕ) {ok : Bool} (e : ok ≡ all_below (λ k. good_byte (get_or s k 0)) i) where
-  pub bytes_turn : {t : Bool} → t ≡ good_byte (get_or s i 0) → t && ok ≡ all_below (λ k. good_byte (get_or s k 0)) (i + 1)
-  unfolding all_below
-  bytes_turn et = rw (add-one i, et, e)
-
-  pub bytes_end : i ≤ length s → length s ≤ i → ok ≡ all_below (λ k. good_byte (get_or s k 0)) (length s)
-  bytes_end h l = let n : i ≡ length s = omega arith in rw n at e
-
-pub entry_good : (names : ℕ) (s : Bytes) (e : Entry) {a l : ℕ} {t : Bool} → t ≡ all_below (λ k. good_byte (get_or s k 0)) (length s) → a ≡ e.start → l ≡ e.len
-    → t && (leb (a + l) (names + length s) && (leb e.category.code 7 && leb e.element.code 3)) ≡ good_entry_for names s e
-unfolding good_entry_for
-entry_good names s e et ea el = rw (et, ea, el)
-
-module _ (w : Writer) (n : ℕ) (s : Bytes) (e : Entry) {k : ℕ} (ek : k ≡ phase_of w n) where
-  pub entry_idle : (k ≡ 1 → ⊥) → 16 ≡ entry_number_of w n s e
-  unfolding entry_number_of
-  entry_idle h = rw (idle w n ek h)
-
-  module _ (h : k ≡ 1) where
-    pub entry_late : (w.nodes ≡ 0 → ⊥) → 16 ≡ entry_number_of w n s e
-    unfolding entry_number_of
-    entry_late z = rw (busy w n ek h, ne_eqb w.nodes 0 z)
-
-    module _ (bare : w.nodes ≡ 0) where
-      pub entry_many : 1024 ≤ w.entries → 2 ≡ entry_number_of w n s e
-      unfolding entry_number_of
-      entry_many l = rw (busy w n ek h, eq-eqb w.nodes 0 bare, le-ltb w.entries 1024 l)
-
-      module _ (few : w.entries < 1024) where
-        pub entry_long : 16384 - w.names < length s → 2 ≡ entry_number_of w n s e
-        unfolding entry_number_of
-        entry_long l = rw (busy w n ek h, eq-eqb w.nodes 0 bare, lt-ltb w.entries 1024 few, lt-leb (length s) (16384 - w.names) l)
-
-        pub entry_made : {z d room r : ℕ} {t : Bool} → length s ≤ 16384 - w.names → z ≡ file_len w → d ≡ n - z - 8 → room ≡ first (leb 8 (n - z) && leb (length s) d) 8 0
-            → t ≡ good_entry_for w.names s e → r ≡ first t 4 room → r ≡ entry_number_of w n s e
-        unfolding entry_number_of
-        entry_made l ez ed em et er =
-            rw (er, et, em, ed, ez, busy w n ek h, eq-eqb w.nodes 0 bare, lt-ltb w.entries 1024 few, le-leb (length s) (16384 - w.names) l)
 
 -- ---- what a step has passed
 

@@ -1,5 +1,5 @@
 -- The tests of a node, from its own fields, the source and the entries.
-use Rattle.std.specs.Prelude.{Bool, true, cond, ◌&&◌, ◌||◌, List, ℕ, ◌+◌, length, get_or, eqb, ltb, leb}
+use Rattle.std.specs.Prelude.{Bool, true, cond, ◌&&◌, ◌||◌, List, ℕ, ◌+◌, length, get_or, eqb, ltb, leb, None, Some}
 use Rattle.parts.specs.Bytes.{Bytes, part}
 use Rattle.chars.specs.Utf8.{is_boundary}
 use Rattle.words.specs.Words.{words}
@@ -8,15 +8,14 @@ use Rattle.tape.specs.File.{nameless, element_of, base_len}
 use Rattle.tape.specs.Name.{name_in_of}
 use Rattle.tape.specs.declared.Node.{Node}
 use Rattle.tape.specs.declared.Entry.{Entry}
-use Rattle.tape.specs.declared.Info.{Info}
-use Rattle.tape.specs.declared.Info.TheVariants.{Known, Unknown}
+use Rattle.tape.specs.Found.{Info}
 use Rattle.tape.specs.Kind as kinds
 use Rattle.tape.specs.Flag as flags
 use Rattle.tape.specs.Element as elements
 
 -- what is known of a marker number
 unfoldable pub info_of : List Entry → ℕ → Info
-info_of entries marker = cond (ltb marker (length entries)) (Known (get_or entries marker nameless)) Unknown
+info_of entries marker = cond (ltb marker (length entries)) (Some (get_or entries marker nameless)) None
 
 -- 5: flags, and a span in the source with both ends between characters
 unfoldable pub good_span : Bytes → Node → Bool

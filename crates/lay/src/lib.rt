@@ -17,11 +17,8 @@ fn lay_over(out: &mut [u8], start: usize, run: &[u8])
 {
     if start < out.len() {
         let room = out.len() - start;
-        if run.len() <= room {
-            copy(run, &mut out[start..]);
-        } else {
-            copy(&run[..room], &mut out[start..]);
-        }
+        let n = room.min(run.len());
+        copy(&run[..n], &mut out[start..]);
     }
 }
 
@@ -43,25 +40,17 @@ pub fn lay_run(out: &mut [u8], from: usize, at: usize, run: &[u8])
 fn lay_block(out: &mut [u8], start: usize, s: &[u8], n: usize)
     ensures { out.new ≡ over out.old start (take n s.now) }
 {
-    if n <= 16 {
-        if 16 <= s.len() {
-            if start < out.len() {
-                if 32 <= out.len() - start {
-                    let mut fresh = [0u8; 16];
-                    let mut saved = [0u8; 16];
-                    let b = start + n;
-                    let e = b + 16;
-                    let m = start + 16;
-                    copy(&s[..16], &mut fresh);
-                    copy(&out[b..e], &mut saved);
-                    copy(&fresh, &mut out[start..m]);
-                    copy(&saved, &mut out[b..e]);
-                    return;
-                }
-            }
-        }
+    if 16 < n || s.len() < 16 || out.len() <= start || out.len() - start < 32 {
+        lay_over(out, start, parts::part(s, 0, n));
+        return;
     }
-    lay_over(out, start, parts::part(s, 0, n));
+    let mut fresh = [0u8; 16];
+    let mut saved = [0u8; 16];
+    let b = start + n;
+    copy(&s[..16], &mut fresh);
+    copy(&out[b..b + 16], &mut saved);
+    copy(&fresh, &mut out[start..start + 16]);
+    copy(&saved, &mut out[b..b + 16]);
 }
 
 // A run over the buffer by blocks of 16, the last of which may reach back.
@@ -69,33 +58,23 @@ fn lay_long(out: &mut [u8], start: usize, run: &[u8])
     ensures { out.new ≡ over out.old start run.now }
 {
     let n = run.len();
-    if n < 16 {
-        lay_over(out, start, run);
-        return;
-    }
-    if out.len() <= start {
-        return;
-    }
-    if out.len() - start < n {
+    if n < 16 || out.len() <= start || out.len() - start < n {
         lay_over(out, start, run);
         return;
     }
     let mut i = 0;
+    // A `while`: a `for` over the number of blocks was slower.
     while 16 <= n - i {
-        let e = i + 16;
         let b = start + i;
-        let m = b + 16;
         let mut fresh = [0u8; 16];
-        copy(&run[i..e], &mut fresh);
-        copy(&fresh, &mut out[b..m]);
-        i = e;
+        copy(&run[i..i + 16], &mut fresh);
+        copy(&fresh, &mut out[b..b + 16]);
+        i += 16;
     }
-    let q = n - 16;
-    let b = start + q;
-    let m = b + 16;
+    let b = start + (n - 16);
     let mut last = [0u8; 16];
-    copy(&run[q..n], &mut last);
-    copy(&last, &mut out[b..m]);
+    copy(&run[n - 16..], &mut last);
+    copy(&last, &mut out[b..b + 16]);
 }
 
 // A text's first bytes over the buffer, by blocks of 16.

@@ -105,17 +105,16 @@ node_byte w buf i j f h e =
     ∙ ap (λ (l : Bytes). get_or l (n - suc j) 0) (sym (reverse-reverse (part buf a n)))
     ∙ get_d_rev (reverse (part buf a n)) (n - suc j) j (omega (arith, length_rev (part buf a n)))
 
-pub outer_made : (w : Writer) (buf : Bytes) {p x y u v : ℕ} → Fits w (length buf) → 0 < w.inner → p ≡ entries_at w (length buf) - (link_at w.inner + 4)
-    → x ≡ get_or buf (p + 3) 0 → y ≡ get_or buf (p + 2) 0 → u ≡ get_or buf (p + 1) 0 → v ≡ get_or buf p 0
-    → x + 256 * y + 65536 * (u + 256 * v) ≡ outer (held_in w buf) w.inner
+pub outer_made : (w : Writer) (buf : Bytes) {p r : ℕ} → Fits w (length buf) → 0 < w.inner → p ≡ entries_at w (length buf) - (link_at w.inner + 4)
+    → r ≡ get_or buf p 0 * 16777216 + get_or buf (p + 1) 0 * 65536 + get_or buf (p + 2) 0 * 256 + get_or buf (p + 3) 0 → r ≡ outer (held_in w buf) w.inner
 unfolding outer held_in
-outer_made w buf {p} {x} {y} {u} {v} f pos ep ex ey eu ev =
+outer_made w buf {p} {r} f pos ep er =
     let d : Held = held_in w buf in
     let r : file_len w ≤ length buf = f.room in
     let below : w.inner ≤ w.nodes = f.inner in
     let k : ℕ = link_at w.inner in
-    let a : x ≡ get_or d.nodes k 0 = ex ∙ node_byte w buf (p + 3) k f (omega arith) (omega arith) in
-    let b : y ≡ get_or d.nodes (k + 1) 0 = ey ∙ node_byte w buf (p + 2) (k + 1) f (omega arith) (omega arith) in
-    let c : u ≡ get_or d.nodes (k + 2) 0 = eu ∙ node_byte w buf (p + 1) (k + 2) f (omega arith) (omega arith) in
-    let e : v ≡ get_or d.nodes (k + 3) 0 = ev ∙ node_byte w buf p (k + 3) f (omega arith) (omega arith) in
-    rw (a, b, c, e) (le32_at d.nodes k)
+    let a : get_or buf (p + 3) 0 ≡ get_or d.nodes k 0 = node_byte w buf (p + 3) k f (omega arith) (omega arith) in
+    let b : get_or buf (p + 2) 0 ≡ get_or d.nodes (k + 1) 0 = node_byte w buf (p + 2) (k + 1) f (omega arith) (omega arith) in
+    let c : get_or buf (p + 1) 0 ≡ get_or d.nodes (k + 2) 0 = node_byte w buf (p + 1) (k + 2) f (omega arith) (omega arith) in
+    let e : get_or buf p 0 ≡ get_or d.nodes (k + 3) 0 = node_byte w buf p (k + 3) f (omega arith) (omega arith) in
+    omega (arith, er, a, b, c, e, le32_at d.nodes k)

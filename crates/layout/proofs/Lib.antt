@@ -1,3 +1,4 @@
+pub mod Numbers
 pub mod Laid
 pub mod Turn
 pub mod Chain

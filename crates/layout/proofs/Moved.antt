@@ -1,13 +1,12 @@
 -- Bytes moved down and zeros stored, one at a time; a close in its two stores; the file's parts gathered.
 use mathlib.Core.Path.{◌≡◌, refl, sym, ap, ◌∙◌}
-use mathlib.Core.List.{[], ◌∷◌, ◌++◌, append_assoc, append-nil}
-use Prim.Native.Nat.{ℕ, zero, suc, ◌+◌, ◌-◌, ◌≤◌, ◌<◌, min}
+use mathlib.Core.List.{[], ◌++◌, append_assoc, append-nil}
+use Prim.Native.Nat.{ℕ, ◌+◌, ◌-◌, ◌≤◌, ◌<◌, min}
 use mathlib.Core.Bool.{Bool, true, false}
 use native.Mathlib.Nat.{min-eq_left, min-eq_right, min-le_left}
-use native.Mathlib.Numerals.{add-one}
 use native.Mathlib.Omega.{arith}
-use lib.ListN.{length, get_or, take, drop, set, replicate, length-append, length-drop, length-replicate, length-set, take-append-drop, drop_of_length-le}
-use lib.Seq.{take_at, drop-cons, drop-append-le, get_or-drop, get_or-append-add, set_at, take-suc, length-take-le}
+use lib.ListN.{length, get_or, take, drop, replicate, length-append, length-drop, length-replicate, take-append-drop, drop_of_length-le}
+use lib.Seq.{paste, drop-drop, take_at, drop-append-le, get_or-drop, get_or-append-add, length-take-le}
 use lib.Dec.{leb}
 use borrow.Author.Tests.{leb-true, leb-false}
 use Rattle.parts.specs.Bytes.{Bytes, part}
@@ -31,21 +30,6 @@ zeros k = replicate k 0
 length-zeros : (k : ℕ) → length (zeros k) ≡ k
 length-zeros k = length-replicate {A = ℕ} k 0
 
-pub over-more : (b p : Bytes) (at x : ℕ) {k : ℕ} → k ≡ length p → at + k < length b → set (over b at p) (at + k) x ≡ over b at (p ++ (x ∷ []))
-unfolding over
-over-more b p at x {k} e h =
-    let l : length (take at b ++ p) ≡ at + k = length-append (take at b) p ∙ omega (arith, length-take-le at b (omega arith)) in
-    let n : at + length (p ++ (x ∷ [])) ≡ suc (at + k) = ap (λ (m : ℕ). at + m) (length-append p (x ∷ [])) ∙ omega arith in
-    let d : drop (at + length p) b ≡ get_or b (at + k) 0 ∷ drop (suc (at + k)) b = ap (λ (m : ℕ). drop (at + m) b) (sym e) ∙ drop-cons b (at + k) 0 h in
-    ap (λ (s : Bytes). set (take at b ++ (p ++ s)) (at + k) x) d
-    ∙ ap (λ (s : Bytes). set s (at + k) x) (sym (append_assoc (take at b) p (get_or b (at + k) 0 ∷ drop (suc (at + k)) b)))
-    ∙ set_at (take at b ++ p) (get_or b (at + k) 0) (drop (suc (at + k)) b) x (at + k) l
-    ∙ regroup (take at b) p x (drop (suc (at + k)) b)
-    ∙ ap (λ (m : ℕ). take at b ++ ((p ++ (x ∷ [])) ++ drop m b)) (sym n)
-  where
-    regroup : (a p : Bytes) (x : ℕ) (z : Bytes) → (a ++ p) ++ (x ∷ z) ≡ a ++ ((p ++ (x ∷ [])) ++ z)
-    regroup a p x z = simp append_assoc
-
 -- what stands behind a run is as it was
 pub over-past : (b p : Bytes) (at i : ℕ) → at + length p ≤ i → at + length p ≤ length b → get_or (over b at p) i 0 ≡ get_or b i 0
 unfolding over
@@ -58,74 +42,26 @@ over-past b p at i h l =
     ∙ get_or-drop (at + length p) b j 0
     ∙ ap (λ (k : ℕ). get_or b k 0) (omega arith)
 
-part-suc : (b : Bytes) (from i : ℕ) → from + i < length b → part b from (i + 1) ≡ part b from i ++ (get_or b (from + i) 0 ∷ [])
-part-suc b from i h =
-    ap (λ (k : ℕ). take k (drop from b)) (add-one i) ∙ take-suc (drop from b) i 0 (omega (arith, length-drop from b))
-    ∙ ap (λ (x : ℕ). part b from i ++ (x ∷ [])) (get_or-drop from b i 0)
-
--- i bytes of a run of len are moved down
-pub record Slid (b : Bytes) (from to len i : ℕ) (now : Bytes) : Type 0 where
-  pub few : i ≤ len
-  pub long : length now ≡ length b
-  pub moved : now ≡ over b to (part b from i)
-
-pub slid_start : (b : Bytes) (from to len : ℕ) → to ≤ from → from + len ≤ length b → Slid b from to len 0 b
+-- a part of a list is given back as a run over it
+pub put_over : (s x : Bytes) (a k : ℕ) → length x ≡ k → take a s ++ (x ++ drop k (drop a s)) ≡ over s a x
 unfolding over
-slid_start b from to len h l =
-    let n : to ≡ to + 0 = omega arith in
-    record { few = omega arith; long = refl; moved = sym (take-append-drop to b) ∙ ap (λ (m : ℕ). take to b ++ drop m b) n }
+put_over s x a k e = rw (drop-drop k a s, e) refl
 
-pub slid_turn : {b : Bytes} {from to len i : ℕ} {now : Bytes} → Slid b from to len i now → to ≤ from → from + len ≤ length b → i < len
-    → Slid b from to len (i + 1) (set now (to + i) (get_or now (from + i) 0))
-slid_turn {b} {from} {to} {len} {i} {now} v h l k =
-    let p : Bytes = part b from i in
-    let n : length p ≡ i = part_length b from i (omega arith) in
-    let e : now ≡ over b to p = v.moved in
-    let x : get_or now (from + i) 0 ≡ get_or b (from + i) 0 = ap (λ (s : Bytes). get_or s (from + i) 0) e ∙ over-past b p to (from + i) (omega arith) (omega arith) in
-    record {
-      few = omega arith;
-      long = length-set now (to + i) (get_or now (from + i) 0) ∙ v.long;
-      moved = (λ j. set (e j) (to + i) (x j)) ∙ over-more b p to (get_or b (from + i) 0) (sym n) (omega arith) ∙ ap (over b to) (sym (part-suc b from i (omega arith)));
-    }
+-- what `fill` leaves
+pub blanked : (s : Bytes) (from : ℕ) {x : Bytes} → from ≤ length s → x ≡ zeros (length (take (length s - from) (drop from s)))
+    → take from s ++ (x ++ drop (length s - from) (drop from s)) ≡ over s from (zeros (length s - from))
+blanked s from {x} h e =
+    let k : ℕ = length s - from in
+    let n : length (take k (drop from s)) ≡ k = length-take-le k (drop from s) (omega (arith, length-drop from s)) in
+    let z : x ≡ zeros k = e ∙ ap zeros n in
+    rw z (put_over s (zeros k) from k (length-zeros k))
 
-pub slid_end : {b : Bytes} {from to len i : ℕ} {now : Bytes} → Slid b from to len i now → len ≤ i → now ≡ over b to (part b from len)
-slid_end {b} {from} {to} {len} {i} v h = let n : i ≡ len = omega (arith, v.few) in v.moved ∙ ap (λ (k : ℕ). over b to (part b from k)) n
-
-zeros-more : (k : ℕ) → zeros k ++ (0 ∷ []) ≡ zeros (k + 1)
-zeros-more k = rw (add-one k) (go k)
-  where
-    go : (k : ℕ) → zeros k ++ (0 ∷ []) ≡ zeros (suc k)
-    go zero = refl
-    go (suc k) = ap (λ (s : Bytes). 0 ∷ s) (go k)
-
--- zeros stand from a place up to i
-pub record Blank (b : Bytes) (from i : ℕ) (now : Bytes) : Type 0 where
-  pub low : from ≤ i
-  pub high : i ≤ length b
-  pub long : length now ≡ length b
-  pub blank : now ≡ over b from (zeros (i - from))
-
-pub blank_start : (b : Bytes) (from : ℕ) → from ≤ length b → Blank b from from b
+-- what `copy_within` leaves
+pub slid : (b : Bytes) (from to len : ℕ) {now : Bytes} → from + len ≤ length b → now ≡ paste b to (drop from b) (from + len - from) → now ≡ over b to (part b from len)
 unfolding over
-blank_start b from h =
-    let k : from - from ≡ 0 = omega arith in
-    let n : from ≡ from + 0 = omega arith in
-    record { low = omega arith; high = h; long = refl; blank = rw k (sym (take-append-drop from b) ∙ ap (λ (m : ℕ). take from b ++ drop m b) n) }
-
-pub blank_turn : {b : Bytes} {from i : ℕ} {now : Bytes} → Blank b from i now → i < length now → Blank b from (i + 1) (set now i 0)
-blank_turn {b} {from} {i} {now} v l =
-    let k : ℕ = i - from in
-    let n : i ≡ from + k = omega (arith, v.low) in
-    let more : k + 1 ≡ i + 1 - from = omega (arith, v.low) in
-    record {
-      low = omega (arith, v.low);
-      high = omega (arith, v.long);
-      long = length-set now i 0 ∙ v.long;
-      blank = (λ j. set (v.blank j) (n j) 0) ∙ over-more b (zeros k) from 0 (sym (length-zeros k)) (omega (arith, v.long)) ∙ ap (over b from) (zeros-more k ∙ ap zeros more);
-    }
-
-pub blank_end : {b : Bytes} {from i : ℕ} {now : Bytes} → Blank b from i now → length now ≤ i → now ≡ over b from (zeros (length b - from))
-blank_end {b} {from} {i} v l = let n : i ≡ length b = omega (arith, v.high, v.long) in v.blank ∙ ap (λ (k : ℕ). over b from (zeros (k - from))) n
+slid b from to len h e =
+    let n : from + len - from ≡ len = omega arith in
+    e ∙ ap (paste b to (drop from b)) n ∙ rw (part_length b from len h) (append_assoc (take to b) (part b from len) (drop (to + len) b))
 
 pub length_over : (xs s : Bytes) (at : ℕ) → at + length s ≤ length xs → length (over xs at s) ≡ length xs
 unfolding over

@@ -13,6 +13,7 @@ use tape::{Entry, Node};
 // A state of writing: the phase, the counts of what is added so far, the innermost open container (0 for none) and how many are open.
 #[derive(Clone, Copy)]
 pub struct Writer {
+    // A number and no enum: the definitions of states (`state_of`, `limited`, `phase_in_of`) are over numbers, and C may hand in any.
     pub phase: u8,
     pub nodes: usize,
     pub entries: usize,
@@ -45,11 +46,7 @@ fn slide(buf: &mut [u8], from: usize, to: usize, len: usize)
     requires { (to ≤ from) × (from + len ≤ length buf.old) }
     ensures { buf.new ≡ over buf.old to (part buf.old from len) }
 {
-    let mut i = 0;
-    while i < len {
-        buf[to + i] = buf[from + i];
-        i += 1;
-    }
+    buf.copy_within(from..from + len, to);
 }
 
 // Zeros from a place to the end.
@@ -57,11 +54,7 @@ fn blank(buf: &mut [u8], from: usize)
     requires { from ≤ length buf.old }
     ensures { buf.new ≡ over buf.old from (replicate (length buf.old - from) 0) }
 {
-    let mut i = from;
-    while i < buf.len() {
-        buf[i] = 0;
-        i += 1;
-    }
+    buf[from..].fill(0);
 }
 
 // The part from one place to another turned around.
@@ -73,14 +66,12 @@ fn reverse(buf: &mut [u8], from: usize, to: usize)
     buf[from..to].reverse();
 }
 
-// Two neighbouring parts exchanged, by three reversals.
+// Two neighbouring parts exchanged.
 fn rotate(buf: &mut [u8], lo: usize, mid: usize, hi: usize)
     requires { (lo ≤ mid) × (mid ≤ hi) × (hi ≤ length buf.old) }
     ensures { buf.new ≡ exchange buf.old lo mid hi }
 {
-    reverse(buf, lo, mid);
-    reverse(buf, mid, hi);
-    reverse(buf, lo, hi);
+    buf[lo..hi].rotate_left(mid - lo);
 }
 
 // ---- the bytes of numbers, nodes and entries
@@ -89,53 +80,41 @@ fn rotate(buf: &mut [u8], lo: usize, mid: usize, hi: usize)
 fn word(x: u32) -> [u8; 4]
     ensures { result ≡ four x }
 {
-    [
-        (x % 65536 % 256) as u8,
-        (x % 65536 / 256) as u8,
-        (x / 65536 % 256) as u8,
-        (x / 65536 / 256) as u8,
-    ]
+    x.to_le_bytes()
 }
 
 // The same turned around.
 fn drow(x: u32) -> [u8; 4]
     ensures { result ≡ reverse (four x) }
 {
-    [
-        (x / 65536 / 256) as u8,
-        (x / 65536 % 256) as u8,
-        (x % 65536 / 256) as u8,
-        (x % 65536 % 256) as u8,
-    ]
+    x.to_be_bytes()
 }
 
 // The bytes of a node, turned around.
 fn turned(node: Node) -> [u8; 16]
     ensures { result ≡ reverse (node_bytes_of node) }
 {
-    let k = node.kind;
-    let f = node.flags;
-    let m = node.marker;
-    let l = node.link;
-    let s = node.start;
-    let n = node.len;
+    let [n3, n2, n1, n0] = drow(node.len);
+    let [s3, s2, s1, s0] = drow(node.start);
+    let [l3, l2, l1, l0] = drow(node.link);
+    let [m1, m0] = node.marker.to_be_bytes();
     [
-        (n / 65536 / 256) as u8,
-        (n / 65536 % 256) as u8,
-        (n % 65536 / 256) as u8,
-        (n % 65536 % 256) as u8,
-        (s / 65536 / 256) as u8,
-        (s / 65536 % 256) as u8,
-        (s % 65536 / 256) as u8,
-        (s % 65536 % 256) as u8,
-        (l / 65536 / 256) as u8,
-        (l / 65536 % 256) as u8,
-        (l % 65536 / 256) as u8,
-        (l % 65536 % 256) as u8,
-        (m / 256) as u8,
-        (m % 256) as u8,
-        f.bits,
-        k.code,
+        n3,
+        n2,
+        n1,
+        n0,
+        s3,
+        s2,
+        s1,
+        s0,
+        l3,
+        l2,
+        l1,
+        l0,
+        m1,
+        m0,
+        node.flags.bits,
+        node.kind.code,
     ]
 }
 
@@ -143,27 +122,9 @@ fn turned(node: Node) -> [u8; 16]
 fn cells(e: Entry) -> [u8; 8]
     ensures { result ≡ entry_bytes e }
 {
-    let s = e.start;
-    let n = e.len;
-    let c = e.category;
-    let t = e.element;
-    [
-        (s % 65536 % 256) as u8,
-        (s % 65536 / 256) as u8,
-        (s / 65536 % 256) as u8,
-        (s / 65536 / 256) as u8,
-        (n % 256) as u8,
-        (n / 256) as u8,
-        c.code,
-        t.code,
-    ]
-}
-
-fn wide(x: u8) -> usize
-    ensures value { result ≡ x }
-    ensures upper_bound { result < 256 }
-{
-    x as usize
+    let [s0, s1, s2, s3] = word(e.start);
+    let [n0, n1] = e.len.to_le_bytes();
+    [s0, s1, s2, s3, n0, n1, e.category.code, e.element.code]
 }
 
 // ---- nodes
@@ -204,7 +165,7 @@ fn around(w: Writer, buf: &[u8]) -> usize
     ensures { result ≡ outer (held_in w buf.now) w.inner }
 {
     let p = link_place(w, buf.len());
-    wide(buf[p + 3]) + 256 * wide(buf[p + 2]) + 65536 * (wide(buf[p + 1]) + 256 * wide(buf[p]))
+    u32::from_be_bytes([buf[p], buf[p + 1], buf[p + 2], buf[p + 3]]) as usize
 }
 
 // The innermost open container linked to a node.
@@ -311,13 +272,6 @@ fn top(w: Writer) -> [u8; 52]
     ]
 }
 
-// The smaller of two numbers.
-fn smaller(a: usize, z: usize) -> usize
-    ensures { result ≡ least a z }
-{
-    if a <= z { a } else { z }
-}
-
 // Nodes, entries and names moved down to the source, and zeros where they stood.
 fn gather(w: Writer, buf: &mut [u8])
     requires { Fits w (length buf.old) }
@@ -327,7 +281,7 @@ fn gather(w: Writer, buf: &mut [u8])
     let tail = 16 * w.nodes + 8 * w.entries + w.names;
     let to = 52 + w.source;
     let from = n - tail;
-    let left = smaller(from - to, tail);
+    let left = (from - to).min(tail);
     slide(buf, from, to, tail);
     blank(buf, n - left);
 }

@@ -12,13 +12,12 @@ use Rattle.words.specs.Words.{white_len}
 use Rattle.words.specs.declared.Set.TheVariants.{Ascii}
 use Rattle.words.proofs.Texts.{white-le}
 use Rattle.words.proofs.Bytes.{white-more, white-ends}
-use Rattle.tape.specs.File.{tape_in, node_at, text_at_of}
+use Rattle.tape.specs.File.{Tape, tape_in, node_at, text_at_of}
 use Rattle.tape.specs.declared.Sections.{Sections}
 use Rattle.tape.specs.declared.Cursor.{Cursor}
 use Rattle.source_index.specs.Seek.{solid_byte, passes_at, next_from, Right}
 use Rattle.source_index.specs.declared.Test.TheVariants.{Solid}
 use Rattle.source_index.proofs.Firsts.{first_hit, first_miss}
-use Rattle.source_index.proofs.Spans.{source_short}
 use Rattle.leading_white.specs.Lean.{is_wide, lean, Solids}
 
 -- ---- white bytes
@@ -158,12 +157,12 @@ take-length zero u = refl
 take-length (suc m) [] = refl
 take-length (suc m) (x ∷ u) = ap (λ (v : Bytes). x ∷ v) (take-length m u)
 
-module _ (c : Sections) (file : Bytes) (k : Cursor) (table : List ℕ) where
-  pub white-found : {m start : ℕ} → m ≡ (node_at (tape_in c file) k.at).start → start ≡ m → {source : Bytes} → source ≡ (tape_in c file).source → (len : ℕ) {r : ℕ}
+module _ (c : Sections) (file : Bytes) (k : Cursor) where
+  pub white-found : (table : List ℕ) {m start : ℕ} → m ≡ (node_at (tape_in c file) k.at).start → start ≡ m → {source : Bytes} → source ≡ (tape_in c file).source → (len : ℕ) {r : ℕ}
       → (Right Solid source table → start + len ≤ length source → r ≡ white_len Ascii (part source start len))
       → Solids (tape_in c file) table → 0 < len → len ≡ length (text_at_of (tape_in c file) k.at) → r ≡ white_len Ascii (text_at_of (tape_in c file) k.at)
   unfolding text_at_of
-  white-found {m} {start} em et {source} eo len {r} er q some el =
+  white-found table {m} {start} em et {source} eo len {r} er q some el =
       er (rw eo q) (omega (arith, some, el, ap length is, length-take l (drop start source), length-drop start source))
       ∙ ap (white_len Ascii) (ap (λ (n : ℕ). take n (drop start source)) (el ∙ ap length is) ∙ take-length l (drop start source) ∙ sym is)
     where
@@ -174,10 +173,10 @@ module _ (c : Sections) (file : Bytes) (k : Cursor) (table : List ℕ) where
       is = rw (et, eo, em)
 
   pub text-white : {s : Bytes} → s ≡ text_at_of (tape_in c file) k.at → {w : Bool} → w ≡ is_wide s → not w ≡ false → {white : ℕ}
-      → (Solids (tape_in c file) table → 0 < length s → length s ≡ length (text_at_of (tape_in c file) k.at) → white ≡ white_len Ascii (text_at_of (tape_in c file) k.at))
-      → {r : Bytes} → (white ≡ white_len Ascii s → r ≡ lean s) → Solids (tape_in c file) table → r ≡ lean (text_at_of (tape_in c file) k.at)
-  text-white {s} es {w} ew hw {white} en er q =
-      er (en q (wide_some s (sym ew ∙ not-false w hw)) (ap length es) ∙ ap (white_len Ascii) (sym es)) ∙ ap lean es
+      → (0 < length s → length s ≡ length (text_at_of (tape_in c file) k.at) → white ≡ white_len Ascii (text_at_of (tape_in c file) k.at))
+      → {r : Bytes} → (white ≡ white_len Ascii s → r ≡ lean s) → r ≡ lean (text_at_of (tape_in c file) k.at)
+  text-white {s} es {w} ew hw {white} en er =
+      er (en (wide_some s (sym ew ∙ not-false w hw)) (ap length es) ∙ ap (white_len Ascii) (sym es)) ∙ ap lean es
 
-pub solids_filled : (c : Sections) (file : Bytes) {s : Bytes} {table : List ℕ} → c.source < 2 ^ 32 → s ≡ (tape_in c file).source → (length s < 2 ^ 32 → Right Solid s table) → Solids (tape_in c file) table
-solids_filled c file h es f = rw es at (f (rw es (source_short c file h)))
+pub solids_filled : (t : Tape) {s : Bytes} {table : List ℕ} → length s < 2 ^ 32 → s ≡ t.source → (length s < 2 ^ 32 → Right Solid s table) → Solids t table
+solids_filled t h es f = rw es at (f h)

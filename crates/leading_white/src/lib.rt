@@ -1,21 +1,24 @@
 #![tactic(auto)]
 // A text without all but the last of the white bytes that it begins with, found through a table: however long that white space is.
+mod book;
+
 ghost use Rattle.std.specs.Prelude.{◌≡◌, ◌+◌, ◌-◌, ◌≤◌, ◌<◌, min, length};
 ghost use Rattle.parts.specs.Bytes.{part};
 ghost use Rattle.words.specs.Words.{white_len};
-ghost use Rattle.tape.specs.File.{tape_in, text_at_of};
+ghost use Rattle.tape.specs.File.{contents, text_at_of};
 ghost use Rattle.source_index.specs.Seek.{Right};
 ghost use Rattle.leading_white.specs.Lean.{is_wide, lean, Solids};
 
+pub use book::Book;
 use source_index::Test;
-use tape::{Cursor, Sections, long};
+use tape::{Cursor, TapeFile, long};
 use words::Set;
 
 // Fills a table of the solid bytes of a tape's source.
-pub fn fill(solids: &mut [u32], file: &[u8], tape: Sections)
-    ensures { Solids (tape_in tape file.now) solids.new }
+pub fn fill(solids: &mut [u32], tape: &TapeFile<'_>)
+    ensures { Solids (contents tape.now) solids.new }
 {
-    source_index::fill(solids, tape::source(file, tape), Test::Solid);
+    source_index::fill(solids, tape.source(), Test::Solid);
 }
 
 // How many bytes a part of a text has before a place.
@@ -40,11 +43,11 @@ fn white_ahead(solids: &[u32], s: &[u8], start: usize, len: usize) -> usize
 }
 
 // The bytes of white space that the text of a node begins with, where it has so many bytes.
-fn white_of(file: &[u8], tape: Sections, solids: &[u32], c: Cursor, len: usize) -> usize
-    ensures { Solids (tape_in tape file.now) solids.now → 0 < len → len ≡ length (text_at_of (tape_in tape file.now) c.at) → result ≡ white_len Set.Ascii (text_at_of (tape_in tape file.now) c.at) }
+fn white_of(book: &Book<'_>, c: Cursor, len: usize) -> usize
+    ensures { 0 < len → len ≡ length (text_at_of (contents book.now.tape) c.at) → result ≡ white_len Set.Ascii (text_at_of (contents book.now.tape) c.at) }
 {
-    let start = long(c.start(file, tape));
-    white_ahead(solids, tape::source(file, tape), start, len)
+    let start = long(c.start(&book.tape));
+    white_ahead(book.solids, book.tape.source(), start, len)
 }
 
 // Whether a text begins with two white bytes.
@@ -78,13 +81,12 @@ pub fn lean_of(s: &[u8]) -> &[u8]
 }
 
 // The text of a node, made lean.
-pub fn lean_text<'a>(file: &'a [u8], tape: Sections, solids: &[u32], c: Cursor) -> &'a [u8]
-    requires { Solids (tape_in tape file.now) solids.now }
-    ensures { result.now ≡ lean (text_at_of (tape_in tape file.now) c.at) }
+pub fn lean_text<'a>(book: &Book<'a>, c: Cursor) -> &'a [u8]
+    ensures { result.now ≡ lean (text_at_of (contents book.now.tape) c.at) }
 {
-    let s = c.text(file, tape);
+    let s = c.text(&book.tape);
     if !is_wide(s) {
         return s;
     }
-    past_white(s, white_of(file, tape, solids, c, s.len()))
+    past_white(s, white_of(book, c, s.len()))
 }

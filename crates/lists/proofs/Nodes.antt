@@ -7,8 +7,8 @@ use native.Mathlib.Omega.{arith}
 use Rattle.tape.specs.File.{Tape}
 use Rattle.tape.specs.Tree.{next_sibling, walk_from, up_to, without, left, found, from_first}
 use Rattle.tape.specs.declared.Cursor.{Cursor}
-use Rattle.tape.specs.declared.Step.{Step}
-use Rattle.tape.specs.declared.Step.TheVariants.{At, Done}
+use Rattle.tape.specs.Found.{Step}
+use Rattle.std.specs.Prelude.{None, Some}
 use Rattle.tape.proofs.Walk.{walk_turn, walk_end, left-turn}
 use Rattle.render.specs.Shape.{is_top_level_block_of, is_category_marker_of, is_row}
 use Rattle.fold.specs.Fold.{claim_of, Folded, is_some, fold_from, fold_at, folded_number}
@@ -24,28 +24,6 @@ use Rattle.lists.specs.declared.Stop.TheVariants.{Block, NoRow}
 
 true-false : true ≡ false → ⊥
 true-false e = let no_way : ◌≡◌ {A = ℕ} 0 1 = cc in omega arith
-
--- ---- what a sibling is
-
-pub both_yes : {a x : Bool} (y : Bool) → a ≡ true → x ≡ y → x ≡ a && y
-both_yes y h ex = rw h ex
-
-pub both_no : {a : Bool} (y : Bool) → a ≡ false → false ≡ a && y
-both_no y h = rw h
-
-module _ (t : Tape) (span : Span) (k : ℕ) {x : Bool} (ex : x ≡ span.sifted && is_category_marker_of t k) where
-  pub member_skipped : x ≡ true → Skipped ≡ member_of_of t span k
-  unfolding member_of_of
-  member_skipped h = rw (sym ex ∙ h)
-
-  module _ (hx : x ≡ false) {y : Bool} (ey : y ≡ span.cut && is_top_level_block_of t k) where
-    pub member-ends : y ≡ true → End ≡ member_of_of t span k
-    unfolding member_of_of
-    member-ends h = rw (sym ex ∙ hx, sym ey ∙ h)
-
-    pub member_listed : y ≡ false → Listed ≡ member_of_of t span k
-    unfolding member_of_of
-    member_listed h = rw (sym ex ∙ hx, sym ey ∙ h)
 
 -- ---- one turn
 
@@ -70,7 +48,7 @@ cut_on t true k ks h = rw h
 cut_on t false k ks h = refl
 
 module _ (t : Tape) (span : Span) where
-  pub nodes_done : {s : Step} → s ≡ Done → nodes_in t span s ≡ []
+  pub nodes_done : {s : Step} → s ≡ None → nodes_in t span s ≡ []
   unfolding nodes_in cut_by filtered up_to without
   nodes_done es = ap (λ (ks : List ℕ). cut_by t span.cut (filtered t span.sifted ks)) (walk_end t es) ∙ none_left span.cut span.sifted
     where
@@ -90,7 +68,7 @@ module _ (t : Tape) (span : Span) where
       ap (cut_by t span.cut) (filter_keep t span.sifted k ks ex) ∙ cut_on t span.cut k (filtered t span.sifted ks) ey ∙ rw (ex, ey)
 
   -- a list from a node on, by what the node is to it
-  pub nodes-turn : {c : Cursor} {s n : Step} {m : Member} → s ≡ At c → n ≡ next_sibling t c.at → m ≡ member_of_of t span c.at
+  pub nodes-turn : {c : Cursor} {s n : Step} {m : Member} → s ≡ Some c → n ≡ next_sibling t c.at → m ≡ member_of_of t span c.at
       → nodes_in t span s ≡ listed_by m c.at (nodes_in t span n)
   unfolding nodes_in
   nodes-turn {c} {s} {n} {m} es en em =
@@ -100,7 +78,7 @@ module _ (t : Tape) (span : Span) where
 
 -- by what a node is to its list
 
-module _ (t : Tape) (span : Span) {c : Cursor} {s : Step} (es : s ≡ At c) {m : Member} (em : m ≡ member_of_of t span c.at) where
+module _ (t : Tape) (span : Span) {c : Cursor} {s : Step} (es : s ≡ Some c) {m : Member} (em : m ≡ member_of_of t span c.at) where
   pub nodes-cut : m ≡ End → nodes_in t span s ≡ []
   unfolding listed_by
   nodes-cut h = nodes-turn t span es refl em ∙ rw h
@@ -136,18 +114,18 @@ module _ (p : ℕ → Bool) where
   from_none h = rw h
 
 module _ (p : ℕ → Bool) (t : Tape) (span : Span) (s₀ s : Step) (inv : from_first p (nodes_in t span s) ≡ from_first p (nodes_in t span s₀)) where
-  pub run-over : s ≡ Done → nodes_in t span s ≡ from_first p (nodes_in t span s₀)
+  pub run-over : s ≡ None → nodes_in t span s ≡ from_first p (nodes_in t span s₀)
   run-over e = from_none p (nodes_done t span e) ∙ inv
 
-  module _ {c : Cursor} (es : s ≡ At c) {m : Member} (em : m ≡ member_of_of t span c.at) where
-    pub run-cut : m ≡ End → nodes_in t span (At c) ≡ from_first p (nodes_in t span s₀)
+  module _ {c : Cursor} (es : s ≡ Some c) {m : Member} (em : m ≡ member_of_of t span c.at) where
+    pub run-cut : m ≡ End → nodes_in t span (Some c) ≡ from_first p (nodes_in t span s₀)
     run-cut h = ap (nodes_in t span) (sym es) ∙ from_none p (nodes-cut t span es em h) ∙ inv
 
     pub run_skipped : {n : Step} → m ≡ Skipped → n ≡ next_sibling t c.at → from_first p (nodes_in t span n) ≡ from_first p (nodes_in t span s₀)
     run_skipped h en = ap (from_first p) (sym (nodes_skip t span es em h en)) ∙ inv
 
     module _ (h : m ≡ Listed) {x : Bool} (ex : x ≡ p c.at) where
-      pub run-found : x ≡ true → nodes_in t span (At c) ≡ from_first p (nodes_in t span s₀)
+      pub run-found : x ≡ true → nodes_in t span (Some c) ≡ from_first p (nodes_in t span s₀)
       run-found hx =
           ap (nodes_in t span) (sym es) ∙ nodes_go t span es em h refl
           ∙ sym (ap (from_first p) (nodes_go t span es em h refl) ∙ from_yes p c.at (nodes_in t span (next_sibling t c.at)) (sym ex ∙ hx)) ∙ inv
@@ -159,16 +137,16 @@ module _ (p : ℕ → Bool) (t : Tape) (span : Span) (s₀ s : Step) (inv : from
 -- ---- the fold
 
 some_at : (t : Tape) (s : Step) → is_some (folded_number t s) ≡ found s
-unfolding is_some folded_number found
-some_at t Done = refl
-some_at t (At c) = refl
+unfolding is_some folded_number
+some_at t None = refl
+some_at t (Some c) = refl
 
 module _ (t : Tape) (span : Span) (anchor : ℕ) (alt published rest : Step) where
   -- what the fold still gives
   unfoldable pub onward : Folded
   onward = fold_from t anchor (folded_number t alt) (folded_number t published) (nodes_in t span rest)
 
-pub fold_starts : (t : Tape) (span : Span) (anchor : ℕ) (rest : Step) → onward t span anchor Done Done rest ≡ fold_at t anchor (nodes_in t span rest)
+pub fold_starts : (t : Tape) (span : Span) (anchor : ℕ) (rest : Step) → onward t span anchor None None rest ≡ fold_at t anchor (nodes_in t span rest)
 unfolding onward fold_at folded_number
 fold_starts t span anchor rest = refl
 
@@ -181,10 +159,10 @@ module _ (t : Tape) (span : Span) (anchor : ℕ) (alt published rest : Step) {f 
       ∙ sym (ap (fold_from t anchor (folded_number t alt) (folded_number t published)) e ∙ fold_nil t anchor (folded_number t alt) (folded_number t published))
       ∙ inv
 
-  ended : rest ≡ Done → folded_in t span (record { alt = alt; published = published; rest = rest }) ≡ f
+  ended : rest ≡ None → folded_in t span (record { alt = alt; published = published; rest = rest }) ≡ f
   ended e = over (nodes_done t span e)
 
-  module _ {c : Cursor} (ec : rest ≡ At c) {n : Step} (en : n ≡ next_sibling t c.at) {m : Member} (em : m ≡ member_of_of t span c.at) where
+  module _ {c : Cursor} (ec : rest ≡ Some c) {n : Step} (en : n ≡ next_sibling t c.at) {m : Member} (em : m ≡ member_of_of t span c.at) where
     cut_off : m ≡ End → folded_in t span (record { alt = alt; published = published; rest = rest }) ≡ f
     cut_off h = over (nodes-cut t span ec em h)
 
@@ -214,37 +192,35 @@ module _ (t : Tape) (span : Span) (anchor : ℕ) (alt published rest : Step) {f 
       unfolding onward
       fold_passed e = sym (fold_blank t anchor (folded_number t alt) (folded_number t published) c.at (nodes_in t span n) claimed e) ∙ this
 
-      pub fold_took_alt : r ≡ Alt → onward t span anchor (At c) published n ≡ f
+      pub fold_took_alt : r ≡ Alt → onward t span anchor (Some c) published n ≡ f
       unfolding onward folded_number
       fold_took_alt e = sym (fold_alt t anchor (folded_number t alt) (folded_number t published) c.at (nodes_in t span n) claimed e) ∙ this
 
-      pub fold_took_pub : r ≡ Pub → onward t span anchor alt (At c) n ≡ f
+      pub fold_took_pub : r ≡ Pub → onward t span anchor alt (Some c) n ≡ f
       unfolding onward folded_number
       fold_took_pub e = sym (fold_pub t anchor (folded_number t alt) (folded_number t published) c.at (nodes_in t span n) claimed e) ∙ this
 
 -- the whole, from what the fold started with
 module _ (t : Tape) (span : Span) (anchor : ℕ) (rest₀ : Step) (alt published rest : Step)
-    (inv : onward t span anchor alt published rest ≡ onward t span anchor Done Done rest₀) where
+    (inv : onward t span anchor alt published rest ≡ onward t span anchor None None rest₀) where
   all : onward t span anchor alt published rest ≡ fold_at t anchor (nodes_in t span rest₀)
   all = inv ∙ fold_starts t span anchor rest₀
 
-  pub fold_ended : rest ≡ Done → folded_in t span (record { alt = alt; published = published; rest = rest }) ≡ fold_at t anchor (nodes_in t span rest₀)
+  pub fold_ended : rest ≡ None → folded_in t span (record { alt = alt; published = published; rest = rest }) ≡ fold_at t anchor (nodes_in t span rest₀)
   fold_ended e = ended t span anchor alt published rest all e
 
-  pub fold_cut : {c : Cursor} → rest ≡ At c → {m : Member} → m ≡ member_of_of t span c.at → m ≡ End
-      → folded_in t span (record { alt = alt; published = published; rest = At c }) ≡ fold_at t anchor (nodes_in t span rest₀)
-  fold_cut ec em h =
-      ap (λ (s : Step). folded_in t span (record { alt = alt; published = published; rest = s })) (sym ec) ∙ cut_off t span anchor alt published rest all ec refl em h
+  pub fold_cut : {c : Cursor} → rest ≡ Some c → {m : Member} → m ≡ member_of_of t span c.at → m ≡ End
+      → folded_in t span (record { alt = alt; published = published; rest = rest }) ≡ fold_at t anchor (nodes_in t span rest₀)
+  fold_cut ec em h = cut_off t span anchor alt published rest all ec refl em h
 
-  pub fold_stopped : {c : Cursor} → rest ≡ At c → {m : Member} → m ≡ member_of_of t span c.at → m ≡ Listed → {a p : Bool} {r : Claim} → a ≡ found alt → p ≡ found published
+  pub fold_stopped : {c : Cursor} → rest ≡ Some c → {m : Member} → m ≡ member_of_of t span c.at → m ≡ Listed → {a p : Bool} {r : Claim} → a ≡ found alt → p ≡ found published
       → r ≡ claim_of t anchor a p c.at → r ≡ Stops
-      → folded_in t span (record { alt = alt; published = published; rest = At c }) ≡ fold_at t anchor (nodes_in t span rest₀)
-  fold_stopped ec em hm ea ep er h =
-      ap (λ (s : Step). folded_in t span (record { alt = alt; published = published; rest = s })) (sym ec) ∙ stopped t span anchor alt published rest all ec refl em hm ea ep er h
+      → folded_in t span (record { alt = alt; published = published; rest = rest }) ≡ fold_at t anchor (nodes_in t span rest₀)
+  fold_stopped ec em hm ea ep er h = stopped t span anchor alt published rest all ec refl em hm ea ep er h
 
 -- a walk that goes on has fewer steps left than where it started
-pub left_on : (t : Tape) {c : Cursor} {s : Step} (s₀ : Step) {n : Step} → s ≡ At c → n ≡ next_sibling t c.at → left t s ≤ left t s₀ → left t n ≤ left t s₀
+pub left_on : (t : Tape) {c : Cursor} {s : Step} (s₀ : Step) {n : Step} → s ≡ Some c → n ≡ next_sibling t c.at → left t s ≤ left t s₀ → left t n ≤ left t s₀
 left_on t {c} {s} s₀ {n} es en h = omega (arith, left-turn t c es en)
 
-pub left_here : (t : Tape) {c : Cursor} {s : Step} (s₀ : Step) → s ≡ At c → left t s ≤ left t s₀ → left t (At c) ≤ left t s₀
+pub left_here : (t : Tape) {c : Cursor} {s : Step} (s₀ : Step) → s ≡ Some c → left t s ≤ left t s₀ → left t (Some c) ≤ left t s₀
 left_here t s₀ es h = rw es at h

@@ -1,9 +1,8 @@
 -- Lists of siblings that may be cut or filtered, and the fold over them.
-use Rattle.std.specs.Prelude.{ℕ, List, [], ◌∷◌, Bool, true, false, cond, ◌&&◌, not}
+use Rattle.std.specs.Prelude.{ℕ, List, [], ◌∷◌, Bool, true, false, cond, ◌&&◌, not, None, Some}
 use Rattle.tape.specs.File.{Tape}
 use Rattle.tape.specs.Tree.{found, walk_from, up_to, without}
-use Rattle.tape.specs.declared.Step.{Step}
-use Rattle.tape.specs.declared.Step.TheVariants.{At, Done}
+use Rattle.tape.specs.Found.{Step}
 use Rattle.render.specs.First.{first_with}
 use Rattle.render.specs.Shape.{is_top_level_block_of, is_category_marker_of, is_row}
 use Rattle.fold.specs.Fold.{claim_of, Folded, folded_number}
@@ -52,7 +51,7 @@ ends_by End stops = true
 ends_by Skipped stops = false
 ends_by Listed stops = stops
 
--- the first sibling from a step on at which a run or its list ends; Done where there is none
+-- the first sibling from a step on at which a run or its list ends; None where there is none
 unfoldable pub run_end_of : Tape → Span → Stop → Step → Step
 run_end_of t span stop s = first_with (λ k. ends_by (member_of_of t span k) (stops_at_of t stop k)) (walk_from t s)
 
@@ -64,18 +63,18 @@ claim_by Listed c = c
 
 -- a fold along siblings, behind an anchor of a kind: the markers that fold, by those that did so far, and the sibling where it stops
 unfoldable pub folds_from : Tape → Span → ℕ → Step → Step → List ℕ → Folds
-folds_from t span anchor alt published [] = record { alt = alt; published = published; rest = Done }
+folds_from t span anchor alt published [] = record { alt = alt; published = published; rest = None }
 folds_from t span anchor alt published (k ∷ ks) =
     elim (claim_by (member_of_of t span k) (claim_of t anchor (found alt) (found published) k)) as (λ _. Folds) [
       | Blank ↦ folds_from t span anchor alt published ks
-      | Alt ↦ folds_from t span anchor (At (record { at = k })) published ks
-      | Pub ↦ folds_from t span anchor alt (At (record { at = k })) ks
-      | Stops ↦ record { alt = alt; published = published; rest = At (record { at = k }) }
+      | Alt ↦ folds_from t span anchor (Some (record { at = k })) published ks
+      | Pub ↦ folds_from t span anchor alt (Some (record { at = k })) ks
+      | Stops ↦ record { alt = alt; published = published; rest = Some (record { at = k }) }
     ]
 
 -- the same along the siblings from a step on, with no marker folded yet
 unfoldable pub folds_at : Tape → Span → ℕ → Step → Folds
-folds_at t span anchor s = folds_from t span anchor Done Done (walk_from t s)
+folds_at t span anchor s = folds_from t span anchor None None (walk_from t s)
 
 -- what a fold's answer stands for in a list
 unfoldable pub folded_in : Tape → Span → Folds → Folded

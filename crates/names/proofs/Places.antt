@@ -18,8 +18,8 @@ use Rattle.words.proofs.Places.{end_of}
 use Rattle.tape.specs.File.{Tape, node_at, kind_at, text_at_of, info_at, base_len, bears_marker}
 use Rattle.tape.specs.Name.{bare, name_len, name_in_of, name_start, marker_name, marker_len}
 use Rattle.tape.specs.declared.kinds.Kind.{Kind}
-use Rattle.tape.specs.declared.Step.{Step}
-use Rattle.tape.specs.declared.Step.TheVariants.{At as StepAt, Done}
+use Rattle.tape.specs.Found.{Step}
+use Rattle.std.specs.Prelude.{None, Some}
 use Rattle.render.specs.Shape.{is_verse_of}
 use Rattle.render.specs.Label.{label_of, in_source, word_part_of, name_rest, label_part, IsLabel}
 use Rattle.render.specs.Children.{first_text_of}
@@ -33,7 +33,7 @@ use Rattle.accepts.specs.Proviso.{has_special, What, code, label, marker, name_w
 use Rattle.names.specs.declared.What.{What as Said}
 use Rattle.names.specs.declared.What.TheVariants.{Code, Label, Marker}
 use Rattle.names.specs.declared.Hit.{Hit}
-use Rattle.names.specs.declared.Hit.TheVariants.{At, Nowhere}
+use Rattle.std.specs.Prelude.{Option}
 use Rattle.names.specs.Finding.{what_of, marker_part, Placed}
 use Rattle.names.specs.Hits.{Tested, free, broken, Starts, Hits, nowhere}
 use Rattle.names.proofs.Specials.{some-length}
@@ -42,10 +42,10 @@ use Rattle.names.proofs.Rows.{alone}
 -- ---- a part that is tested
 
 module _ (source : Bytes) (w : Said) (p : Part) {s : Bytes} {h : Bool} (es : s ≡ bytes_of source p) (eh : h ≡ has_special s) where
-  pub test_free : not h ≡ true → Tested source w (bytes_of source p) Nowhere
+  pub test_free : not h ≡ true → Tested source w (bytes_of source p) None
   test_free e = free (ap has_special (sym es) ∙ sym eh ∙ not-true h e)
 
-  pub test_broken : not h ≡ false → Tested source w (bytes_of source p) (At w (record { start = p.start; len = length s }))
+  pub test_broken : not h ≡ false → Tested source w (bytes_of source p) (Some (record { what = w; place = record { start = p.start; len = length s } }))
   test_broken e =
       let b : has_special s ≡ true = sym eh ∙ not-false h e in
       let n : 0 < length s = some-length s b in
@@ -91,8 +91,8 @@ word_full t k n =
 
 step_full : (t : Tape) (s : Step) → Full t (word_at t s)
 unfolding word_at
-step_full t Done = record { len = refl }
-step_full t (StepAt c) = word_full t c.at 0
+step_full t None = record { len = refl }
+step_full t (Some c) = word_full t c.at 0
 
 pub code_full : (t : Tape) (k : ℕ) → Full t (code_part t k)
 unfolding code_part
@@ -143,36 +143,36 @@ marker-found t k ex ey ez em ea = rw (ea, em, ey, ex, ez)
 
 -- ---- one name of a node, where it has it
 
-name-none : (t : Tape) (k : ℕ) (w : What) (bytes : Bytes) {has : Bool} → has ≡ false → Hits t k (name_where has w bytes) Nowhere
+name-none : (t : Tape) (k : ℕ) (w : What) (bytes : Bytes) {has : Bool} → has ≡ false → Hits t k (name_where has w bytes) None
 unfolding name_where
 name-none t k w bytes e = rw e (nowhere tt)
 
 module _ (t : Tape) (k : ℕ) (n : What) (bytes : Bytes) (p : Part) (here : bytes_of t.source p ≡ bytes) (f : Full t p) (pl : Placed t k n p) where
-  name_tested : {has : Bool} → has ≡ true → {w : Said} → what_of w ≡ n → {s : Bytes} → s ≡ t.source → {r : Hit} → Tested s w (bytes_of s p) r → Starts p r
+  name_tested : {has : Bool} → has ≡ true → {w : Said} → what_of w ≡ n → {s : Bytes} → s ≡ t.source → {r : Option Hit} → Tested s w (bytes_of s p) r → Starts p r
       → Hits t k (name_where has n bytes) r
   unfolding name_where
   name_tested e {w} ew {s} es {r} ts st =
       let found : Tested t.source w bytes r = rw here at (rw es at ts) in
       rw e (alone t k (record { what = n; bytes = bytes }) ew found placed)
     where
-      placed : (q : Part) → r ≡ At w q → Spot t.source q bytes → Placed t k n q
+      placed : (q : Part) → r ≡ Some (record { what = w; place = q }) → Spot t.source q bytes → Placed t k n q
       placed q er sp = subst (Placed t k n) (sym (spot_part t f (subst (Starts p) er st) (rw here sp))) pl
 
 module _ (t : Tape) (k : ℕ) {has : Bool} (eh : has ≡ has_code t k) where
-  pub code_none : not has ≡ true → Hits t k (name_where (has_code t k) code (book_code_of t k)) Nowhere
+  pub code_none : not has ≡ true → Hits t k (name_where (has_code t k) code (book_code_of t k)) None
   code_none e = name-none t k code (book_code_of t k) (sym eh ∙ not-true has e)
 
-  pub code_tested : not has ≡ false → {p : Part} → IsCode t k p → {s : Bytes} → s ≡ t.source → {r : Hit} → Tested s Code (bytes_of s p) r → Starts p r
+  pub code_tested : not has ≡ false → {p : Part} → IsCode t k p → {s : Bytes} → s ≡ t.source → {r : Option Hit} → Tested s Code (bytes_of s p) r → Starts p r
       → Hits t k (name_where (has_code t k) code (book_code_of t k)) r
   unfolding what_of
   code_tested e {p} i es ts st =
       name_tested t k code (book_code_of t k) p i.bytes (subst (Full t) (sym i.place) (code_full t k)) i.place (sym eh ∙ not-false has e) refl es ts st
 
 module _ (t : Tape) (k : ℕ) {z : Kind} (ez : z.code ≡ kind_at t k) where
-  pub label_none : (z.code ≡ 7 → ⊥) → Hits t k (name_where (is_verse_of t k) label (label_of t k)) Nowhere
+  pub label_none : (z.code ≡ 7 → ⊥) → Hits t k (name_where (is_verse_of t k) label (label_of t k)) None
   label_none e = name-none t k label (label_of t k) (ne_eqb (kind_at t k) 7 (λ x. e (ez ∙ x)))
 
-  pub label_tested : z.code ≡ 7 → {p : Part} → IsLabel t k p → {s : Bytes} → s ≡ t.source → {r : Hit} → Tested s Label (bytes_of s p) r → Starts p r
+  pub label_tested : z.code ≡ 7 → {p : Part} → IsLabel t k p → {s : Bytes} → s ≡ t.source → {r : Option Hit} → Tested s Label (bytes_of s p) r → Starts p r
       → Hits t k (name_where (is_verse_of t k) label (label_of t k)) r
   unfolding what_of
   label_tested e {p} i es ts st =
@@ -182,19 +182,15 @@ module _ (t : Tape) (k : ℕ) {z : Kind} (ez : z.code ≡ kind_at t k) where
     bears : bears_marker (kind_at t k) ≡ has
     bears = sym (eh ∙ ap bears_marker ez)
 
-    pub marker-none : not has ≡ true → Hits t k (name_where (bears_marker (kind_at t k)) marker (marker_name t k)) Nowhere
+    pub marker-none : not has ≡ true → Hits t k (name_where (bears_marker (kind_at t k)) marker (marker_name t k)) None
     marker-none e = name-none t k marker (marker_name t k) (bears ∙ not-true has e)
 
-    pub marker_tested : not has ≡ false → {p : Part} → p ≡ marker_part t k → {s : Bytes} → s ≡ t.source → {r : Hit} → Tested s Marker (bytes_of s p) r → Starts p r
+    pub marker_tested : not has ≡ false → {p : Part} → p ≡ marker_part t k → {s : Bytes} → s ≡ t.source → {r : Option Hit} → Tested s Marker (bytes_of s p) r → Starts p r
         → Hits t k (name_where (bears_marker (kind_at t k)) marker (marker_name t k)) r
     unfolding what_of
     marker_tested e {p} i es ts st =
         name_tested t k marker (marker_name t k) p (ap (bytes_of t.source) i ∙ marker_bytes t k) (subst (Full t) (sym i) (marker_full t k)) i
         (bears ∙ not-false has e) refl es ts st
-
-  pub open_none : (z.code ≡ 3 → ⊥) → false ≡ has_code t k
-  unfolding has_code
-  open_none e = rw (ne_eqb (kind_at t k) 3 (λ x. e (ez ∙ x)))
 
   pub open_id : z.code ≡ 3 → (o : Role) → role_in o ≡ role_of t k → {r : Bool} → r ≡ is_id (role_in o) → r ≡ has_code t k
   unfolding has_code

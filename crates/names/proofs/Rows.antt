@@ -1,9 +1,8 @@
 -- Laws of rows of names: the first broken one of a row, of two rows, of rows that differ in free names alone.
 use mathlib.Core.Path.{◌≡◌, refl, sym, ap, subst}
-use mathlib.Core.Bool.{true, false}
+use mathlib.Core.Bool.{true}
 use mathlib.Core.List.{List, [], ◌∷◌, ◌++◌}
 use Prim.Native.Nat.{ℕ}
-use native.Mathlib.Omega.{arith}
 use Rattle.words.specs.declared.Part.{Part}
 use Rattle.tape.specs.File.{Tape}
 use Rattle.attrs.specs.Walk.{Spot}
@@ -11,9 +10,9 @@ use Rattle.accepts.specs.Proviso.{has_special, Free, Name, AllFree}
 use Rattle.accepts.proofs.FreeKeys.{Alike, equal, plain, alike_free, none as nothing}
 use Rattle.names.specs.declared.What.{What as Said}
 use Rattle.names.specs.declared.Hit.{Hit}
-use Rattle.names.specs.declared.Hit.TheVariants.{At}
+use Rattle.std.specs.Prelude.{Option, None, Some}
 use Rattle.names.specs.Finding.{what_of, FirstIn, Placed}
-use Rattle.names.specs.Hits.{is_hit, Tested, free, broken, Hits, nowhere, at}
+use Rattle.names.specs.Hits.{Tested, free, broken, Hits, nowhere, at}
 use Rattle.names.proofs.Specials.{never}
 
 -- ---- the first broken name, step by step
@@ -60,24 +59,25 @@ first_before ms (here h) = here h
 first_before ms (past f r) = past f (first_before ms r)
 
 module _ (t : Tape) (k : ℕ) (ns ms : List Name) where
-  pub hit_here : {h : Hit} → Hits t k ns h → is_hit h ≡ true → Hits t k (ns ++ ms) h
-  unfolding is_hit
-  hit_here (nowhere f) e = absurd (let no_way : ◌≡◌ {A = ℕ} 0 1 = cc in omega arith)
-  hit_here (at n f ew s) e = at n (first_in (first_before ms (first_steps f))) ew s
+  -- what is found in a row, or else in the next
+  module _ {o : Option Hit} (x : Hits t k ns o) where
+    pub hit_here : {h : Hit} → o ≡ Some h → Hits t k (ns ++ ms) (Some h)
+    hit_here e = go (subst (Hits t k ns) e x)
+      where
+        go : {h : Hit} → Hits t k ns (Some h) → Hits t k (ns ++ ms) (Some h)
+        go (at n f ew s) = at n (first_in (first_before ms (first_steps f))) ew s
 
-  hit_behind : AllFree ns → {r : Hit} → Hits t k ms r → Hits t k (ns ++ ms) r
-  hit_behind f (nowhere g) = nowhere (free-append ns ms f g)
-  hit_behind f (at n g ew s) = at n (first_in (first-behind ns f (first_steps g))) ew s
-
-  pub hit_on : {h : Hit} → Hits t k ns h → is_hit h ≡ false → {r : Hit} → Hits t k ms r → Hits t k (ns ++ ms) r
-  unfolding is_hit
-  hit_on (nowhere f) e r = hit_behind f r
-  hit_on (at n f ew s) e r = absurd (let no_way : ◌≡◌ {A = ℕ} 0 1 = cc in omega arith)
+    pub hit_on : o ≡ None → {r : Option Hit} → Hits t k ms r → Hits t k (ns ++ ms) r
+    hit_on e y = go (subst (Hits t k ns) e x) y
+      where
+        go : Hits t k ns None → {r : Option Hit} → Hits t k ms r → Hits t k (ns ++ ms) r
+        go (nowhere f) (nowhere g) = nowhere (free-append ns ms f g)
+        go (nowhere f) (at n g ew s) = at n (first_in (first-behind ns f (first_steps g))) ew s
 
 -- ---- a row of one name
 
-pub alone : (t : Tape) (k : ℕ) (n : Name) {w : Said} {h : Hit} → what_of w ≡ n.what → Tested t.source w n.bytes h
-    → ((q : Part) → h ≡ At w q → Spot t.source q n.bytes → Placed t k n.what q) → Hits t k (n ∷ []) h
+pub alone : (t : Tape) (k : ℕ) (n : Name) {w : Said} {h : Option Hit} → what_of w ≡ n.what → Tested t.source w n.bytes h
+    → ((q : Part) → h ≡ Some (record { what = w; place = q }) → Spot t.source q n.bytes → Placed t k n.what q) → Hits t k (n ∷ []) h
 alone t k n ew (free f) pl = nowhere (f, tt)
 alone t k n ew (broken {p = p} b sp) pl = at n (first_in (here b)) ew (record { spot = sp; place = pl p refl sp })
 
@@ -90,6 +90,6 @@ alike_first (equal a) (past f r) = past f (alike_first a r)
 alike_first (plain {n = n} f g a) (here h) = absurd (never n.bytes f h)
 alike_first (plain f g a) (past x r) = past g (alike_first a r)
 
-pub alike_hits : {t : Tape} {k : ℕ} {ns ms : List Name} {h : Hit} → Alike ns ms → Hits t k ns h → Hits t k ms h
+pub alike_hits : {t : Tape} {k : ℕ} {ns ms : List Name} {h : Option Hit} → Alike ns ms → Hits t k ns h → Hits t k ms h
 alike_hits a (nowhere f) = nowhere (alike_free a f)
 alike_hits a (at n f ew s) = at n (first_in (alike_first a (first_steps f))) ew s

@@ -1,31 +1,21 @@
 -- Laws of the four bytes.
-use mathlib.Core.Path.{◌≡◌, refl, sym, ap, ◌∙◌}
+use mathlib.Core.Path.{◌≡◌, refl, ap}
 use mathlib.Core.Bool.{Bool, true, false, ◌||◌}
 use mathlib.Core.List.{[], ◌∷◌}
-use Prim.Native.Nat.{ℕ, zero, suc, ◌+◌, ◌≤◌, ◌<◌}
+use Prim.Native.Nat.{ℕ, zero, suc, ◌<◌}
 use native.Mathlib.Omega.{arith}
-use lib.ListN.{length, get_or, take, drop, drop_of_length-le}
+use lib.ListN.{length, take, drop}
 use Rattle.parts.specs.Bytes.{Bytes, part}
-use Rattle.parts.proofs.Laws.{drop_at, or_both}
+use Rattle.parts.proofs.Laws.{or_both}
+use Rattle.std.specs.List.{list_any}
 use Rattle.chars.specs.Escape.{special}
 use Rattle.accepts.specs.Proviso.{has_special, Free}
 
--- ---- the loop
-
-module _ (s : Bytes) (i : ℕ) where
-  at_front : i < length s → has_special (drop i s) ≡ special true (get_or s i 0) || has_special (drop (i + 1) s)
-  unfolding has_special
-  at_front l = ap has_special (drop_at s i l)
-
-  pub special-turn : i < length s → {h t : Bool} → h ≡ special true (get_or s i 0) → h ≡ false → has_special (drop i s) ≡ t → has_special (drop (i + 1) s) ≡ t
-  special-turn l eh e inv = sym (at_front l ∙ rw (sym eh ∙ e)) ∙ inv
-
-  pub special_stop : i < length s → {h t : Bool} → h ≡ special true (get_or s i 0) → h ≡ true → has_special (drop i s) ≡ t → true ≡ t
-  special_stop l eh e inv = sym (at_front l ∙ rw (sym eh ∙ e)) ∙ inv
-
-  pub special_end : length s ≤ i → {t : Bool} → has_special (drop i s) ≡ t → false ≡ t
-  unfolding has_special
-  special_end l inv = sym (ap has_special (drop_of_length-le s l)) ∙ inv
+-- a text holds one of the four where any of its bytes is one
+pub special_any : (s : Bytes) → list_any (special true) s ≡ has_special s
+unfolding has_special
+special_any [] = refl
+special_any (x ∷ s) = ap (λ (t : Bool). special true x || t) (special_any s)
 
 -- ---- free texts
 

@@ -98,18 +98,6 @@ pub part-opens : (t : List Node) (i : ℕ) {k l : ℕ} → k ≡ kind_at t i →
 unfolding part_of
 part-opens t i ek hk el hl = rw (opens_is t i (sym ek ∙ hk) (λ e. hl (el ∙ e))) (ap Opens el)
 
-pub part_closes_4 : (t : List Node) (i : ℕ) {k : ℕ} → k ≡ kind_at t i → k ≡ 4 → Closes ≡ part_of t i
-unfolding part_of
-part_closes_4 t i ek hk = rw (opens_not t i (λ e. omega arith), close_4 t i (sym ek ∙ hk))
-
-pub part_closes_5 : (t : List Node) (i : ℕ) {k : ℕ} → k ≡ kind_at t i → k ≡ 5 → Closes ≡ part_of t i
-unfolding part_of
-part_closes_5 t i ek hk = rw (opens_not t i (λ e. omega arith), close_5 t i (sym ek ∙ hk))
-
-pub part-leaf : (t : List Node) (i : ℕ) {k : ℕ} → k ≡ kind_at t i → (k ≡ 3 → ⊥) → (k ≡ 4 → ⊥) → (k ≡ 5 → ⊥) → Leaf ≡ part_of t i
-unfolding part_of
-part-leaf t i ek n₃ n₄ n₅ = rw (opens_not t i (λ e. n₃ (ek ∙ e)), close-not t i (λ e. n₄ (ek ∙ e)) (λ e. n₅ (ek ∙ e)))
-
 -- ---- nothing stands outside the tape
 
 pub outside : (t : List Node) (i : ℕ) → length t ≤ i → get_or t i nowhere ≡ nowhere
@@ -158,29 +146,22 @@ module _ (c : Sections) (file : Bytes) where
 
   -- ---- Root's end
 
-  pub ends-past : {n : Node} → n ≡ node_at (tape_in c file) 0 → c.nodes ≤ n.link → (eqb n.link c.nodes ≡ true) ↔ RootEnds nodes_in
-  ends-past {n} en h =
-      let e = link_in 0 en in
-      let l = node-count c file in (
-        λ q. inl (omega (arith, eqb-true n.link c.nodes q)),
-        λ r. eq-eqb n.link c.nodes (⊎_elim {C = n.link ≡ c.nodes} (λ p. omega arith) (λ p. omega (arith, p.0)) r),
-      )
+  module _ {e : ℕ} (el : e ≡ link_at nodes_in 0) where
+    pub ends_whole : e ≡ c.nodes → (eqb e c.nodes ≡ true) ↔ RootEnds nodes_in
+    ends_whole h = let l = node-count c file in (λ q. inl (omega arith), λ r. eq-eqb e c.nodes h)
 
-  pub ends_early : {n : Node} → n ≡ node_at (tape_in c file) 0 → n.link + 1 < c.nodes → (false ≡ true) ↔ RootEnds nodes_in
-  ends_early en h =
-      let e = link_in 0 en in
-      let l = node-count c file in
-      no_is (λ r. ⊎_elim {C = ⊥} (λ p. omega arith) (λ p. omega (arith, p.0)) r)
+    pub ends_none : {b : Bool} → (e ≡ c.nodes → ⊥) → (e + 1 ≡ c.nodes → ⊥) → b ≡ false → (b ≡ true) ↔ RootEnds nodes_in
+    ends_none d h f =
+        let l = node-count c file in
+        rw f (no_is (λ r. ⊎_elim {C = ⊥} (λ p. d (omega arith)) (λ p. h (omega (arith, p.0))) r))
 
-  pub ends_last : {n z : Node} → n ≡ node_at (tape_in c file) 0 → n.link < c.nodes → c.nodes ≤ n.link + 1 → z ≡ node_at (tape_in c file) n.link
-      → (eqb z.kind.code 5 ≡ true) ↔ RootEnds nodes_in
-  ends_last {n} {z} en l h ez =
-      let e = link_in 0 en in
-      let m = node-count c file in
-      let same : z.kind.code ≡ kind_at nodes_in (link_at nodes_in 0) = kind_in n.link ez ∙ ap (kind_at nodes_in) e in (
-        λ q. inr (omega arith, sym same ∙ eqb-true z.kind.code 5 q),
-        λ r. eq-eqb z.kind.code 5 (⊎_elim {C = z.kind.code ≡ 5} (λ p. absurd (omega arith)) (λ p. same ∙ p.1) r),
-      )
+    pub ends_last : {z : Node} → e + 1 ≡ c.nodes → z ≡ node_at (tape_in c file) e → (eqb z.kind.code 5 ≡ true) ↔ RootEnds nodes_in
+    ends_last {z} h ez =
+        let m = node-count c file in
+        let same : z.kind.code ≡ kind_at nodes_in (link_at nodes_in 0) = kind_in e ez ∙ ap (kind_at nodes_in) el in (
+          λ q. inr (omega arith, sym same ∙ eqb-true z.kind.code 5 q),
+          λ r. eq-eqb z.kind.code 5 (⊎_elim {C = z.kind.code ≡ 5} (λ p. absurd (omega arith)) (λ p. same ∙ p.1) r),
+        )
 
   -- ---- the part of a node that a cursor reads
 

@@ -1,11 +1,11 @@
 #![tactic(auto)]
 // Refusals 6 and 7: whether a tape is too deep, and whether it nests.
 ghost use Rattle.std.specs.Prelude.{◌≡◌, true, ◌↔◌};
-ghost use Rattle.tape.specs.File.{tape_in};
+ghost use Rattle.tape.specs.File.{contents};
 ghost use Rattle.nest.specs.Tape.{link_at};
 ghost use Rattle.nest.specs.Nest.{part_of, TooDeep, RootEnds, Sound};
 
-use tape::{Cursor, Kind, Sections};
+use tape::{Cursor, Kind, TapeFile};
 
 // The most containers that are open at once.
 const MOST_OPEN: usize = 64;
@@ -18,39 +18,36 @@ pub enum Part {
     Leaf,
 }
 
-pub fn part_at(file: &[u8], t: Sections, i: u32) -> Part
-    ensures { result ≡ part_of (tape_in t file.now).nodes i }
+pub fn part_at(t: &TapeFile<'_>, i: u32) -> Part
+    ensures { result ≡ part_of (contents t.now).nodes i }
 {
     let c = Cursor::new(i);
-    let kind = c.kind(file, t);
+    let kind = c.kind(t);
     if kind.code == Kind::MARKER_OPEN {
-        let link = c.link(file, t);
+        let link = c.link(t);
         if link == i {
-            return Part::Leaf;
+            Part::Leaf
+        } else {
+            Part::Opens(link)
         }
-        return Part::Opens(link);
+    } else if kind.is_close() {
+        Part::Closes
+    } else {
+        Part::Leaf
     }
-    if kind.is_close() {
-        return Part::Closes;
-    }
-    Part::Leaf
 }
 
 // Refusal 6: over 64 containers are open before some node.
-pub fn too_deep(file: &[u8], t: Sections) -> bool
-    ensures { (result ≡ true) ↔ TooDeep (tape_in t file.now).nodes }
+pub fn too_deep(t: &TapeFile<'_>) -> bool
+    ensures { (result ≡ true) ↔ TooDeep (contents t.now).nodes }
 {
-    let n = t.nodes;
     let mut opens: usize = 0;
     let mut closes: usize = 0;
-    let mut i: u32 = 0;
-    while i < n {
+    for i in 0..t.sections.nodes {
         if closes + MOST_OPEN < opens {
             return true;
         }
-        let p = part_at(file, t, i);
-        i += 1;
-        match p {
+        match part_at(t, i) {
             Part::Opens(_) => opens += 1,
             Part::Closes => closes += 1,
             Part::Leaf => {}
@@ -59,42 +56,32 @@ pub fn too_deep(file: &[u8], t: Sections) -> bool
     false
 }
 
-// Whether Root's link is the node count, or the last node where that is a BlockEnd.
-pub fn root_ends(file: &[u8], t: Sections) -> bool
-    ensures { (result ≡ true) ↔ RootEnds (tape_in t file.now).nodes }
+fn root_link(t: &TapeFile<'_>) -> u32
+    ensures { result ≡ link_at (contents t.now).nodes 0 }
 {
-    let n = t.nodes;
-    let end = tape::node_at(file, t, 0).link;
-    if n <= end {
-        return end == n;
-    }
-    if end + 1 < n {
-        return false;
-    }
-    tape::node_at(file, t, end).kind.code == Kind::BLOCK_END
+    t.node_at(0).link
 }
 
-fn root_link(file: &[u8], t: Sections) -> u32
-    ensures { result ≡ link_at (tape_in t file.now).nodes 0 }
+// Whether Root's link is the node count, or the last node where that is a BlockEnd.
+pub fn root_ends(t: &TapeFile<'_>) -> bool
+    ensures { (result ≡ true) ↔ RootEnds (contents t.now).nodes }
 {
-    tape::node_at(file, t, 0).link
+    let n = t.sections.nodes;
+    let end = root_link(t);
+    end == n || (end < n && end + 1 == n && t.node_at(end).kind.code == Kind::BLOCK_END)
 }
 
 // That refusals 6 and 7 do not apply: the closes that open containers await are a stack of 64.
-pub fn nests(file: &[u8], t: Sections) -> bool
-    ensures { (result ≡ true) ↔ Sound (tape_in t file.now).nodes }
+pub fn nests(t: &TapeFile<'_>) -> bool
+    ensures { (result ≡ true) ↔ Sound (contents t.now).nodes }
 {
-    if !root_ends(file, t) {
+    if !root_ends(t) {
         return false;
     }
-    let end = root_link(file, t);
     let mut awaited = [0u32; MOST_OPEN];
     let mut top: usize = 0;
-    let mut i: u32 = 0;
-    while i < end {
-        let at = i;
-        i += 1;
-        match part_at(file, t, at) {
+    for at in 0..root_link(t) {
+        match part_at(t, at) {
             Part::Opens(l) => {
                 if top == MOST_OPEN {
                     return false;

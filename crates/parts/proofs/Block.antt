@@ -11,12 +11,6 @@ use Rattle.parts.proofs.Over.{over_whole, over_none, over-length}
 
 -- ---- a block
 
-pub block-count : (k : ℕ) (s : Bytes) → k ≤ length s → k ≡ length (take k s)
-block-count k s h = sym (length-take-le k s h)
-
-pub block-fits : (k : ℕ) (s : Bytes) → length (take k s) ≤ k
-block-fits k s = omega (arith, length-take k s)
-
 -- a block copied over another of its length
 pub copied_all : (src dst : Bytes) {r : Bytes} → length dst ≤ length src → r ≡ take (length src) src ++ drop (length src) dst → r ≡ src
 copied_all src dst h e = e ∙ rw (take-length src, drop_of_length-le dst h) (append-nil src)

@@ -1,10 +1,10 @@
 -- Runs copied to a part of the buffer.
-use mathlib.Core.Path.{◌≡◌, refl, sym, ap, ◌∙◌}
+use mathlib.Core.Path.{◌≡◌, sym, ap, ◌∙◌}
 use mathlib.Core.List.{[], ◌++◌, append-nil}
 use Prim.Native.Nat.{ℕ, ◌+◌, ◌-◌, ◌≤◌, ◌<◌}
 use native.Mathlib.Omega.{arith}
-use lib.ListN.{length, take, drop, drop_of_length-le, length-drop, length-take}
-use lib.Seq.{take_all, take-length, drop-drop}
+use lib.ListN.{length, take, drop, drop_of_length-le, length-drop}
+use lib.Seq.{take-length, drop-drop}
 use Rattle.parts.specs.Bytes.{Bytes}
 use Rattle.parts.proofs.Laws.{drop-part}
 use Rattle.parts.specs.Over.{over, lay}
@@ -22,20 +22,6 @@ copied buf d s src {last} h es el =
     ∙ ap (λ (z : Bytes). drop (d + length z) buf) es ∙ clipped buf d s (omega arith) in
     let is : last ≡ take (length buf - d) s ++ drop (d + length s) buf = el ∙ rw (take-length src, rest) (ap (λ (z : Bytes). z ++ drop (d + length s) buf) es) in
     rw (end, append-nil) (ap (λ (z : Bytes). take d buf ++ z) is)
-
-pub copied_whole : (buf : Bytes) (d : ℕ) (s : Bytes) {last : Bytes} → d < length buf → length s ≤ length buf - d
-    → last ≡ take (length s) s ++ drop (length s) (take (length buf - d) (drop d buf))
-    → take d buf ++ (last ++ drop (length buf - d) (drop d buf)) ≡ over buf d s
-copied_whole buf d s h hs el = copied buf d s s h (sym (take_all (length buf - d) s hs)) el
-
-pub copied_cut : (buf : Bytes) (d : ℕ) (s : Bytes) {last : Bytes} → d < length buf
-    → last ≡ take (length (take (length buf - d) s)) (take (length buf - d) s) ++ drop (length (take (length buf - d) s)) (take (length buf - d) (drop d buf))
-    → take d buf ++ (last ++ drop (length buf - d) (drop d buf)) ≡ over buf d s
-copied_cut buf d s h el = copied buf d s (take (length buf - d) s) h refl el
-
--- a run that is cut is as long as there is room
-pub cut_fits : (buf : Bytes) (d : ℕ) (s : Bytes) → length (take (length buf - d) s) ≤ length (take (length buf - d) (drop d buf))
-cut_fits buf d s = omega (arith, length-take (length buf - d) s, length-take (length buf - d) (drop d buf), length-drop d buf)
 
 -- ---- in a window
 

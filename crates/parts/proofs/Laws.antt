@@ -5,17 +5,15 @@ use mathlib.Core.List.{[], ◌∷◌, ◌++◌}
 use Prim.Native.Nat.{ℕ, zero, suc, ◌+◌, ◌-◌, ◌≤◌, ◌<◌}
 use native.Mathlib.Omega.{arith}
 use native.Mathlib.Numerals.{add-one}
-use lib.ListN.{length, get_or, take, drop, drop_of_length-le, length-drop, get_or-eq_default, length-take}
-use lib.Seq.{drop-cons, take_all, length-take-le, drop-drop, take-nil, take-take}
+use lib.ListN.{length, get_or, take, drop, drop_of_length-le, length-drop, length-take}
+use lib.Seq.{drop-cons, take_all, drop-drop, take-nil, take-take}
 use lib.Dec.{eqb}
-use borrow.Author.Tests.{eq-eqb, ne_eqb, eqb-true, eqb-false}
+use borrow.Author.Tests.{eq-eqb, ne_eqb, eqb-true}
+use Rattle.std.specs.List.{list_all, zip}
+use Rattle.std.specs.Cmp.Lexicographic.{pointwise}
 use Rattle.parts.specs.Bytes.{Bytes, same, begins, first_at, find, part}
 
 -- ---- parts
-
--- past the end stands the default
-pub past_end : (s : Bytes) (i : ℕ) → length s ≤ i → 0 ≡ get_or s i 0
-past_end s i h = sym (get_or-eq_default s 0 h)
 
 pub drop-part : (s : Bytes) (i : ℕ) → take (length s - i) (drop i s) ≡ drop i s
 drop-part s i = take_all (length s - i) (drop i s) (omega (arith, length-drop i s))
@@ -23,15 +21,6 @@ drop-part s i = take_all (length s - i) (drop i s) (omega (arith, length-drop i 
 -- past the end nothing is left
 pub drop_past : (s : Bytes) (i : ℕ) → length s ≤ i → take (length s - length s) (drop (length s) s) ≡ drop i s
 drop_past s i h = drop-part s (length s) ∙ drop_of_length-le s {i = length s} (omega arith) ∙ sym (drop_of_length-le s h)
-
-pub part_in : (n : ℕ) {r z : Bytes} → r ≡ z → take n r ≡ take n z
-part_in n e = rw e
-
-pub part_out : (n : ℕ) (r : Bytes) {z : Bytes} → length r ≤ n → r ≡ z → r ≡ take n z
-part_out n r h e = sym (take_all n r h) ∙ part_in n e
-
-pub part_count : (n : ℕ) (r : Bytes) → n < length r → n ≡ length (take n r)
-part_count n r h = sym (length-take-le n r (omega arith))
 
 -- the text from a place within it: the byte there, and what follows
 pub drop_at : (s : Bytes) (i : ℕ) → i < length s → drop i s ≡ get_or s i 0 ∷ drop (i + 1) s
@@ -75,22 +64,11 @@ begins_short [] s h = absurd (omega arith)
 begins_short (x ∷ w) [] h = refl
 begins_short (x ∷ w) (y ∷ s) h = rw (begins_short w s (omega arith)) (and-false (eqb x y))
 
-begins-cons : (w s : Bytes) (i : ℕ) → i < length w → i < length s
-    → begins (drop i w) (drop i s) ≡ eqb (get_or w i 0) (get_or s i 0) && begins (drop (i + 1) w) (drop (i + 1) s)
+pub begins-zip : (w s : Bytes) → length w ≤ length s → list_all (λ (p : ℕ × ℕ). eqb p.0 p.1) (zip w s) ≡ begins w s
 unfolding begins
-begins-cons w s i h l = rw (drop_at w i h, drop_at s i l)
-
-pub begins-turn : (w s : Bytes) (i : ℕ) {t : Bool} → length w ≤ length s → i < length w → get_or w i 0 ≡ get_or s i 0
-    → begins (drop i w) (drop i s) ≡ t → begins (drop (i + 1) w) (drop (i + 1) s) ≡ t
-begins-turn w s i l h e inv = sym (begins-cons w s i h (omega arith) ∙ rw (eq-eqb (get_or w i 0) (get_or s i 0) e)) ∙ inv
-
-pub begins_stop : (w s : Bytes) (i : ℕ) {t : Bool} → length w ≤ length s → i < length w → (get_or w i 0 ≡ get_or s i 0 → ⊥)
-    → begins (drop i w) (drop i s) ≡ t → false ≡ t
-begins_stop w s i l h n inv = sym (begins-cons w s i h (omega arith) ∙ rw (ne_eqb (get_or w i 0) (get_or s i 0) n)) ∙ inv
-
-pub begins_end : (w s : Bytes) (i : ℕ) {t : Bool} → length w ≤ i → begins (drop i w) (drop i s) ≡ t → true ≡ t
-unfolding begins
-begins_end w s i h inv = sym (rw (drop_of_length-le w h)) ∙ inv
+begins-zip [] s h = refl
+begins-zip (x ∷ w) [] h = absurd (omega arith)
+begins-zip (x ∷ w) (y ∷ s) h = ap (λ (t : Bool). eqb x y && t) (begins-zip w s (omega arith))
 
 pub begins-fits : (w s : Bytes) → begins w s ≡ true → length w ≤ length s
 unfolding begins
@@ -110,22 +88,12 @@ begins-split (x ∷ w) (y ∷ s) e =
 
 -- ---- equal texts
 
-eqb_swap : (x y : ℕ) → eqb y x ≡ eqb x y
-eqb_swap x y = go (eqb x y) refl
-  where
-    go : (t : Bool) → eqb x y ≡ t → eqb y x ≡ t
-    go true e = eq-eqb y x (sym (eqb-true x y e))
-    go false e = ne_eqb y x (λ h. eqb-false x y e (sym h))
-
-pub same-begins : (a z : Bytes) {t : Bool} → length a ≡ length z → t ≡ begins z a → t ≡ same a z
-unfolding begins same
-same-begins a z h e = e ∙ go a z h
-  where
-    go : (a z : Bytes) → length a ≡ length z → begins z a ≡ same a z
-    go [] [] h = refl
-    go [] (y ∷ z) h = absurd (omega arith)
-    go (x ∷ a) [] h = absurd (omega arith)
-    go (x ∷ a) (y ∷ z) h = rw (go a z (omega arith), eqb_swap x y)
+pub same-pointwise : (a z : Bytes) → pointwise eqb a z ≡ same a z
+unfolding same
+same-pointwise [] [] = refl
+same-pointwise [] (y ∷ z) = refl
+same-pointwise (x ∷ a) [] = refl
+same-pointwise (x ∷ a) (y ∷ z) = ap (λ (t : Bool). eqb x y && t) (same-pointwise a z)
 
 pub same_short : (a z : Bytes) → (length a ≡ length z → ⊥) → false ≡ same a z
 unfolding same
@@ -221,3 +189,13 @@ byte_turn s i x n h e inv =
 pub byte_stop : (s : Bytes) (i x n : ℕ) → i < length s → get_or s i 0 ≡ x → i + find (x ∷ []) (drop i s) ≡ n → i ≡ n
 byte_stop s i x n h e inv =
     first_stop (begins (x ∷ [])) s i n h refl (sym (begins_byte s i x h ∙ rw (eq-eqb x (get_or s i 0) (sym e)))) refl inv
+
+pub find-hit : (x y : ℕ) (s : Bytes) → y ≡ x → find (x ∷ []) (y ∷ s) ≡ 0
+find-hit x y s e = sym (byte_stop (y ∷ s) 0 x (find (x ∷ []) (y ∷ s)) (omega arith) e (omega arith))
+
+pub find-miss : (x y : ℕ) (s : Bytes) → (y ≡ x → ⊥) → find (x ∷ []) (y ∷ s) ≡ find (x ∷ []) s + 1
+find-miss x y s n = omega (arith, byte_turn (y ∷ s) 0 x (find (x ∷ []) (y ∷ s)) (omega arith) n (omega arith))
+
+pub find-none : (w : Bytes) → find w [] ≡ 0
+unfolding first_at
+find-none w = refl

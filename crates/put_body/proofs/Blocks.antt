@@ -1,8 +1,8 @@
 -- Blocks of a text that its body shares.
-use mathlib.Core.Path.{◌≡◌, refl, sym, ap, ◌∙◌}
+use mathlib.Core.Path.{◌≡◌, refl, sym, ap}
 use mathlib.Core.Bool.{Bool, true, false, not, ◌&&◌, ◌||◌, or-true}
 use mathlib.Core.List.{[], ◌∷◌}
-use Prim.Native.Nat.{ℕ, zero, suc, ◌+◌, ◌-◌, ◌≤◌, ◌<◌}
+use Prim.Native.Nat.{ℕ, zero, suc, ◌+◌, ◌≤◌, ◌<◌}
 use native.Mathlib.Nat.{zero-add}
 use native.Mathlib.Omega.{arith}
 use lib.ListN.{length, take, drop, length-drop}
@@ -46,9 +46,8 @@ block_skip (suc n) (x ∷ y ∷ t) h e =
     go true z f = absurd (let no_way : ◌≡◌ {A = ℕ} 0 1 = cc in omega arith)
     go false z f = omega (arith, f)
 
-pub block-turn : (s : Bytes) (i : ℕ) {t : Bool} → 17 ≤ length s - i → t ≡ any_odd (take (i + 17 - i) (drop i s)) → t ≡ false → SharedTo s i → SharedTo s (i + 16)
-block-turn s i h et e z =
-    let same : i + 17 - i ≡ 17 = omega arith in
-    let skip = block_skip 16 (drop i s) (omega (arith, length-drop i s)) (sym (et ∙ rw same) ∙ e) in
+pub shared_block : (s : Bytes) (i : ℕ) → i + 17 ≤ length s → any_odd (take 17 (drop i s)) ≡ false → SharedTo s i → SharedTo s (i + 16)
+shared_block s i h e z =
+    let skip = block_skip 16 (drop i s) (omega (arith, length-drop i s)) e in
     let on : shared_len (drop 16 (drop i s)) ≡ shared_len (drop (i + 16) s) = ap shared_len (drop-drop 16 i s) in
     record { within = omega arith; rest = omega (arith, skip, on, z.rest) }

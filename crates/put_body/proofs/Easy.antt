@@ -1,6 +1,6 @@
 -- A text that is written as it stands.
 use mathlib.Core.Path.{◌≡◌, refl, sym, ap, ◌∙◌}
-use mathlib.Core.Bool.{Bool, true, false, not, ◌&&◌, ◌||◌, or-false, and-true}
+use mathlib.Core.Bool.{Bool, true, false, not, ◌&&◌, ◌||◌, or-false, or_assoc, and-true}
 use mathlib.Core.List.{List, [], ◌∷◌}
 use Prim.Native.Nat.{ℕ, zero, suc, ◌+◌, ◌-◌, ◌≤◌, ◌<◌}
 use native.Mathlib.Omega.{arith}
@@ -29,9 +29,13 @@ use Rattle.put_body.proofs.Turns.{written-escaped}
 
 -- ---- the scan
 
-pub hard_of : (x y : ℕ) {t : Bool} → t ≡ odd x y → t || (eqb x 47 || (eqb x 60 || (eqb x 62 || eqb x 38))) ≡ hard x y
+pub hard_of : (x y : ℕ) {t : Bool} → t ≡ odd x y → (((t || eqb x 47) || eqb x 60) || eqb x 62) || eqb x 38 ≡ hard x y
 unfolding hard
-hard_of x y e = rw e
+hard_of x y {t} e =
+    or_assoc ((t || eqb x 47) || eqb x 60) (eqb x 62) (eqb x 38)
+    ∙ or_assoc (t || eqb x 47) (eqb x 60) (eqb x 62 || eqb x 38)
+    ∙ or_assoc t (eqb x 47) (eqb x 60 || (eqb x 62 || eqb x 38))
+    ∙ rw e
 
 pub hard_here : {x y : ℕ} (v w : ℕ) {t : Bool} → x ≡ v → y ≡ w → t ≡ hard x y → t ≡ hard v w
 hard_here v w ex ey et = rw (← ex, ← ey) et
@@ -54,10 +58,9 @@ skip (suc n) (x ∷ y ∷ t) h e =
     let k = or_both (hard x y) (any_pair hard (y ∷ take n t)) e in
     skip n (y ∷ t) (omega arith) k.1 ∙ rw k.0
 
-pub easy-block : (s : Bytes) (i : ℕ) {t : Bool} → 17 ≤ length s - i → t ≡ any_pair hard (take (i + 17 - i) (drop i s)) → t ≡ false → EasyTo s i → EasyTo s (i + 16)
-easy-block s i h et e z =
-    let same : i + 17 - i ≡ 17 = omega arith in
-    let on = skip 16 (drop i s) (omega (arith, length-drop i s)) (sym (et ∙ rw same) ∙ e) in
+pub easy_block : (s : Bytes) (i : ℕ) → i + 17 ≤ length s → any_pair hard (take 17 (drop i s)) ≡ false → EasyTo s i → EasyTo s (i + 16)
+easy_block s i h e z =
+    let on = skip 16 (drop i s) (omega (arith, length-drop i s)) e in
     record { within = omega arith; rest = sym (ap any_hard (drop-drop 16 i s)) ∙ on ∙ z.rest }
 
 module _ (s : Bytes) (i : ℕ) where
@@ -65,20 +68,23 @@ module _ (s : Bytes) (i : ℕ) where
   unfolding any_hard
   here h = rw (drop_at s i h)
 
-  pub each_turn : {t z : Bool} {r : Bytes} → i < length s → r ≡ drop i s → t ≡ hard (get_or r 0 0) (get_or r 1 0) → t ≡ false → any_hard (drop i s) ≡ z → any_hard (drop (i + 1) s) ≡ z
-  each_turn h er et e inv = sym (here h ∙ rw (← er, ← et, e)) ∙ inv
+  abbrev part : Bytes
+  part = take (length s - i) (drop i s)
 
-  pub each_stop : {t z : Bool} {r : Bytes} → i < length s → r ≡ drop i s → t ≡ hard (get_or r 0 0) (get_or r 1 0) → t ≡ true → any_hard (drop i s) ≡ z → true ≡ z
-  each_stop h er et e inv = sym (here h ∙ rw (← er, ← et, e)) ∙ inv
+  pub each_turn : {t z : Bool} → i < length s → t ≡ hard (get_or part 0 0) (get_or part 1 0) → t ≡ false → any_hard (drop i s) ≡ z → any_hard (drop (i + 1) s) ≡ z
+  each_turn h et e inv = sym (here h ∙ rw (← drop-part s i, ← et, e)) ∙ inv
+
+  pub each_stop : {t z : Bool} → i < length s → t ≡ hard (get_or part 0 0) (get_or part 1 0) → t ≡ true → any_hard (drop i s) ≡ z → true ≡ z
+  each_stop h et e inv = sym (here h ∙ rw (← drop-part s i, ← et, e)) ∙ inv
 
   pub each_end : {z : Bool} → length s ≤ i → any_hard (drop i s) ≡ z → false ≡ z
   unfolding any_hard
   each_end h inv = sym (ap any_hard (drop_of_length-le s h)) ∙ inv
 
 module _ (s : Bytes) {x : ℕ} (ex : x ≡ get_or s 0 0) where
-  pub easy_space : x ≡ 32 → false ≡ easy s
+  pub easy_space : x ≡ 32 → not (eqb x 32) ≡ easy s
   unfolding easy
-  easy_space e = rw (eq-eqb (get_or s 0 0) 32 (sym ex ∙ e))
+  easy_space e = rw (eq-eqb (get_or s 0 0) 32 (sym ex ∙ e), eq-eqb x 32 e)
 
   pub easy_scan : {i : ℕ} {t : Bool} → (x ≡ 32 → ⊥) → EasyTo s i → t ≡ any_hard (take (length s - i) (drop i s)) → not t ≡ easy s
   unfolding easy

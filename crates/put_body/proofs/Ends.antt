@@ -6,6 +6,7 @@ use Prim.Native.Nat.{ℕ, zero, suc, ◌+◌, ◌-◌, ◌≤◌, ◌<◌}
 use native.Mathlib.Omega.{arith}
 use lib.ListN.{length, get_or, take, drop, length-append, length-drop, drop_of_length-le}
 use lib.Seq.{length-take-le}
+use lib.Dec.{eqb}
 use borrow.Author.Tests.{eq-eqb, ne_eqb, not-true, not-false}
 use Rattle.parts.specs.Bytes.{Bytes}
 use Rattle.chars.specs.Utf8.{cut_at, step, first_char}
@@ -37,7 +38,7 @@ first_byte (x ∷ s) = go (step (x ∷ s)) (step-some (x ∷ s) (omega arith))
     go (suc n) h = refl
 
 module _ (s : Bytes) {c : Char} (ec : c ≡ first_char s) {x : ℕ} (ex : x ≡ get_or s 0 0) where
-  pub front_tilde : x ≡ 126 → ◌≡◌ {A = Front} (record { width = c.width; soft = true }) (front_of_of s)
+  pub front_tilde : x ≡ 126 → ◌≡◌ {A = Front} (record { width = c.width; soft = eqb x 126 }) (front_of_of s)
   unfolding front_of_of first_char soft
   front_tilde e = rw (first_byte s, ← ex, eq-eqb x 126 e, ec)
 

@@ -307,6 +307,9 @@ back_white s front size = go (leb size front) refl (is_ascii_white (get_or s (si
 
 -- ---- the functions
 
+pub clash : {A : Type 0} {t u : Bool} → t ≡ u → u ≡ true → t ≡ false → A
+clash e h n = absurd (let k : ◌≡◌ {A = Bool} true false = sym h ∙ sym e ∙ n in let no_way : ◌≡◌ {A = ℕ} 0 1 = cc in omega arith)
+
 module _ (s : Bytes) (size : ℕ) where
   pub front_fits : {r : ℕ} → r ≡ white_front_of s size → r ≤ size
   front_fits e = omega (arith, (front_white s size).1)
@@ -374,8 +377,12 @@ found_space s size {x} e ex ef el h n =
     let frame : frame_of s size ≡ record { front = 0; len = 0; ends = true } = ap (frame_of s) e ∙ space_frame s here in
     rw frame (framed_space s size e here n)
 
-pub found_none : (s : Bytes) (size : ℕ) {front len : ℕ} → front ≡ (frame_of s size).front → len ≡ (frame_of s size).len → false ≡ true → size ≤ length s → Framed s size (frame_of s size)
-found_none s size ef el h n = absurd (let k : ◌≡◌ {A = Bool} false true = h in let no_way : ◌≡◌ {A = ℕ} 0 1 = cc in omega arith)
+-- what `&&` is where its first test holds, and where it does not
+pub and_then : {a : Bool} (z : Bool) → a ≡ true → z ≡ a && z
+and_then z e = rw e
+
+pub and_else : {a : Bool} (z : Bool) → a ≡ false → a ≡ a && z
+and_else z e = rw e
 
 module _ (front len : ℕ) (ends a z : Bool) where
   pub text_space : len ≡ 0 → {l : Bool} → l ≡ a && z → ◌≡◌ {A = Normalized} (record { lead = l; trail = false; shows = l }) (framed_text_of (record { front = front; len = len; ends = ends }) a z)

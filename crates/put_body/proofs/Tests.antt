@@ -1,50 +1,57 @@
 -- What the tests on bytes answer.
-use mathlib.Core.Path.{◌≡◌, refl, sym, ap}
-use mathlib.Core.Bool.{Bool, true, false, not, or-false}
+use mathlib.Core.Path.{◌≡◌, refl, sym, ap, ◌∙◌}
+use mathlib.Core.Bool.{Bool, true, false, not, or-false, or-true}
 use mathlib.Core.List.{[], ◌∷◌}
 use Prim.Native.Nat.{ℕ, ◌+◌, ◌-◌, ◌≤◌, ◌<◌}
 use native.Mathlib.Nat.{zero-add}
 use native.Mathlib.Omega.{arith}
 use lib.ListN.{length, get_or, take, drop}
-use lib.Seq.{take_all}
 use lib.Dec.{eqb}
-use borrow.Author.Tests.{eq-eqb, ne_eqb}
+use borrow.Author.Tests.{eq-eqb, ne_eqb, eqb-true, eqb-false}
 use Rattle.parts.specs.Bytes.{Bytes, first_at}
 use Rattle.parts.proofs.Laws.{drop-part, first-turn, first_stop, first_end}
+use Rattle.chars.specs.Range.{in_any, within}
 use Rattle.chars.specs.Space.{is_ascii_white}
 use Rattle.words.specs.Words.{white_len}
 use Rattle.words.specs.declared.Set.TheVariants.{Ascii}
-use Rattle.texts.proofs.Edges.{solid_above}
 use Rattle.put_body.specs.Body.{plain, starts_solid, differs, shared_len, SharedTo, gap_white_of, gap_of}
 use Rattle.put_body.specs.declared.Mark.TheVariants.{Nothing, Space, Hard}
 use Rattle.put_body.specs.declared.Gap.{Gap}
 use Rattle.put_body.proofs.Rest.{shared-le}
 
-module _ (x : ℕ) where
-  pub plain_above : 32 < x → not (eqb x 126) ≡ plain x
-  unfolding plain
-  plain_above h = rw (solid_above x h)
+-- whether a text is empty
+pub none_left : {n : ℕ} {t : Bool} → t ≡ eqb n 0 → t ≡ true → n ≡ 0
+none_left {n} et e = eqb-true n 0 (sym et ∙ e)
 
-  pub plain-below : {t : Bool} → x ≤ 32 → t ≡ is_ascii_white x → not t ≡ plain x
+pub some_left : {n : ℕ} {t : Bool} → t ≡ eqb n 0 → t ≡ false → 0 < n
+some_left {n} et e = omega (arith, eqb-false n 0 (sym et ∙ e))
+
+module _ (x : ℕ) where
+  pub plain_other : {t : Bool} → (x ≡ 126 → ⊥) → t ≡ is_ascii_white x → not t ≡ plain x
   unfolding plain
-  plain-below {t} h et = rw (← et, ne_eqb x 126 (λ e. omega arith)) (ap not (sym (or-false t)))
+  plain_other {t} n et = rw (← et, ne_eqb x 126 n) (ap not (sym (or-false t)))
+
+  pub plain_tilde : x ≡ 126 → not (eqb x 126) ≡ plain x
+  unfolding plain
+  plain_tilde e = rw (eq-eqb x 126 e) (ap not (sym (or-true (is_ascii_white x))))
 
 module _ (s : Bytes) where
-  pub starts_none : length s ≡ 0 → false ≡ starts_solid s
-  unfolding starts_solid
-  starts_none h = go s h
-    where
-      go : (s : Bytes) → length s ≡ 0 → false ≡ starts_solid s
-      go [] h = refl
-      go (x ∷ s) h = absurd (omega arith)
+  module _ {e : Bool} (ee : e ≡ eqb (length s) 0) where
+    pub starts_none : e ≡ true → not e ≡ starts_solid s
+    unfolding starts_solid
+    starts_none n = ap not n ∙ go s (none_left ee n)
+      where
+        go : (s : Bytes) → length s ≡ 0 → false ≡ starts_solid s
+        go [] h = refl
+        go (x ∷ s) h = absurd (omega arith)
 
-  pub starts_some : {t : Bool} → (length s ≡ 0 → ⊥) → t ≡ is_ascii_white (get_or s 0 0) → not t ≡ starts_solid s
-  unfolding starts_solid
-  starts_some {t} h e = go s h e
-    where
-      go : (s : Bytes) → (length s ≡ 0 → ⊥) → t ≡ is_ascii_white (get_or s 0 0) → not t ≡ starts_solid s
-      go [] h e = absurd (h refl)
-      go (x ∷ s) h e = rw e
+    pub starts_some : {t : Bool} → e ≡ false → t ≡ is_ascii_white (get_or s 0 0) → not t ≡ starts_solid s
+    unfolding starts_solid
+    starts_some {t} n et = go s (λ z. omega (arith, some_left ee n, z)) et
+      where
+        go : (s : Bytes) → (length s ≡ 0 → ⊥) → t ≡ is_ascii_white (get_or s 0 0) → not t ≡ starts_solid s
+        go [] h et = absurd (h refl)
+        go (x ∷ s) h et = rw et
 
   pub differs_none : length s ≡ 0 → true ≡ differs s
   unfolding differs
@@ -54,49 +61,31 @@ module _ (s : Bytes) where
       go [] h = refl
       go (x ∷ s) h = absurd (omega arith)
 
-  module _ (h : length s ≡ 0 → ⊥) {t : Bool} (et : t ≡ plain (get_or s 0 0)) where
-    pub differs-plain : t ≡ true → false ≡ differs s
-    unfolding differs
-    differs-plain e = go s h et
-      where
-        go : (s : Bytes) → (length s ≡ 0 → ⊥) → t ≡ plain (get_or s 0 0) → false ≡ differs s
-        go [] h et = absurd (h refl)
-        go (x ∷ s) h et = rw (← et, e)
+  module _ {x : ℕ} {rest : Bytes} (e : s ≡ x ∷ rest) {t : Bool} where
+    pub differs_space : x ≡ 32 → t ≡ starts_solid rest → not t ≡ differs s
+    unfolding differs plain is_ascii_white in_any within
+    differs_space x32 et = rw (e, x32, et)
 
-    pub differs_space : {y : Bool} → t ≡ false → get_or s 0 0 ≡ 32 → y ≡ starts_solid (take (length s - 1) (drop 1 s)) → not y ≡ differs s
+    pub differs_other : (x ≡ 32 → ⊥) → t ≡ plain x → not t ≡ differs s
     unfolding differs
-    differs_space {y} e x32 ey = go s h et x32 ey
-      where
-        go : (s : Bytes) → (length s ≡ 0 → ⊥) → t ≡ plain (get_or s 0 0) → get_or s 0 0 ≡ 32 → y ≡ starts_solid (take (length s - 1) (drop 1 s)) → not y ≡ differs s
-        go [] h et x32 ey = absurd (h refl)
-        go (x ∷ s) h et x32 ey =
-            let all : take (length (x ∷ s) - 1) s ≡ s = take_all (length (x ∷ s) - 1) s (omega arith) in
-            rw (← et, e, eq-eqb x 32 x32, ey) (ap (λ (z : Bytes). not (starts_solid z)) all)
-
-    pub differs_else : t ≡ false → (get_or s 0 0 ≡ 32 → ⊥) → true ≡ differs s
-    unfolding differs
-    differs_else e n = go s h et n
-      where
-        go : (s : Bytes) → (length s ≡ 0 → ⊥) → t ≡ plain (get_or s 0 0) → (get_or s 0 0 ≡ 32 → ⊥) → true ≡ differs s
-        go [] h et n = absurd (h refl)
-        go (x ∷ s) h et n = rw (← et, e, ne_eqb x 32 n)
+    differs_other n et = rw (e, ne_eqb x 32 n, ← et) (ap not (sym (or-false t)))
 
   -- ---- the run
 
   module _ (i : ℕ) where
-    pub shared-turn : {t : Bool} {r : Bytes} → i < length s → r ≡ drop i s → t ≡ differs r → t ≡ false
+    pub shared-turn : {t : Bool} → i < length s → t ≡ differs (take (length s - i) (drop i s)) → t ≡ false
         → i + shared_len (drop i s) ≡ shared_len s → i + 1 + shared_len (drop (i + 1) s) ≡ shared_len s
     unfolding shared_len
-    shared-turn h er et e inv = first-turn differs s i (first_at differs s) h er et e inv
+    shared-turn h et e inv = first-turn differs s i (first_at differs s) h (drop-part s i) et e inv
 
-    pub shared_stop : {t : Bool} {r : Bytes} → i < length s → r ≡ drop i s → t ≡ differs r → t ≡ true
+    pub shared_stop : {t : Bool} → i < length s → t ≡ differs (take (length s - i) (drop i s)) → t ≡ true
         → i + shared_len (drop i s) ≡ shared_len s → i ≡ shared_len s
     unfolding shared_len
-    shared_stop h er et e inv = first_stop differs s i (first_at differs s) h er et e inv
+    shared_stop h et e inv = first_stop differs s i (first_at differs s) h (drop-part s i) et e inv
 
-    pub shared_end : length s ≤ i → i + shared_len (drop i s) ≡ shared_len s → i ≡ shared_len s
+    pub shared_end : length s ≤ i → i ≤ length s → i + shared_len (drop i s) ≡ shared_len s → length s ≡ shared_len s
     unfolding shared_len
-    shared_end h inv = first_end differs s i (first_at differs s) h inv
+    shared_end h l inv = let e : i ≡ length s = omega arith in sym e ∙ first_end differs s i (first_at differs s) h inv
 
   pub shared_start : SharedTo s 0
   shared_start = record { within = omega arith; rest = zero-add (shared_len s) }
@@ -125,28 +114,16 @@ module _ (s : Bytes) where
       go [] h = refl
       go (x ∷ s) h = absurd (omega arith)
 
-  module _ (h : length s ≡ 0 → ⊥) where
-    pub gap_tilde : get_or s 0 0 ≡ 126 → ◌≡◌ {A = Gap} (record { mark = Hard; len = 1 }) (gap_of s)
+  module _ {x : ℕ} {rest : Bytes} (e : s ≡ x ∷ rest) where
+    pub gap_tilde : x ≡ 126 → ◌≡◌ {A = Gap} (record { mark = Hard; len = 1 }) (gap_of s)
     unfolding gap_of
-    gap_tilde e = go s h e
-      where
-        go : (s : Bytes) → (length s ≡ 0 → ⊥) → get_or s 0 0 ≡ 126 → ◌≡◌ {A = Gap} (record { mark = Hard; len = 1 }) (gap_of s)
-        go [] h e = absurd (h refl)
-        go (x ∷ s) h e = rw (eq-eqb x 126 e)
+    gap_tilde h = rw (e, h)
 
-    module _ (n : get_or s 0 0 ≡ 126 → ⊥) {t : Bool} (et : t ≡ is_ascii_white (get_or s 0 0)) where
+    module _ (n : x ≡ 126 → ⊥) {t : Bool} (et : t ≡ is_ascii_white x) where
       pub gap_white : {g : Gap} → t ≡ true → g ≡ gap_white_of s → g ≡ gap_of s
       unfolding gap_of
-      gap_white {g} e eg = go s h n et eg
-        where
-          go : (s : Bytes) → (length s ≡ 0 → ⊥) → (get_or s 0 0 ≡ 126 → ⊥) → t ≡ is_ascii_white (get_or s 0 0) → g ≡ gap_white_of s → g ≡ gap_of s
-          go [] h n et eg = absurd (h refl)
-          go (x ∷ s) h n et eg = rw (ne_eqb x 126 n, ← et, e) eg
+      gap_white h eg = eg ∙ rw (e, ne_eqb x 126 n, ← et, h)
 
       pub gap_plain : t ≡ false → ◌≡◌ {A = Gap} (record { mark = Nothing; len = 0 }) (gap_of s)
       unfolding gap_of
-      gap_plain e = go s h n et
-        where
-          go : (s : Bytes) → (length s ≡ 0 → ⊥) → (get_or s 0 0 ≡ 126 → ⊥) → t ≡ is_ascii_white (get_or s 0 0) → ◌≡◌ {A = Gap} (record { mark = Nothing; len = 0 }) (gap_of s)
-          go [] h n et = absurd (h refl)
-          go (x ∷ s) h n et = rw (ne_eqb x 126 n, ← et, e)
+      gap_plain h = rw (e, ne_eqb x 126 n, ← et, h)

@@ -119,26 +119,28 @@ module _ (s : Bytes) (n i : ℕ) {r : Bytes} {t : Bool} (er : r ≡ drop i s) (e
       let none : drop (i + 16) (take n s) ≡ [] = drop_of_length-le (take n s) {i = i + 16} (omega (arith, length-take n s)) in
       sym (ap any_hard none) ∙ front_turn e inv
 
--- ---- a tight text
+pub front_done : (s : Bytes) (n i : ℕ) {z : Bool} → n ≤ i → any_hard (drop i (take n s)) ≡ z → false ≡ z
+unfolding any_hard
+front_done s n i h inv = sym (ap any_hard (drop_of_length-le (take n s) {i = i} (omega (arith, length-take n s)))) ∙ inv
 
-pub tight-none : (s : Bytes) (n : ℕ) → n ≡ 0 → false ≡ tight (take n s)
-unfolding tight
-tight-none s n h = rw h
+-- ---- a tight text
 
 pub tight-empty : (s : Bytes) (n : ℕ) → length s ≡ 0 → false ≡ tight (take n s)
 unfolding tight
 tight-empty s n h = let none : length (take n s) ≡ 0 = omega (arith, length-take n s) in rw none
 
-module _ (s : Bytes) (n : ℕ) (h : n ≡ 0 → ⊥) where
-  first : get_or (take n s) 0 0 ≡ get_or s 0 0
-  first = get_or-take n s 0 0 (omega arith)
-
-  pub tight_space : get_or s 0 0 ≡ 32 → false ≡ tight (take n s)
+module _ (s : Bytes) {x : ℕ} {rest : Bytes} (ex : s ≡ x ∷ rest) where
+  pub tight_space : (n : ℕ) → x ≡ 32 → false ≡ tight (take n s)
   unfolding tight easy
-  tight_space e = rw (first, eq-eqb (get_or s 0 0) 32 e) (sym (and-false (not (eqb (length (take n s)) 0))))
+  tight_space zero e = refl
+  tight_space (suc n) e = rw (ex, e) (sym (and-false (not (eqb (length (32 ∷ take n rest)) 0))))
 
-  pub tight_scan : {t : Bool} → (length s ≡ 0 → ⊥) → (get_or s 0 0 ≡ 32 → ⊥) → t ≡ any_hard (take n s) → not t ≡ tight (take n s)
+  pub tight-none : (n : ℕ) → n ≤ 0 → ltb 0 n ≡ tight (take n s)
+  unfolding tight
+  tight-none zero h = refl
+  tight-none (suc n) h = absurd (omega arith)
+
+  pub tight_scan : (n : ℕ) {t : Bool} → 0 < n → (x ≡ 32 → ⊥) → t ≡ any_hard (take n s) → not t ≡ tight (take n s)
   unfolding tight easy
-  tight_scan l e et =
-      let some : length (take n s) ≡ 0 → ⊥ = λ z. omega (arith, length-take n s) in
-      rw (et, first, ne_eqb (get_or s 0 0) 32 e, ne_eqb (length (take n s)) 0 some)
+  tight_scan zero h e et = absurd (omega arith)
+  tight_scan (suc n) h e et = rw (et, ex, ne_eqb x 32 e, ne_eqb (length (x ∷ take n rest)) 0 (λ z. omega arith))

@@ -5,8 +5,8 @@ use mathlib.Core.List.{[], ◌∷◌, ◌++◌, append_assoc}
 use Prim.Native.Nat.{ℕ, zero, suc, ◌+◌, ◌-◌, ◌≤◌, ◌<◌}
 use native.Mathlib.Omega.{arith}
 use lib.ListN.{length, take, drop, length-drop, drop_of_length-le}
-use lib.Seq.{drop-drop}
 use Rattle.parts.specs.Bytes.{Bytes}
+use Rattle.parts.proofs.Laws.{drop-part}
 use Rattle.chars.specs.Escape.{escape, escaped_byte}
 use Rattle.chars.proofs.Escapes.{escape-append}
 use Rattle.words.specs.Words.{words, joined, trim_start, next_word, bytes_of}
@@ -25,7 +25,7 @@ use Rattle.put_body.specs.Easy.{edged}
 use Rattle.put_body.specs.declared.Mark.{Mark}
 use Rattle.put_body.specs.declared.Mark.TheVariants.{Nothing, Space, Hard}
 use Rattle.put_body.specs.declared.Gap.{Gap}
-use Rattle.put_body.proofs.Rest.{rest-nil, body-rest, gap_rest, gap_fits, gap_some, shared-le, shared-rest}
+use Rattle.put_body.proofs.Rest.{rest-nil, body-rest, gap_rest, gap_fits, gap_some, shared-rest}
 
 -- ---- marks
 
@@ -50,52 +50,43 @@ marked-plain Hard = refl
 
 -- ---- the rest of a body
 
-module _ (s : Bytes) (at : ℕ) {n : ℕ} {r : Bytes} (h : at < length s) (er : r ≡ drop at s) (en : n ≡ shared_len r) where
-  run_fits : n ≤ length s - at
-  run_fits = omega (arith, en ∙ ap shared_len er, shared-le (drop at s), length-drop at s)
+pub gap_within : (t : Bytes) {g : Gap} → g ≡ gap_of t → g.len ≤ length t
+gap_within t eg = rw eg (gap_fits t)
 
-  pub run_ends : at + n ≤ length s
-  run_ends = omega (arith, run_fits)
+-- a run and the gap behind it
+module _ (s : Bytes) {n : ℕ} {run behind rest : Bytes} {g : Gap} (en : n ≡ shared_len s) (er : run ≡ take n s) (eb : behind ≡ drop n s) (eg : g ≡ gap_of behind)
+    (et : rest ≡ take (length behind - g.len) (drop g.len behind)) where
+  rest-all : rest ≡ drop g.len behind
+  rest-all = et ∙ drop-part behind g.len
 
-  module _ {t : Bytes} {g : Gap} (et : t ≡ drop (at + n) s) (eg : g ≡ gap_of t) where
-    len_is : g.len ≡ (gap_of (drop (at + n) s)).len
-    len_is = rw (eg, et)
+  some : 0 < length s → (k : ℕ) → n ≡ k → 0 < n + g.len
+  some h zero e =
+      let here : behind ≡ s = eb ∙ ap (λ (i : ℕ). drop i s) e in
+      omega (arith, ap (λ (f : Gap). f.len) eg, ap (λ (t : Bytes). (gap_of t).len) here, gap_some s h (sym en ∙ e))
+  some h (suc k) e = omega arith
 
-    pub gap_ends : at + (n + g.len) ≤ length s
-    gap_ends = omega (arith, run_fits, len_is, gap_fits (drop (at + n) s), length-drop (at + n) s)
+  pub rest_less : 0 < length s → length rest < length s
+  rest_less h = omega (arith, some h n refl, ap length rest-all, length-drop g.len behind, ap length eb, length-drop n s)
 
-    some : (k : ℕ) → n ≡ k → 0 < n + g.len
-    some zero e =
-        let here : at + n ≡ at = omega arith in
-        omega (arith, len_is, ap (λ (i : ℕ). (gap_of (drop i s)).len) here, gap_some (drop at s) (omega (arith, length-drop at s)) (ap shared_len (sym er) ∙ sym en ∙ e))
-    some (suc k) e = omega arith
+  rest-split : rest_of s ≡ run ++ (marked g.mark ++ rest_of rest)
+  rest-split =
+      let gap : rest_of behind ≡ marked g.mark ++ rest_of (drop g.len behind) = rw eg (gap_rest behind) in
+      shared-rest s ∙ rw (← en, ← er, ← eb) (ap (λ (z : Bytes). run ++ z) (gap ∙ rw (← rest-all)))
 
-    pub rest_less : length s - (at + (n + g.len)) < length s - at
-    rest_less = omega (arith, some n refl, gap_ends)
+  pub rest-turn : (p q : Page) {u w : Page} → q ≡ paint p (escape false run) → u ≡ paint q (marked g.mark)
+      → paint p (escape false (rest_of s)) ≡ w → paint u (escape false (rest_of rest)) ≡ w
+  rest-turn p q eq eu inv =
+      let m : Bytes = marked g.mark in
+      let z : Bytes = rest_of rest in
+      let whole : escape false (rest_of s) ≡ (escape false run ++ m) ++ escape false z =
+      ap (escape false) rest-split ∙ escape-append false run (m ++ z)
+      ∙ rw (escape-append false m z, marked-plain g.mark) (sym (append_assoc (escape false run) m (escape false z))) in
+      paint-two p (escape false run ++ m) (escape false z) (paint-two p (escape false run) m eq eu) refl ∙ ap (paint p) (sym whole) ∙ inv
 
-    rest-split : rest_of (drop at s) ≡ take n (drop at s) ++ (marked g.mark ++ rest_of (drop (at + (n + g.len)) s))
-    rest-split =
-        let u : Bytes = drop (at + n) s in
-        let run : n ≡ shared_len (drop at s) = en ∙ ap shared_len er in
-        let next : drop n (drop at s) ≡ u = drop-drop n at s in
-        let sum : at + n + g.len ≡ at + (n + g.len) = omega arith in
-        let behind : drop g.len u ≡ drop (at + (n + g.len)) s = drop-drop g.len (at + n) s ∙ ap (λ (i : ℕ). drop i s) sum in
-        let gap : rest_of u ≡ marked g.mark ++ rest_of (drop g.len u) = rw (eg, et) (gap_rest u) in
-        shared-rest (drop at s) ∙ rw (← run, next) (ap (λ (z : Bytes). take n (drop at s) ++ z) (gap ∙ rw behind))
-
-    pub rest-turn : (p q : Page) {u w : Page} {e : Bytes} → e ≡ take n (drop at s) → q ≡ paint p (escape false e) → u ≡ paint q (marked g.mark)
-        → paint p (escape false (rest_of (drop at s))) ≡ w → paint u (escape false (rest_of (drop (at + (n + g.len)) s))) ≡ w
-    rest-turn p q {u} {w} {e} ee eq eu inv =
-        let m : Bytes = marked g.mark in
-        let z : Bytes = rest_of (drop (at + (n + g.len)) s) in
-        let whole : escape false (rest_of (drop at s)) ≡ (escape false e ++ m) ++ escape false z =
-        ap (escape false) (rest-split ∙ rw (← ee)) ∙ escape-append false e (m ++ z)
-        ∙ rw (escape-append false m z, marked-plain g.mark) (sym (append_assoc (escape false e) m (escape false z))) in
-        paint-two p (escape false e ++ m) (escape false z) (paint-two p (escape false e) m eq eu) refl ∙ ap (paint p) (sym whole) ∙ inv
-
-pub rest_end : (s : Bytes) (at : ℕ) {p w : Page} → length s ≤ at → paint p (escape false (rest_of (drop at s))) ≡ w → p ≡ w
+pub rest_end : (s : Bytes) {p w : Page} → length s ≡ 0 → paint p (escape false (rest_of s)) ≡ w → p ≡ w
 unfolding escape paint
-rest_end s at {p} h inv = sym (ap (λ (t : Bytes). paint p (escape false t)) (ap rest_of (drop_of_length-le s h) ∙ rest-nil)) ∙ inv
+rest_end [] {p} h inv = sym (ap (λ (t : Bytes). paint p (escape false t)) rest-nil) ∙ inv
+rest_end (x ∷ s) h inv = absurd (omega arith)
 
 pub body_put : (s : Bytes) (p : Page) {q : Page} {t : Bytes} → t ≡ trim_start Ascii s → q ≡ paint p (escape false (rest_of t)) → q ≡ paint p (escape false (body_of s))
 body_put s p et eq = eq ∙ rw (et, body-rest s)
@@ -115,11 +106,6 @@ unfolding space_if escape escaped_byte
 space_plain true = refl
 space_plain false = refl
 
-pub none_put : (p : Page) (s : Bytes) → length s ≤ 0 → p ≡ paint p s
-unfolding paint
-none_put p [] h = refl
-none_put p (x ∷ s) h = absurd (omega arith)
-
 pub edged_put : (body : Bytes) (n : Normalized) (p q u : Page) {r : Page} → q ≡ paint p (space_if n.lead) → u ≡ paint q body → r ≡ paint u (space_if n.trail) → r ≡ paint p (edged body n)
 unfolding edged
 edged_put body n p q u eq eu er = paint-two p (space_if n.lead) (body ++ space_if n.trail) eq (paint-two q body (space_if n.trail) eu er)
@@ -136,12 +122,6 @@ pub written_put : (s : Bytes) (n : Normalized) (p q u : Page) {r : Page} → q �
 written_put s n p q u eq eu er = edged_put (escape false (body_of s)) n p q u eq eu er ∙ ap (paint p) (sym (written-escaped s n))
 
 -- ---- words
-
-pub escaped_value : (p : Page) {q : Page} (s : Bytes) {attr : Bool} → attr ≡ true → q ≡ paint p (escape true s) → q ≡ paint p (escape attr s)
-escaped_value p s e eq = rw e eq
-
-pub escaped-text : (p : Page) {q : Page} (s : Bytes) {attr : Bool} → attr ≡ false → q ≡ paint p (escape false s) → q ≡ paint p (escape attr s)
-escaped-text p s e eq = rw e eq
 
 escape_space : (attr : Bool) (s : Bytes) → escape attr (32 ∷ s) ≡ 32 ∷ escape attr s
 unfolding escape escaped_byte

@@ -7,23 +7,20 @@ ghost use Rattle.put_body.specs.Frame.{white_front_of, white_back_of, frame_of, 
 use chars::is_ascii_white;
 use parts::byte_at;
 use texts::Normalized;
-use window::{Window, put_front};
+use window::Window;
 
 // How many white bytes a text of so many bytes begins with, up to two.
 pub fn white_front(s: &[u8], size: usize) -> usize
     ensures value { result ≡ white_front_of s.now size }
     ensures upper_bound { result ≤ size }
 {
-    if size < 2 {
-        return 0;
+    if size < 2 || !is_ascii_white(byte_at(s, 0)) {
+        0
+    } else if !is_ascii_white(byte_at(s, 1)) {
+        1
+    } else {
+        2
     }
-    if !is_ascii_white(byte_at(s, 0)) {
-        return 0;
-    }
-    if !is_ascii_white(byte_at(s, 1)) {
-        return 1;
-    }
-    2
 }
 
 // How many it ends with, up to two, behind its first bytes.
@@ -31,19 +28,13 @@ pub fn white_back(s: &[u8], front: usize, size: usize) -> usize
     ensures value { result ≡ white_back_of s.now front size }
     ensures upper_bound { result ≤ size - front }
 {
-    if size <= front {
-        return 0;
+    if size <= front || !is_ascii_white(byte_at(s, size - 1)) {
+        0
+    } else if size - front < 2 || !is_ascii_white(byte_at(s, size - 2)) {
+        1
+    } else {
+        2
     }
-    if !is_ascii_white(byte_at(s, size - 1)) {
-        return 0;
-    }
-    if size - front < 2 {
-        return 1;
-    }
-    if !is_ascii_white(byte_at(s, size - 2)) {
-        return 1;
-    }
-    2
 }
 
 // Whether a text of so many bytes is told by its frame, whose body starts here and is so long.
@@ -51,21 +42,10 @@ pub fn is_framed(s: &[u8], size: usize, front: usize, len: usize) -> bool
     ensures { front ≡ (frame_of s.now size).front → len ≡ (frame_of s.now size).len → result ≡ true → size ≤ length s.now → Framed s.now size (frame_of s.now size) }
 {
     if len == 0 {
-        if size == 1 {
-            return byte_at(s, 0) == b' ';
-        }
-        return false;
+        size == 1 && byte_at(s, 0) == b' '
+    } else {
+        crate::is_tight(parts::from(s, front), len)
     }
-    crate::is_tight(parts::from(s, front), len)
-}
-
-fn both(a: bool, z: bool) -> bool
-    ensures { result ≡ a && z }
-{
-    if a {
-        return z;
-    }
-    false
 }
 
 // The edges of a text that a frame stands for, by whether what stands before it and behind it keeps a space.
@@ -73,25 +53,26 @@ pub fn framed_text(front: usize, len: usize, ends: bool, before: bool, behind: b
     ensures { result ≡ framed_text_of (record { front = front; len = len; ends = ends }) before behind }
 {
     if len == 0 {
-        let lead = both(before, behind);
-        return Normalized {
+        let lead = before && behind;
+        Normalized {
             lead,
             trail: false,
             shows: lead,
-        };
-    }
-    Normalized {
-        lead: both(0 < front, before),
-        trail: both(ends, behind),
-        shows: true,
+        }
+    } else {
+        Normalized {
+            lead: 0 < front && before,
+            trail: ends && behind,
+            shows: true,
+        }
     }
 }
 
 // The first bytes of a text, a body that is written as it stands, with its lead and trail.
-pub fn put_framed(w: Window, out: &mut [u8], s: &[u8], len: usize, n: Normalized) -> Window
-    ensures { page_of result out.new ≡ paint (page_of w out.old) (edged (take len s.now) n) }
+pub fn put_framed(w: &mut Window, out: &mut [u8], s: &[u8], len: usize, n: Normalized)
+    ensures { page_of w.new out.new ≡ paint (page_of w.old out.old) (edged (take len s.now) n) }
 {
-    let v = crate::put_space(w, out, n.lead);
-    let u = put_front(v, out, s, len);
-    crate::put_space(u, out, n.trail)
+    crate::put_space(w, out, n.lead);
+    w.put_front(out, s, len);
+    crate::put_space(w, out, n.trail);
 }

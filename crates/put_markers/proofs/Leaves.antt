@@ -7,8 +7,8 @@ use Rattle.parts.specs.Bytes.{Bytes, b}
 use Rattle.tape.specs.File.{Tape}
 use Rattle.tape.specs.Name.{marker_name}
 use Rattle.tape.specs.declared.Cursor.{Cursor}
-use Rattle.tape.specs.declared.Step.{Step}
-use Rattle.tape.specs.declared.Step.TheVariants.{At, Done}
+use Rattle.tape.specs.Found.{Step}
+use Rattle.std.specs.Prelude.{None, Some}
 use Rattle.render.specs.Note.{book_code_of, book_rest_of}
 use Rattle.attrs.specs.Attr.{attributes_of}
 use Rattle.figure.specs.Figure.{legacy_at, legacy_pairs, field_at, caption_of}
@@ -25,60 +25,61 @@ use Rattle.roles.specs.declared.Role.TheVariants.{UnknownBlock, UnknownInline, U
 use Rattle.roles.specs.Roles.{role_in}
 use Rattle.put_markers.specs.Marker.{old_figure_of, leaf_of}
 use Rattle.put_markers.proofs.Written.{drew_all, drew_event, drew_more, drew_start, drew_empty}
+use Rattle.desk.specs.declared.Desk.{Desk as Held}
 
 -- ---- tags
 
-module _ (t : Tape) (k : ℕ) {at a z r : ℕ} (d d₁ d₂ d₃ : List ℕ) {out o₁ o₂ last : Bytes} where
-  pub ms_drawn : {name : Bytes} → Drew at d out (opens 8 ∷ strokes_of_attrs (style t k ∷ [])) a d₁ o₁ → name ≡ marker_name t k
-      → Drew a d₁ o₁ (strokes_of_attrs (collected (attributes_of t k name))) z d₂ o₂ → Drew z d₂ o₂ (shuts ∷ []) r d₃ last
-      → Drew at d out (strokes_of (empty 8 (style t k ∷ collected (attributes_of t k (marker_name t k))))) r d₃ last
+module _ (t : Tape) (k : ℕ) (d d₁ d₂ d₃ : Held) {out o₁ o₂ last : Bytes} where
+  pub ms_drawn : {name : Bytes} → Drew d out (opens 8 ∷ strokes_of_attrs (style t k ∷ [])) d₁ o₁ → name ≡ marker_name t k
+      → Drew d₁ o₁ (strokes_of_attrs (collected (attributes_of t k name))) d₂ o₂ → Drew d₂ o₂ (shuts ∷ []) d₃ last
+      → Drew d out (strokes_of (empty 8 (style t k ∷ collected (attributes_of t k (marker_name t k))))) d₃ last
   ms_drawn e₁ en e₂ e₃ = drew_empty d d₂ d₃ _ (drew_more d d₁ d₂ (style t k ∷ []) _ e₁ (rw en at e₂)) e₃
 
-  pub fields_drawn : (f : ℕ) → Drew at d out (opens 9 ∷ key (b "style") ∷ piece true (b "fig") ∷ end_value_of ∷ []) a d₁ o₁
-      → Drew a d₁ o₁ (strokes_of_attrs (collected (legacy_pairs t k f))) z d₂ o₂ → Drew z d₂ o₂ (ends ∷ []) r d₃ last
-      → Drew at d out (strokes_of (start 9 (styled (b "fig") ++ collected (legacy_pairs t k f)))) r d₃ last
+  pub fields_drawn : (f : ℕ) → Drew d out (opens 9 ∷ key (b "style") ∷ piece true (b "fig") ∷ end_value_of ∷ []) d₁ o₁
+      → Drew d₁ o₁ (strokes_of_attrs (collected (legacy_pairs t k f))) d₂ o₂ → Drew d₂ o₂ (ends ∷ []) d₃ last
+      → Drew d out (strokes_of (start 9 (styled (b "fig") ++ collected (legacy_pairs t k f)))) d₃ last
   unfolding strokes_of_attrs strokes_of_attr styled rawly
   fields_drawn f e₁ e₂ e₃ = drew_start d d₂ d₃ (styled (b "fig") ++ collected (legacy_pairs t k f)) (drew_two d d₁ d₂ e₁ e₂) e₃
 
-pub caption_drawn : (t : Tape) (k : ℕ) {at a r : ℕ} (d d₁ last-d : List ℕ) {out mid last s : Bytes} → s ≡ field_at t k 4
-    → Drew at d out (words s ∷ []) a d₁ mid → Drew a d₁ mid (closes 9 ∷ []) r last-d last
-    → Drew at d out (strokes_of_all (text (caption_of t k) ∷ close 9 ∷ [])) r last-d last
+pub caption_drawn : (t : Tape) (k : ℕ) (d d₁ last-d : Held) {out mid last s : Bytes} → s ≡ field_at t k 4
+    → Drew d out (words s ∷ []) d₁ mid → Drew d₁ mid (closes 9 ∷ []) last-d last
+    → Drew d out (strokes_of_all (text (caption_of t k) ∷ close 9 ∷ [])) last-d last
 unfolding caption_of strokes_of_all strokes_of
 caption_drawn t k d d₁ last-d es e f = drew_two d d₁ last-d (rw es at e) f
 
 -- an item and those behind it
-pub items_drawn : {at a r : ℕ} (d d₁ d₂ : List ℕ) {out mid last : Bytes} (i : Item) (is : List Item) → Drew at d out (strokes_of i) a d₁ mid → Drew a d₁ mid (strokes_of_all is) r d₂ last
-    → Drew at d out (strokes_of_all (i ∷ is)) r d₂ last
+pub items_drawn : (d d₁ d₂ : Held) {out mid last : Bytes} (i : Item) (is : List Item) → Drew d out (strokes_of i) d₁ mid → Drew d₁ mid (strokes_of_all is) d₂ last
+    → Drew d out (strokes_of_all (i ∷ is)) d₂ last
 unfolding strokes_of_all
 items_drawn d d₁ d₂ i is e f = drew_two d d₁ d₂ e f
 
 -- ---- figures of old
 
 module _ (t : Tape) (k : ℕ) {s : Step} (es : s ≡ legacy_at t k) where
-  pub old_none : (d : Desk) → s ≡ Done → d ≡ emit_all d (leaf_of t k figure)
+  pub old_none : (d : Desk) → s ≡ None → d ≡ emit_all d (leaf_of t k figure)
   unfolding leaf_of old_figure_of emit_all
   old_none d e = rw (← es, e)
 
-  pub old_written : {a : Cursor} → s ≡ At a → {at r : ℕ} (d last-d : List ℕ) {out last : Bytes}
-      → Drew at d out (strokes_of_all (start 9 (styled (b "fig") ++ collected (legacy_pairs t k a.at)) ∷ text (caption_of t a.at) ∷ close 9 ∷ [])) r last-d last
-      → desk_of t.source r last-d last ≡ emit_all (desk_of t.source at d out) (leaf_of t k figure)
+  pub old_written : {a : Cursor} → s ≡ Some a → (d last-d : Held) {out last : Bytes}
+      → Drew d out (strokes_of_all (start 9 (styled (b "fig") ++ collected (legacy_pairs t k a.at)) ∷ text (caption_of t a.at) ∷ close 9 ∷ [])) last-d last
+      → desk_of t.source last-d last ≡ emit_all (desk_of t.source d out) (leaf_of t k figure)
   unfolding leaf_of old_figure_of asided element
-  old_written {a} h {at} d last-d {out} e =
+  old_written {a} h d last-d {out} e =
       rw (← es, h)
       (drew_all d last-d (start 9 (styled (b "fig") ++ collected (legacy_pairs t k a.at)) ∷ text (caption_of t a.at) ∷ close 9 ∷ []) e t.source
-      ∙ back_on (desk_of t.source at d out) _ ∙ aside_on (desk_of t.source at d out) _)
+      ∙ back_on (desk_of t.source d out) _ ∙ aside_on (desk_of t.source d out) _)
 
 -- ---- by role
 
 module _ (t : Tape) (k : ℕ) {role : Role} where
-  module _ {at r : ℕ} (d last-d : List ℕ) {out last : Bytes} where
-    pub para-leaf : role ≡ Para → Drew at d out (strokes_of (empty 5 (style t k ∷ []))) r last-d last
-        → desk_of t.source r last-d last ≡ emit_all (desk_of t.source at d out) (leaf_of t k (role_in role))
+  module _ (d last-d : Held) {out last : Bytes} where
+    pub para-leaf : role ≡ Para → Drew d out (strokes_of (empty 5 (style t k ∷ []))) last-d last
+        → desk_of t.source last-d last ≡ emit_all (desk_of t.source d out) (leaf_of t k (role_in role))
     unfolding role_in leaf_of
     para-leaf h e = rw h (drew_event d last-d _ e t.source)
 
-    pub ms-leaf : role ≡ Ms → Drew at d out (strokes_of (empty 8 (style t k ∷ collected (attributes_of t k (marker_name t k))))) r last-d last
-        → desk_of t.source r last-d last ≡ emit_all (desk_of t.source at d out) (leaf_of t k (role_in role))
+    pub ms-leaf : role ≡ Ms → Drew d out (strokes_of (empty 8 (style t k ∷ collected (attributes_of t k (marker_name t k))))) last-d last
+        → desk_of t.source last-d last ≡ emit_all (desk_of t.source d out) (leaf_of t k (role_in role))
     unfolding role_in leaf_of
     ms-leaf h e = rw h (drew_event d last-d _ e t.source)
 

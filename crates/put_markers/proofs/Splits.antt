@@ -8,8 +8,8 @@ use Rattle.parts.specs.Bytes.{Bytes, b}
 use Rattle.tape.specs.File.{Tape}
 use Rattle.tape.specs.Tree.{found}
 use Rattle.tape.specs.Name.{marker_name}
-use Rattle.tape.specs.declared.Step.{Step}
-use Rattle.tape.specs.declared.Step.TheVariants.{At, Done}
+use Rattle.tape.specs.Found.{Step}
+use Rattle.std.specs.Prelude.{None, Some}
 use Rattle.render.specs.Note.{note_caller_of, written_category}
 use Rattle.attrs.specs.Attr.{attributes_of}
 use Rattle.figure.specs.Figure.{legacy_at}
@@ -33,9 +33,9 @@ aside_split n qs es = ap (λ (fs : List Event). aside ∷ item (start n qs) ∷ 
 module _ (inside : Manner → ℕ → Bool → List Event) (t : Tape) (k : ℕ) (outer : Bool) where
   figure-split : (s : Step) → figure_as inside t k outer s
       ≡ cond (not (found s)) (aside ∷ item (start 9 (styled (b "fig") ++ collected (attributes_of t k (b "fig")))) ∷ (inside as_inline k outer ++ (item (close 9) ∷ back ∷ []))) (old_figure_of t k s)
-  unfolding figure_as found old_figure_of
-  figure-split (At a) = refl
-  figure-split Done = aside_split 9 (styled (b "fig") ++ collected (attributes_of t k (b "fig"))) (inside as_inline k outer)
+  unfolding figure_as old_figure_of
+  figure-split (Some a) = refl
+  figure-split None = aside_split 9 (styled (b "fig") ++ collected (attributes_of t k (b "fig"))) (inside as_inline k outer)
 
   -- what the definition writes for a marker, in the parts that the code writes
   pub marker-split : (role : Role) → marker_as inside t k outer role

@@ -1,11 +1,10 @@
 -- A marker as opening tags, what stands inside, and closing tags; or as a leaf with nothing inside.
-use Rattle.std.specs.Prelude.{ℕ, List, [], ◌∷◌, ◌++◌}
+use Rattle.std.specs.Prelude.{ℕ, List, [], ◌∷◌, ◌++◌, None, Some}
 use Rattle.std.proofs.Math.Option.{Option, none, some}
 use Rattle.parts.specs.Bytes.{Bytes, b}
 use Rattle.tape.specs.File.{Tape}
 use Rattle.tape.specs.Name.{marker_name}
-use Rattle.tape.specs.declared.Step.{Step}
-use Rattle.tape.specs.declared.Step.TheVariants.{At, Done}
+use Rattle.tape.specs.Found.{Step}
 use Rattle.render.specs.Note.{note_caller_of, written_category, book_code_of, book_rest_of}
 use Rattle.attrs.specs.Attr.{attributes_of}
 use Rattle.attrs.specs.Walk.{first_of}
@@ -53,8 +52,8 @@ marker_closes t k para = item (close el.para) ∷ []
 
 -- a figure of old, by its Attribute
 unfoldable pub old_figure_of : Tape → ℕ → Step → List Event
-old_figure_of t k Done = []
-old_figure_of t k (At a) = asided (element el.figure (styled (b "fig") ++ collected (legacy_pairs t k a.at)) (item (text (caption_of t a.at)) ∷ []))
+old_figure_of t k None = []
+old_figure_of t k (Some a) = asided (element el.figure (styled (b "fig") ++ collected (legacy_pairs t k a.at)) (item (text (caption_of t a.at)) ∷ []))
 
 -- what a marker is written as where nothing stands inside
 unfoldable pub leaf_of : Tape → ℕ → Role → List Event

@@ -1,67 +1,47 @@
 // The tags that close a marker.
 ghost use Rattle.std.specs.Prelude.{◌≡◌};
-ghost use Rattle.tape.specs.File.{tape_in};
-ghost use Rattle.leading_white.specs.Lean.{Solids};
+ghost use Rattle.tape.specs.File.{contents};
 ghost use Rattle.events.specs.Walk.{char};
 ghost use Rattle.events.specs.Emit.{emit_all};
 ghost use Rattle.desk.specs.Desk.{desk_of};
 ghost use Rattle.roles.specs.Roles.{role_in};
 ghost use Rattle.put_markers.specs.Marker.{marker_closes};
 
-use attrs::Sought;
-use desk::{Element, Numbers, close_tag};
+use desk::{Desk, Element};
+use leading_white::Book;
 use roles::{Role, link_of};
-use tape::{Cursor, Sections};
+use tape::Cursor;
 
 // The end of a char, and of the `ref` around what it links.
-pub fn close_char(
-    file: &[u8],
-    tape: Sections,
-    solids: &[u32],
-    c: Cursor,
-    at: usize,
-    desk: &mut Numbers,
-    out: &mut [u8],
-) -> usize
-    requires { Solids (tape_in tape file.now) solids.now }
-    ensures { desk_of (tape_in tape file.now).source result desk.new out.new ≡ emit_all (desk_of (tape_in tape file.now).source at desk.old out.old) (marker_closes (tape_in tape file.now) c.at char) }
+pub fn close_char(book: &Book<'_>, c: Cursor, desk: &mut Desk, out: &mut [u8])
+    ensures { desk_of (contents book.now.tape).source desk.new out.new ≡ emit_all (desk_of (contents book.now.tape).source desk.old out.old) (marker_closes (contents book.now.tape) c.at char) }
 {
-    if !c.is_nested(file, tape) {
-        return desk::close_char(at, desk, out);
+    if !c.is_nested(&book.tape) {
+        return desk.close_char(out);
     }
-    match link_of(file, tape, solids, c) {
-        Sought::Nowhere => desk::close_char(at, desk, out),
-        Sought::At(_) => {
-            let a = close_tag(at, desk, out, Element::Ref);
-            desk::close_char(a, desk, out)
+    match link_of(book, c) {
+        None => desk.close_char(out),
+        Some(_) => {
+            desk.close_tag(out, Element::Ref);
+            desk.close_char(out)
         }
     }
 }
 
 // What closes a marker.
-pub fn close_marker(
-    file: &[u8],
-    tape: Sections,
-    solids: &[u32],
-    c: Cursor,
-    role: Role,
-    at: usize,
-    desk: &mut Numbers,
-    out: &mut [u8],
-) -> usize
-    requires { Solids (tape_in tape file.now) solids.now }
-    ensures { desk_of (tape_in tape file.now).source result desk.new out.new ≡ emit_all (desk_of (tape_in tape file.now).source at desk.old out.old) (marker_closes (tape_in tape file.now) c.at (role_in role)) }
+pub fn close_marker(book: &Book<'_>, c: Cursor, role: Role, desk: &mut Desk, out: &mut [u8])
+    ensures { desk_of (contents book.now.tape).source desk.new out.new ≡ emit_all (desk_of (contents book.now.tape).source desk.old out.old) (marker_closes (contents book.now.tape) c.at (role_in role)) }
 {
     match role {
-        Role::UnknownBlock => desk::close_para(at, desk, out),
-        Role::UnknownInline => desk::close_char(at, desk, out),
-        Role::Unwritten => at,
-        Role::Figure => close_tag(at, desk, out, Element::Figure),
-        Role::Ref => close_tag(at, desk, out, Element::Ref),
-        Role::Id => at,
-        Role::Note => close_tag(at, desk, out, Element::Note),
-        Role::Ms => at,
-        Role::Char => close_char(file, tape, solids, c, at, desk, out),
-        Role::Para => desk::close_para(at, desk, out),
+        Role::UnknownBlock => desk.close_para(out),
+        Role::UnknownInline => desk.close_char(out),
+        Role::Unwritten => {}
+        Role::Figure => desk.close_tag(out, Element::Figure),
+        Role::Ref => desk.close_tag(out, Element::Ref),
+        Role::Id => {}
+        Role::Note => desk.close_tag(out, Element::Note),
+        Role::Ms => {}
+        Role::Char => close_char(book, c, desk, out),
+        Role::Para => desk.close_para(out),
     }
 }

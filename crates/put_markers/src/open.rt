@@ -2,9 +2,8 @@
 ghost use Rattle.std.specs.Prelude.{◌≡◌, true, [], ◌∷◌, ◌++◌};
 ghost use Rattle.std.proofs.Math.Option.{none};
 ghost use Rattle.parts.specs.Bytes.{Bytes, b};
-ghost use Rattle.tape.specs.File.{tape_in, node_at, is_synthetic};
+ghost use Rattle.tape.specs.File.{contents, node_at, is_synthetic};
 ghost use Rattle.tape.specs.Name.{marker_name};
-ghost use Rattle.leading_white.specs.Lean.{Solids};
 ghost use Rattle.render.specs.Note.{note_caller_of, written_category};
 ghost use Rattle.attrs.specs.Attr.{attributes_of};
 ghost use Rattle.attrs.specs.Walk.{sought_of};
@@ -18,258 +17,167 @@ ghost use Rattle.desk.specs.Stroke.{opens, strokes_of_attrs, strokes_of, Drew};
 ghost use Rattle.roles.specs.Roles.{role_in};
 ghost use Rattle.put_markers.specs.Marker.{marker_opens, link_opens};
 
-use attrs::Sought;
-use desk::{Element, Numbers, attr, end_tag, open_styled, open_tag};
+use attrs::Value;
+use desk::{Desk, Element};
+use leading_white::Book;
 use put_attrs::{put_category, put_collected, put_sought};
 use roles::{Role, link_of};
-use tape::{Cursor, Kind, Sections, Step, is_at};
+use tape::{Cursor, Kind, TapeFile};
 
 // The front of a tag whose style is the marker's name.
-pub fn open_named(
-    at: usize,
-    desk: &mut Numbers,
-    out: &mut [u8],
-    file: &[u8],
-    tape: Sections,
-    c: Cursor,
-    e: Element,
-) -> usize
-    ensures { Drew at desk.old out.old (opens (number_of e) ∷ strokes_of_attrs (style (tape_in tape file.now) c.at ∷ [])) result desk.new out.new }
+pub fn open_named(desk: &mut Desk, out: &mut [u8], tape: &TapeFile<'_>, c: Cursor, e: Element)
+    ensures { Drew desk.old out.old (opens (number_of e) ∷ strokes_of_attrs (style (contents tape.now) c.at ∷ [])) desk.new out.new }
 {
-    open_styled(at, desk, out, e, c.marker_name(file, tape))
+    desk.open_styled(out, e, c.marker_name(tape))
 }
 
 // A paragraph's tag.
-fn put_para(
-    at: usize,
-    desk: &mut Numbers,
-    out: &mut [u8],
-    file: &[u8],
-    tape: Sections,
-    c: Cursor,
-) -> usize
-    ensures { Drew at desk.old out.old (strokes_of (start 5 (style (tape_in tape file.now) c.at ∷ []))) result desk.new out.new }
+fn put_para(desk: &mut Desk, out: &mut [u8], tape: &TapeFile<'_>, c: Cursor)
+    ensures { Drew desk.old out.old (strokes_of (start 5 (style (contents tape.now) c.at ∷ []))) desk.new out.new }
 {
-    let a = desk::open_para(at, desk, out, c.marker_name(file, tape));
-    end_tag(a, desk, out)
+    desk.open_para(out, c.marker_name(tape));
+    desk.end_tag(out)
 }
 
 // The tag of a marker without an entry.
-fn put_unknown(
-    at: usize,
-    desk: &mut Numbers,
-    out: &mut [u8],
-    file: &[u8],
-    tape: Sections,
-    c: Cursor,
-    e: Element,
-) -> usize
-    ensures { Drew at desk.old out.old (strokes_of (start (number_of e) (style (tape_in tape file.now) c.at ∷ escaped (b "status") (b "unknown") ∷ []))) result desk.new out.new }
+fn put_unknown(desk: &mut Desk, out: &mut [u8], tape: &TapeFile<'_>, c: Cursor, e: Element)
+    ensures { Drew desk.old out.old (strokes_of (start (number_of e) (style (contents tape.now) c.at ∷ escaped (b "status") (b "unknown") ∷ []))) desk.new out.new }
 {
-    let a = open_named(at, desk, out, file, tape, c, e);
-    let d = attr(a, desk, out, b"status", b"unknown", false);
-    end_tag(d, desk, out)
+    open_named(desk, out, tape, c, e);
+    desk.attr(out, b"status", b"unknown", false);
+    desk.end_tag(out)
 }
 
 // Whether the matching close of a marker is synthetic; a leaf's is itself.
-fn ends_synthetic(file: &[u8], tape: Sections, c: Cursor) -> bool
-    ensures { result ≡ is_synthetic (tape_in tape file.now) (node_at (tape_in tape file.now) c.at).link }
+fn ends_synthetic(tape: &TapeFile<'_>, c: Cursor) -> bool
+    ensures { result ≡ is_synthetic (contents tape.now) (node_at (contents tape.now) c.at).link }
 {
-    Cursor::new(c.link(file, tape)).is_synthetic(file, tape)
+    Cursor::new(c.link(tape)).is_synthetic(tape)
 }
 
 // Whether a look tells that a marker is closed in the source and links nothing.
-pub fn is_flat(file: &[u8], tape: Sections, c: Cursor) -> bool
-    ensures at_value { result ≡ true → unclosed (tape_in tape file.now) c.at ≡ [] }
-    ensures at_value_2 { result ≡ true → link_of (tape_in tape file.now) c.at ≡ none }
+pub fn is_flat(tape: &TapeFile<'_>, c: Cursor) -> bool
+    ensures at_value { result ≡ true → unclosed (contents tape.now) c.at ≡ [] }
+    ensures at_value_2 { result ≡ true → link_of (contents tape.now) c.at ≡ none }
 {
-    if c.is_nested(file, tape) {
+    if c.is_nested(tape) {
         return false;
     }
-    !ends_synthetic(file, tape, c)
+    !ends_synthetic(tape, c)
 }
 
 // `closed="false"` where a marker is not closed in the source.
-pub fn put_unclosed(
-    at: usize,
-    desk: &mut Numbers,
-    out: &mut [u8],
-    file: &[u8],
-    tape: Sections,
-    c: Cursor,
-) -> usize
-    ensures { Drew at desk.old out.old (strokes_of_attrs (unclosed (tape_in tape file.now) c.at)) result desk.new out.new }
+pub fn put_unclosed(desk: &mut Desk, out: &mut [u8], tape: &TapeFile<'_>, c: Cursor)
+    ensures { Drew desk.old out.old (strokes_of_attrs (unclosed (contents tape.now) c.at)) desk.new out.new }
 {
-    if ends_synthetic(file, tape, c) {
-        attr(at, desk, out, b"closed", b"false", false)
-    } else {
-        at
+    if ends_synthetic(tape, c) {
+        desk.attr(out, b"closed", b"false", false)
     }
 }
 
 // Whether a marker holds nothing, or one text alone: it has no attribute.
-fn is_bare(file: &[u8], tape: Sections, c: Cursor) -> bool
-    ensures { result ≡ true → (marker : Bytes) → attributes_of (tape_in tape file.now) c.at marker ≡ [] }
+fn is_bare(tape: &TapeFile<'_>, c: Cursor) -> bool
+    ensures { result ≡ true → (marker : Bytes) → attributes_of (contents tape.now) c.at marker ≡ [] }
 {
-    match c.first_child(file, tape) {
-        Step::At(k) => {
-            if k.kind(file, tape).code == Kind::TEXT {
-                return !is_at(k.next_sibling(file, tape));
+    match c.first_child(tape) {
+        Some(k) => {
+            if k.kind(tape).code == Kind::TEXT {
+                return k.next_sibling(tape).is_none();
             }
             false
         }
-        Step::Done => true,
+        None => true,
     }
 }
 
 // A char's tag: style, closed, its attributes.
-fn put_char(
-    at: usize,
-    desk: &mut Numbers,
-    out: &mut [u8],
-    file: &[u8],
-    tape: Sections,
-    c: Cursor,
-) -> usize
-    ensures { Drew at desk.old out.old (strokes_of (start 6 (style (tape_in tape file.now) c.at ∷ (unclosed (tape_in tape file.now) c.at ++ collected (attributes_of (tape_in tape file.now) c.at (marker_name (tape_in tape file.now) c.at)))))) result desk.new out.new }
+fn put_char(desk: &mut Desk, out: &mut [u8], tape: &TapeFile<'_>, c: Cursor)
+    ensures { Drew desk.old out.old (strokes_of (start 6 (style (contents tape.now) c.at ∷ (unclosed (contents tape.now) c.at ++ collected (attributes_of (contents tape.now) c.at (marker_name (contents tape.now) c.at)))))) desk.new out.new }
 {
-    let name = c.marker_name(file, tape);
-    let a = desk::open_char(at, desk, out, name);
-    let d = if ends_synthetic(file, tape, c) {
-        put_unclosed(a, desk, out, file, tape, c)
-    } else {
-        a
-    };
-    let e = if is_bare(file, tape, c) {
-        d
-    } else {
-        put_collected(d, desk, out, file, tape, c, name)
-    };
-    end_tag(e, desk, out)
+    let name = c.marker_name(tape);
+    desk.open_char(out, name);
+    put_unclosed(desk, out, tape, c);
+    if !is_bare(tape, c) {
+        put_collected(desk, out, tape, c, name);
+    }
+    desk.end_tag(out)
 }
 
 // A ref's tag with what it links.
-fn put_ref(
-    at: usize,
-    desk: &mut Numbers,
-    out: &mut [u8],
-    file: &[u8],
-    tape: Sections,
-    loc: Sought,
-) -> usize
-    ensures { Drew at desk.old out.old (strokes_of (start 16 (perhaps (b "loc") (sought_of (tape_in tape file.now).source loc)))) result desk.new out.new }
+fn put_ref(desk: &mut Desk, out: &mut [u8], tape: &TapeFile<'_>, loc: Option<Value>)
+    ensures { Drew desk.old out.old (strokes_of (start 16 (perhaps (b "loc") (sought_of (contents tape.now).source loc)))) desk.new out.new }
 {
-    let a = open_tag(at, desk, out, Element::Ref);
-    let d = put_sought(a, desk, out, file, tape, b"loc", loc);
-    end_tag(d, desk, out)
+    desk.open_tag(out, Element::Ref);
+    put_sought(desk, out, tape, b"loc", loc);
+    desk.end_tag(out)
 }
 
 // The `ref` around what a marker links.
-fn open_link(
-    file: &[u8],
-    tape: Sections,
-    link: Sought,
-    at: usize,
-    desk: &mut Numbers,
-    out: &mut [u8],
-) -> usize
-    ensures { desk_of (tape_in tape file.now).source result desk.new out.new ≡ emit_all (desk_of (tape_in tape file.now).source at desk.old out.old) (link_opens (sought_of (tape_in tape file.now).source link)) }
+fn open_link(tape: &TapeFile<'_>, link: Option<Value>, desk: &mut Desk, out: &mut [u8])
+    ensures { desk_of (contents tape.now).source desk.new out.new ≡ emit_all (desk_of (contents tape.now).source desk.old out.old) (link_opens (sought_of (contents tape.now).source link)) }
 {
     match link {
-        Sought::Nowhere => at,
-        Sought::At(_) => put_ref(at, desk, out, file, tape, link),
+        None => {}
+        Some(_) => put_ref(desk, out, tape, link),
     }
 }
 
 // A char, and the `ref` around what it links.
-pub fn open_char(
-    file: &[u8],
-    tape: Sections,
-    solids: &[u32],
-    c: Cursor,
-    at: usize,
-    desk: &mut Numbers,
-    out: &mut [u8],
-) -> usize
-    requires { Solids (tape_in tape file.now) solids.now }
-    ensures { desk_of (tape_in tape file.now).source result desk.new out.new ≡ emit_all (desk_of (tape_in tape file.now).source at desk.old out.old) (marker_opens (tape_in tape file.now) c.at char) }
+pub fn open_char(book: &Book<'_>, c: Cursor, desk: &mut Desk, out: &mut [u8])
+    ensures { desk_of (contents book.now.tape).source desk.new out.new ≡ emit_all (desk_of (contents book.now.tape).source desk.old out.old) (marker_opens (contents book.now.tape) c.at char) }
 {
-    let s = put_char(at, desk, out, file, tape, c);
-    if c.is_nested(file, tape) {
-        return open_link(file, tape, link_of(file, tape, solids, c), s, desk, out);
+    put_char(desk, out, &book.tape, c);
+    if c.is_nested(&book.tape) {
+        open_link(&book.tape, link_of(book, c), desk, out)
     }
-    s
 }
 
 // A figure's tag with its attributes.
-fn put_figure(
-    at: usize,
-    desk: &mut Numbers,
-    out: &mut [u8],
-    file: &[u8],
-    tape: Sections,
-    c: Cursor,
-) -> usize
-    ensures { Drew at desk.old out.old (strokes_of (start 9 (styled (b "fig") ++ collected (attributes_of (tape_in tape file.now) c.at (b "fig"))))) result desk.new out.new }
+fn put_figure(desk: &mut Desk, out: &mut [u8], tape: &TapeFile<'_>, c: Cursor)
+    ensures { Drew desk.old out.old (strokes_of (start 9 (styled (b "fig") ++ collected (attributes_of (contents tape.now) c.at (b "fig"))))) desk.new out.new }
 {
-    let a = open_styled(at, desk, out, Element::Figure, b"fig");
-    let d = put_collected(a, desk, out, file, tape, c, b"fig");
-    end_tag(d, desk, out)
+    desk.open_styled(out, Element::Figure, b"fig");
+    put_collected(desk, out, tape, c, b"fig");
+    desk.end_tag(out)
 }
 
 // A note's tag up to its style.
-fn put_note_head(at: usize, desk: &mut Numbers, out: &mut [u8], caller: &[u8], name: &[u8]) -> usize
-    ensures { Drew at desk.old out.old (opens 7 ∷ strokes_of_attrs (escaped (b "caller") caller.now ∷ rawly (b "style") name.now ∷ [])) result desk.new out.new }
+fn put_note_head(desk: &mut Desk, out: &mut [u8], caller: &[u8], name: &[u8])
+    ensures { Drew desk.old out.old (opens 7 ∷ strokes_of_attrs (escaped (b "caller") caller.now ∷ rawly (b "style") name.now ∷ [])) desk.new out.new }
 {
-    let a = open_tag(at, desk, out, Element::Note);
-    let d = attr(a, desk, out, b"caller", caller, false);
-    attr(d, desk, out, b"style", name, true)
+    desk.open_tag(out, Element::Note);
+    desk.attr(out, b"caller", caller, false);
+    desk.attr(out, b"style", name, true)
 }
 
 // A note's tag: caller, style, category.
-fn put_note(
-    at: usize,
-    desk: &mut Numbers,
-    out: &mut [u8],
-    file: &[u8],
-    tape: Sections,
-    c: Cursor,
-) -> usize
-    ensures { Drew at desk.old out.old (strokes_of (start 7 (escaped (b "caller") (note_caller_of (tape_in tape file.now) c.at) ∷ style (tape_in tape file.now) c.at ∷ perhaps (b "category") (written_category (tape_in tape file.now) c.at)))) result desk.new out.new }
+fn put_note<'a>(desk: &mut Desk, out: &mut [u8], tape: &TapeFile<'a>, c: Cursor)
+    ensures { Drew desk.old out.old (strokes_of (start 7 (escaped (b "caller") (note_caller_of (contents tape.now) c.at) ∷ style (contents tape.now) c.at ∷ perhaps (b "category") (written_category (contents tape.now) c.at)))) desk.new out.new }
 {
-    let caller = render::note_caller(file, b"+", tape, c);
-    let a = put_note_head(at, desk, out, caller, c.marker_name(file, tape));
-    let d = put_category(a, desk, out, file, tape, c);
-    end_tag(d, desk, out)
+    let plus: &'a [u8] = b"+";
+    let caller = render::note_caller(plus, tape, c);
+    put_note_head(desk, out, caller, c.marker_name(tape));
+    put_category(desk, out, tape, c);
+    desk.end_tag(out)
 }
 
 // What opens a marker.
-pub fn open_marker(
-    file: &[u8],
-    tape: Sections,
-    solids: &[u32],
-    c: Cursor,
-    role: Role,
-    at: usize,
-    desk: &mut Numbers,
-    out: &mut [u8],
-) -> usize
-    requires { Solids (tape_in tape file.now) solids.now }
-    ensures { desk_of (tape_in tape file.now).source result desk.new out.new ≡ emit_all (desk_of (tape_in tape file.now).source at desk.old out.old) (marker_opens (tape_in tape file.now) c.at (role_in role)) }
+pub fn open_marker(book: &Book<'_>, c: Cursor, role: Role, desk: &mut Desk, out: &mut [u8])
+    ensures { desk_of (contents book.now.tape).source desk.new out.new ≡ emit_all (desk_of (contents book.now.tape).source desk.old out.old) (marker_opens (contents book.now.tape) c.at (role_in role)) }
 {
     match role {
-        Role::UnknownBlock => put_unknown(at, desk, out, file, tape, c, Element::Para),
-        Role::UnknownInline => put_unknown(at, desk, out, file, tape, c, Element::Char),
-        Role::Unwritten => at,
-        Role::Figure => put_figure(at, desk, out, file, tape, c),
+        Role::UnknownBlock => put_unknown(desk, out, &book.tape, c, Element::Para),
+        Role::UnknownInline => put_unknown(desk, out, &book.tape, c, Element::Char),
+        Role::Unwritten => {}
+        Role::Figure => put_figure(desk, out, &book.tape, c),
         Role::Ref => {
-            let loc = attrs::first_with(file, tape, c, b"ref", b"loc");
-            put_ref(at, desk, out, file, tape, loc)
+            let loc = attrs::first_with(&book.tape, c, b"ref", b"loc");
+            put_ref(desk, out, &book.tape, loc)
         }
-        Role::Id => at,
-        Role::Note => put_note(at, desk, out, file, tape, c),
-        Role::Ms => at,
-        Role::Char => open_char(file, tape, solids, c, at, desk, out),
-        Role::Para => put_para(at, desk, out, file, tape, c),
+        Role::Id => {}
+        Role::Note => put_note(desk, out, &book.tape, c),
+        Role::Ms => {}
+        Role::Char => open_char(book, c, desk, out),
+        Role::Para => put_para(desk, out, &book.tape, c),
     }
 }

@@ -27,65 +27,66 @@ use Rattle.desk.specs.Desk.{desk_of}
 use Rattle.desk.specs.Stroke.{opens, shuts, words, strokes_of_attrs, strokes_of, Drew}
 use Rattle.desk.proofs.Strokes.{drew_two, drew_item}
 use Rattle.put_texts.specs.Broken.{segment, breaks_from}
+use Rattle.desk.specs.declared.Desk.{Desk as Held}
 
 -- ---- whole
 
-module _ (s : Bytes) (n : Normalized) (at : ℕ) (d : List ℕ) (out : Bytes) where
-  pub unbroken_shows : n.shows ≡ true → {r : ℕ} (last-d : List ℕ) {last : Bytes} → Drew at d out (words (written s n) ∷ []) r last-d last
-      → (source : Bytes) → desk_of source r last-d last ≡ emit_all (desk_of source at d out) (unbroken s n)
+module _ (s : Bytes) (n : Normalized) (d : Held) (out : Bytes) where
+  pub unbroken_shows : n.shows ≡ true → (last-d : Held) {last : Bytes} → Drew d out (words (written s n) ∷ []) last-d last
+      → (source : Bytes) → desk_of source last-d last ≡ emit_all (desk_of source d out) (unbroken s n)
   unfolding unbroken emit_all strokes_of written
   unbroken_shows h last-d e source = rw h (drew_item d last-d (text (written s n)) e source)
 
-  pub unbroken_hidden : n.shows ≡ false → (source : Bytes) → desk_of source at d out ≡ emit_all (desk_of source at d out) (unbroken s n)
+  pub unbroken_hidden : n.shows ≡ false → (source : Bytes) → desk_of source d out ≡ emit_all (desk_of source d out) (unbroken s n)
   unfolding unbroken emit_all
   unbroken_hidden h source = rw h
 
   -- a body that is written as it stands
   module _ {body : Bytes} (eb : body ≡ inner_of s) where
-    pub easy_shows : n.shows ≡ true → easy body ≡ true → {r : ℕ} (last-d : List ℕ) {last : Bytes}
-        → ((t : Bytes) → escape false t ≡ edged (take (length body) body) n → Drew at d out (words t ∷ []) r last-d last)
-        → (source : Bytes) → desk_of source r last-d last ≡ emit_all (desk_of source at d out) (unbroken s n)
+    pub easy_shows : n.shows ≡ true → easy body ≡ true → (last-d : Held) {last : Bytes}
+        → ((t : Bytes) → escape false t ≡ edged (take (length body) body) n → Drew d out (words t ∷ []) last-d last)
+        → (source : Bytes) → desk_of source last-d last ≡ emit_all (desk_of source d out) (unbroken s n)
     easy_shows h e last-d f source = unbroken_shows h last-d (f (written s n) (easy-written s (rw eb at e) n ∙ rw (← eb, take-length body))) source
 
-    module _ {t : Bool} (et : t ≡ easy body) (h : t ≡ true) (r : ℕ) (last-d : List ℕ) (last : Bytes)
-        (f : (s : Bytes) → body ≡ inner_of s → easy body ≡ true → (source : Bytes) → desk_of source r last-d last ≡ emit_all (desk_of source at d out) (unbroken s n)) where
-      pub unbroken-easy : (source : Bytes) → desk_of source r last-d last ≡ emit_all (desk_of source at d out) (unbroken s n)
+    module _ {t : Bool} (et : t ≡ easy body) (h : t ≡ true) (last-d : Held) (last : Bytes)
+        (f : (s : Bytes) → body ≡ inner_of s → easy body ≡ true → (source : Bytes) → desk_of source last-d last ≡ emit_all (desk_of source d out) (unbroken s n)) where
+      pub unbroken-easy : (source : Bytes) → desk_of source last-d last ≡ emit_all (desk_of source d out) (unbroken s n)
       unbroken-easy source = f s eb (sym et ∙ h) source
 
-      pub broken-easy : (source : Bytes) → desk_of source r last-d last ≡ emit_all (desk_of source at d out) (broken s n)
+      pub broken-easy : (source : Bytes) → desk_of source last-d last ≡ emit_all (desk_of source d out) (broken s n)
       unfolding broken
       broken-easy source = rw (easy_whole s (rw eb at (sym et ∙ h))) (unbroken-easy source)
 
-  module _ {x : Bool} (ex : x ≡ has_break (body_of s)) (r : ℕ) (last-d : List ℕ) (last : Bytes) where
-    pub broken-split : x ≡ true → ((source : Bytes) → desk_of source r last-d last ≡ emit_all (desk_of source at d out) (segmented (segments s)))
-        → (source : Bytes) → desk_of source r last-d last ≡ emit_all (desk_of source at d out) (broken s n)
+  module _ {x : Bool} (ex : x ≡ has_break (body_of s)) (last-d : Held) (last : Bytes) where
+    pub broken-split : x ≡ true → ((source : Bytes) → desk_of source last-d last ≡ emit_all (desk_of source d out) (segmented (segments s)))
+        → (source : Bytes) → desk_of source last-d last ≡ emit_all (desk_of source d out) (broken s n)
     unfolding broken
     broken-split h e source = rw (sym ex ∙ h) (e source)
 
-    pub broken_whole : x ≡ false → ((source : Bytes) → desk_of source r last-d last ≡ emit_all (desk_of source at d out) (unbroken s n))
-        → (source : Bytes) → desk_of source r last-d last ≡ emit_all (desk_of source at d out) (broken s n)
+    pub broken_whole : x ≡ false → ((source : Bytes) → desk_of source last-d last ≡ emit_all (desk_of source d out) (unbroken s n))
+        → (source : Bytes) → desk_of source last-d last ≡ emit_all (desk_of source d out) (broken s n)
     unfolding broken
     broken_whole h e source = rw (sym ex ∙ h) (e source)
 
 -- by its frame
-module _ (tail : Bytes) (front len : ℕ) (n : Normalized) (at : ℕ) (d : List ℕ) (out : Bytes) where
+module _ (tail : Bytes) (front len : ℕ) (n : Normalized) (d : Held) (out : Bytes) where
   framed_whole : (size : ℕ) (ends : Bool) → Framed tail size (record { front = front; len = len; ends = ends }) → broken (take size tail) n ≡ unbroken (take size tail) n
   unfolding broken
   framed_whole size ends fr = rw fr.whole
 
-  pub framed_shows : n.shows ≡ true → {r : ℕ} (last-d : List ℕ) {last body : Bytes} → body ≡ drop front tail
-      → ((t : Bytes) → escape false t ≡ edged (take len body) n → Drew at d out (words t ∷ []) r last-d last)
-      → (size : ℕ) (ends : Bool) → Framed tail size (record { front = front; len = len; ends = ends }) → (source : Bytes) → desk_of source r last-d last ≡ emit_all (desk_of source at d out) (broken (take size tail) n)
+  pub framed_shows : n.shows ≡ true → (last-d : Held) {last body : Bytes} → body ≡ drop front tail
+      → ((t : Bytes) → escape false t ≡ edged (take len body) n → Drew d out (words t ∷ []) last-d last)
+      → (size : ℕ) (ends : Bool) → Framed tail size (record { front = front; len = len; ends = ends }) → (source : Bytes) → desk_of source last-d last ≡ emit_all (desk_of source d out) (broken (take size tail) n)
   framed_shows h last-d eb e size ends fr source =
-      unbroken_shows (take size tail) n at d out h last-d (e (written (take size tail) n) (fr.stands n ∙ rw eb)) source ∙ ap (emit_all (desk_of source at d out)) (sym (framed_whole size ends fr))
+      unbroken_shows (take size tail) n d out h last-d (e (written (take size tail) n) (fr.stands n ∙ rw eb)) source ∙ ap (emit_all (desk_of source d out)) (sym (framed_whole size ends fr))
 
-  pub framed_hidden : n.shows ≡ false → (size : ℕ) (ends : Bool) → Framed tail size (record { front = front; len = len; ends = ends }) → (source : Bytes) → desk_of source at d out ≡ emit_all (desk_of source at d out) (broken (take size tail) n)
-  framed_hidden h size ends fr source = unbroken_hidden (take size tail) n at d out h source ∙ ap (emit_all (desk_of source at d out)) (sym (framed_whole size ends fr))
+  pub framed_hidden : n.shows ≡ false → (size : ℕ) (ends : Bool) → Framed tail size (record { front = front; len = len; ends = ends }) → (source : Bytes) → desk_of source d out ≡ emit_all (desk_of source d out) (broken (take size tail) n)
+  framed_hidden h size ends fr source = unbroken_hidden (take size tail) n d out h source ∙ ap (emit_all (desk_of source d out)) (sym (framed_whole size ends fr))
 
 -- ---- segment by segment
 
-pub segment_put : (s : Bytes) {at r : ℕ} (d last-d : List ℕ) {out last : Bytes} → Drew at d out (words (trim Unicode (body_of s)) ∷ []) r last-d last
-    → (source : Bytes) → desk_of source r last-d last ≡ emit (desk_of source at d out) (item (text (segment s)))
+pub segment_put : (s : Bytes) (d last-d : Held) {out last : Bytes} → Drew d out (words (trim Unicode (body_of s)) ∷ []) last-d last
+    → (source : Bytes) → desk_of source last-d last ≡ emit (desk_of source d out) (item (text (segment s)))
 unfolding segment strokes_of
 segment_put s d last-d e = drew_item d last-d (text (trim Unicode (body_of s))) e
 
@@ -93,8 +94,8 @@ bodies : (s : Bytes) → segments s ≡ map segment (split_breaks s)
 unfolding segment
 bodies s = segments_bodies s
 
-pub break_put : {at a r : ℕ} (d d₁ d₂ : List ℕ) {out o₁ last : Bytes} → Drew at d out (opens 15 ∷ []) a d₁ o₁ → Drew a d₁ o₁ (shuts ∷ []) r d₂ last
-    → (source : Bytes) → desk_of source r d₂ last ≡ emit (desk_of source at d out) (item (empty 15 []))
+pub break_put : (d d₁ d₂ : Held) {out o₁ last : Bytes} → Drew d out (opens 15 ∷ []) d₁ o₁ → Drew d₁ o₁ (shuts ∷ []) d₂ last
+    → (source : Bytes) → desk_of source d₂ last ≡ emit (desk_of source d out) (item (empty 15 []))
 unfolding strokes_of strokes_of_attrs
 break_put d d₁ d₂ e₁ e₂ = drew_item d d₂ (empty 15 []) (drew_two d d₁ d₂ e₁ e₂)
 

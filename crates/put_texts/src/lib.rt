@@ -12,28 +12,24 @@ ghost use Rattle.events.specs.Emit.{emit, emit_all};
 ghost use Rattle.desk.specs.Desk.{desk_of};
 ghost use Rattle.put_texts.specs.Broken.{segment, breaks_from};
 
-use desk::{Element, Numbers, open_tag, shut_tag, text_body, text_segment, text_words};
+use desk::{Desk, Element};
 use texts::Normalized;
 
 // A text where it shows, whose body is written as it stands.
-fn put_easy(body: &[u8], n: Normalized, at: usize, desk: &mut Numbers, out: &mut [u8]) -> usize
-    ensures { (s : Bytes) → body.now ≡ inner_of s → easy body.now ≡ true → (source : Bytes) → desk_of source result desk.new out.new ≡ emit_all (desk_of source at desk.old out.old) (unbroken s n) }
+fn put_easy(body: &[u8], n: Normalized, desk: &mut Desk, out: &mut [u8])
+    ensures { (s : Bytes) → body.now ≡ inner_of s → easy body.now ≡ true → (source : Bytes) → desk_of source desk.new out.new ≡ emit_all (desk_of source desk.old out.old) (unbroken s n) }
 {
     if n.shows {
-        text_body(at, desk, out, body, body.len(), n)
-    } else {
-        at
+        desk.text_body(out, body, body.len(), n)
     }
 }
 
 // A text where it shows, word by word.
-fn put_worded(s: &[u8], n: Normalized, at: usize, desk: &mut Numbers, out: &mut [u8]) -> usize
-    ensures { (source : Bytes) → desk_of source result desk.new out.new ≡ emit_all (desk_of source at desk.old out.old) (unbroken s.now n) }
+fn put_worded(s: &[u8], n: Normalized, desk: &mut Desk, out: &mut [u8])
+    ensures { (source : Bytes) → desk_of source desk.new out.new ≡ emit_all (desk_of source desk.old out.old) (unbroken s.now n) }
 {
     if n.shows {
-        text_words(at, desk, out, s, n)
-    } else {
-        at
+        desk.text_words(out, s, n)
     }
 }
 
@@ -43,103 +39,88 @@ pub fn put_framed(
     front: usize,
     len: usize,
     n: Normalized,
-    at: usize,
-    desk: &mut Numbers,
+    desk: &mut Desk,
     out: &mut [u8],
-) -> usize
-    ensures { (size : ℕ) (ends : Bool) → Framed tail.now size (record { front = front; len = len; ends = ends }) → (source : Bytes) → desk_of source result desk.new out.new ≡ emit_all (desk_of source at desk.old out.old) (broken (take size tail.now) n) }
+)
+    ensures { (size : ℕ) (ends : Bool) → Framed tail.now size (record { front = front; len = len; ends = ends }) → (source : Bytes) → desk_of source desk.new out.new ≡ emit_all (desk_of source desk.old out.old) (broken (take size tail.now) n) }
 {
     if n.shows {
-        text_body(at, desk, out, parts::from(tail, front), len, n)
-    } else {
-        at
+        desk.text_body(out, parts::from(tail, front), len, n)
     }
 }
 
 // A text where it shows.
-pub fn put_unbroken(s: &[u8], n: Normalized, at: usize, desk: &mut Numbers, out: &mut [u8]) -> usize
-    ensures { (source : Bytes) → desk_of source result desk.new out.new ≡ emit_all (desk_of source at desk.old out.old) (unbroken s.now n) }
+pub fn put_unbroken(s: &[u8], n: Normalized, desk: &mut Desk, out: &mut [u8])
+    ensures { (source : Bytes) → desk_of source desk.new out.new ≡ emit_all (desk_of source desk.old out.old) (unbroken s.now n) }
 {
     let body = put_body::inner(s);
     if put_body::is_easy(body) {
-        put_easy(body, n, at, desk, out)
+        put_easy(body, n, desk, out)
     } else {
-        put_worded(s, n, at, desk, out)
+        put_worded(s, n, desk, out)
     }
 }
 
 // One segment of a text.
-fn put_segment(s: &[u8], at: usize, desk: &mut Numbers, out: &mut [u8]) -> usize
-    ensures { (source : Bytes) → desk_of source result desk.new out.new ≡ emit (desk_of source at desk.old out.old) (item (text (segment s.now))) }
+fn put_segment(s: &[u8], desk: &mut Desk, out: &mut [u8])
+    ensures { (source : Bytes) → desk_of source desk.new out.new ≡ emit (desk_of source desk.old out.old) (item (text (segment s.now))) }
 {
-    text_segment(at, desk, out, s)
+    desk.text_segment(out, s)
 }
 
 // A break between two segments.
-fn put_break(at: usize, desk: &mut Numbers, out: &mut [u8]) -> usize
-    ensures { (source : Bytes) → desk_of source result desk.new out.new ≡ emit (desk_of source at desk.old out.old) (item (empty 15 [])) }
+fn put_break(desk: &mut Desk, out: &mut [u8])
+    ensures { (source : Bytes) → desk_of source desk.new out.new ≡ emit (desk_of source desk.old out.old) (item (empty 15 [])) }
 {
-    let a = open_tag(at, desk, out, Element::Optbreak);
-    shut_tag(a, desk, out)
+    desk.open_tag(out, Element::Optbreak);
+    desk.shut_tag(out)
 }
 
-// Where the walk along segments stands: how much is written, and the place of the next `//`.
-#[derive(Clone, Copy)]
-struct Passed {
-    at: usize,
-    place: usize,
-}
-
-// The `//` at a place, and the segment behind it.
-fn next_segment(s: &[u8], place: usize, at: usize, desk: &mut Numbers, out: &mut [u8]) -> Passed
+// The `//` at a place, and the segment behind it; the place of the next `//`.
+fn next_segment(s: &[u8], place: usize, desk: &mut Desk, out: &mut [u8]) -> usize
     requires { place < length s.now }
-    ensures place_after { (source : Bytes) → emit_all (desk_of source result.at desk.new out.new) (breaks_from s.now result.place) ≡ emit_all (desk_of source at desk.old out.old) (breaks_from s.now place) }
-    ensures place_lt_place { place < result.place }
+    ensures place_after { (source : Bytes) → emit_all (desk_of source desk.new out.new) (breaks_from s.now result) ≡ emit_all (desk_of source desk.old out.old) (breaks_from s.now place) }
+    ensures place_lt_place { place < result }
 {
     let start = place + 2;
     let rest = parts::from(s, start);
     let n = parts::find_pair(rest, b'/');
-    let next = start + n;
-    let w = put_break(at, desk, out);
-    Passed {
-        at: put_segment(parts::part(rest, 0, n), w, desk, out),
-        place: next,
-    }
+    put_break(desk, out);
+    put_segment(parts::part(rest, 0, n), desk, out);
+    start + n
 }
 
 // The segments of a text, a break between two.
-fn put_segments(s: &[u8], at: usize, desk: &mut Numbers, out: &mut [u8]) -> usize
-    ensures { (source : Bytes) → desk_of source result desk.new out.new ≡ emit_all (desk_of source at desk.old out.old) (segmented (segments s.now)) }
+fn put_segments(s: &[u8], desk: &mut Desk, out: &mut [u8])
+    ensures { (source : Bytes) → desk_of source desk.new out.new ≡ emit_all (desk_of source desk.old out.old) (segmented (segments s.now)) }
 {
     let mut place = parts::find_pair(s, b'/');
-    let mut v = put_segment(parts::part(s, 0, place), at, desk, out);
+    put_segment(parts::part(s, 0, place), desk, out);
+    // A `while`: each turn passes a segment.
     while place < s.len() {
-        let p = next_segment(s, place, v, desk, out);
-        v = p.at;
-        place = p.place;
+        place = next_segment(s, place, desk, out);
     }
-    v
 }
 
 // A text that is not easy, broken at each `//`, or whole.
-fn put_hard(s: &[u8], n: Normalized, at: usize, desk: &mut Numbers, out: &mut [u8]) -> usize
-    ensures { (source : Bytes) → desk_of source result desk.new out.new ≡ emit_all (desk_of source at desk.old out.old) (broken s.now n) }
+fn put_hard(s: &[u8], n: Normalized, desk: &mut Desk, out: &mut [u8])
+    ensures { (source : Bytes) → desk_of source desk.new out.new ≡ emit_all (desk_of source desk.old out.old) (broken s.now n) }
 {
     if texts::has_break(s) {
-        put_segments(s, at, desk, out)
+        put_segments(s, desk, out)
     } else {
-        put_worded(s, n, at, desk, out)
+        put_worded(s, n, desk, out)
     }
 }
 
 // A text broken at each `//`, or whole.
-pub fn put_broken(s: &[u8], n: Normalized, at: usize, desk: &mut Numbers, out: &mut [u8]) -> usize
-    ensures { (source : Bytes) → desk_of source result desk.new out.new ≡ emit_all (desk_of source at desk.old out.old) (broken s.now n) }
+pub fn put_broken(s: &[u8], n: Normalized, desk: &mut Desk, out: &mut [u8])
+    ensures { (source : Bytes) → desk_of source desk.new out.new ≡ emit_all (desk_of source desk.old out.old) (broken s.now n) }
 {
     let body = put_body::inner(s);
     if put_body::is_easy(body) {
-        put_easy(body, n, at, desk, out)
+        put_easy(body, n, desk, out)
     } else {
-        put_hard(s, n, at, desk, out)
+        put_hard(s, n, desk, out)
     }
 }

@@ -142,15 +142,9 @@ module _ (t : Tape) (k : ℕ) where
 
   module _ {m : Node} {b : ℕ} {u v : Bytes} {d a : ℕ} (eb : b ≡ base_len (info_at t k)) (eu : u ≡ text_at_of t k) (ed : d ≡ name_start u)
       (em : m ≡ node_at t k) (ea : a ≡ m.start) (ev : v ≡ marker_name t k) where
-    rest-found : {n : ℕ} → n ≡ length v - b → ◌≡◌ {A = Part} (record { start = a + (d + b); len = n }) (name_rest t k)
+    pub rest-found : {n : ℕ} → n ≡ length v - b → ◌≡◌ {A = Part} (record { start = a + (d + b); len = n }) (name_rest t k)
     unfolding name_rest in_source
     rest-found en = rw (en, ea, ed, eu, eb, ev, em)
-
-    pub rest-none : length v ≤ b → ◌≡◌ {A = Part} (record { start = a + (d + b); len = 0 }) (name_rest t k)
-    rest-none h = rest-found (omega arith)
-
-    pub rest_some : b < length v → ◌≡◌ {A = Part} (record { start = a + (d + b); len = length v - b }) (name_rest t k)
-    rest_some h = rest-found refl
 
 -- ---- the label
 

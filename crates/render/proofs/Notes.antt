@@ -6,7 +6,7 @@ use mathlib.Core.Option.{none, some}
 use Prim.Native.Nat.{ℕ, zero, suc, ◌<◌}
 use native.Mathlib.Omega.{arith}
 use lib.ListN.{length, get_or, drop, drop_of_length-le}
-use Rattle.parts.specs.Bytes.{Bytes, b, part, begins}
+use Rattle.parts.specs.Bytes.{Bytes, part}
 use Rattle.words.specs.Words.{words, joined, trim, is_blank_of, after_word, next_word}
 use Rattle.words.specs.declared.Set.{Set}
 use Rattle.words.specs.declared.Set.TheVariants.{Unicode}
@@ -19,16 +19,14 @@ use Rattle.tape.specs.File.{Tape, kind_at, text_at_of}
 use Rattle.tape.specs.Tree.{first_child, walk_from, children}
 use Rattle.tape.specs.declared.kinds.Kind.{Kind}
 use Rattle.tape.specs.declared.Cursor.{Cursor}
-use Rattle.tape.specs.declared.Step.{Step}
-use Rattle.tape.specs.declared.Step.TheVariants.{At, Done}
+use Rattle.tape.specs.Found.{Step}
+use Rattle.std.specs.Prelude.{None, Some}
 use Rattle.tape.proofs.Walk.{children_walk}
-use Rattle.render.specs.declared.children.Test.TheVariants.{Category}
-use Rattle.render.specs.declared.note.Align.TheVariants.{Start, Center, End}
 use Rattle.render.specs.Shape.{is_category_marker_of}
 use Rattle.render.specs.First.{first_with}
-use Rattle.render.specs.Children.{passes, first_text_of}
+use Rattle.render.specs.Children.{first_text_of}
 use Rattle.render.specs.Label.{word_part_of}
-use Rattle.render.specs.Note.{first_or, lead_text, caller_or, remainder, text_under, category_text_of, step_text, first_words, book_code_of, word_at, code_part, IsCode, book_rest_of, unless_empty, periph_alt, cell_align_of}
+use Rattle.render.specs.Note.{first_or, lead_text, caller_or, remainder, text_under, category_text_of, step_text, first_words, book_code_of, word_at, code_part, IsCode, book_rest_of, unless_empty, periph_alt}
 use Rattle.render.proofs.Shapes.{kind_is, kind_not}
 use Rattle.render.proofs.Labels.{word_bytes}
 
@@ -72,23 +70,23 @@ pub nothing_of : (s : Bytes) {r : Bytes} → r ≡ part s 0 0 → r ≡ []
 nothing_of s e = e
 
 module _ (t : Tape) {s : Step} where
-  pub lead-none : {r : Bytes} → s ≡ Done → r ≡ [] → r ≡ lead_text t s
+  pub lead-none : {r : Bytes} → s ≡ None → r ≡ [] → r ≡ lead_text t s
   unfolding lead_text
   lead-none es er = rw es er
 
-  pub lead-other : (c : Cursor) {z : Kind} {r : Bytes} → s ≡ At c → z.code ≡ kind_at t c.at → (z.code ≡ 1 → ⊥) → r ≡ [] → r ≡ lead_text t s
+  pub lead-other : (c : Cursor) {z : Kind} {r : Bytes} → s ≡ Some c → z.code ≡ kind_at t c.at → (z.code ≡ 1 → ⊥) → r ≡ [] → r ≡ lead_text t s
   unfolding lead_text
   lead-other c es ek h er = rw (es, kind_not t c.at ek 1 h) er
 
-  pub lead-text : (c : Cursor) {z : Kind} {r : Bytes} → s ≡ At c → z.code ≡ kind_at t c.at → z.code ≡ 1 → r ≡ text_at_of t c.at → r ≡ lead_text t s
+  pub lead-text : (c : Cursor) {z : Kind} {r : Bytes} → s ≡ Some c → z.code ≡ kind_at t c.at → z.code ≡ 1 → r ≡ text_at_of t c.at → r ≡ lead_text t s
   unfolding lead_text
   lead-text c es ek h er = rw (es, kind_is t c.at ek 1 h) er
 
-  pub text-none : {r : Bytes} → s ≡ Done → r ≡ [] → r ≡ step_text t s
+  pub text-none : {r : Bytes} → s ≡ None → r ≡ [] → r ≡ step_text t s
   unfolding step_text
   text-none es er = rw es er
 
-  pub text-some : (c : Cursor) {r : Bytes} → s ≡ At c → r ≡ text_at_of t c.at → r ≡ step_text t s
+  pub text-some : (c : Cursor) {r : Bytes} → s ≡ Some c → r ≡ text_at_of t c.at → r ≡ step_text t s
   unfolding step_text
   text-some c es er = rw es er
 
@@ -114,16 +112,15 @@ remainder_of s e = e
 
 -- ---- category
 
-module _ (t : Tape) (k : ℕ) {s f : Step} (es : s ≡ first_child t k) (ef : f ≡ first_with (passes t Category) (walk_from t s)) where
+module _ (t : Tape) (k : ℕ) {s f : Step} (es : s ≡ first_child t k) (ef : f ≡ first_with (is_category_marker_of t) (walk_from t s)) where
   cat_here : f ≡ first_with (is_category_marker_of t) (children t k)
-  unfolding passes
   cat_here = ef ∙ ap (first_with (is_category_marker_of t)) (children_walk t k es)
 
-  pub category-some : (c : Cursor) {r : Step} → f ≡ At c → r ≡ first_text_of t c.at → r ≡ category_text_of t k
+  pub category-some : (c : Cursor) {r : Step} → f ≡ Some c → r ≡ first_text_of t c.at → r ≡ category_text_of t k
   unfolding category_text_of text_under
   category-some c ec er = rw (← cat_here, ec) er
 
-  pub category-none : f ≡ Done → Done ≡ category_text_of t k
+  pub category-none : f ≡ None → None ≡ category_text_of t k
   unfolding category_text_of text_under
   category-none ec = rw (← cat_here, ec)
 
@@ -136,14 +133,14 @@ pub leading_of : (t : Tape) (k : ℕ) {s : Step} {r : Bytes} → s ≡ first_tex
 leading_of t k es er = er ∙ ap (step_text t) es
 
 module _ (t : Tape) (k : ℕ) {s : Step} (es : s ≡ first_text_of t k) where
-  pub code_some : (c : Cursor) {p : Part} → s ≡ At c → p ≡ word_part_of t c.at 0 → IsCode t k p
+  pub code_some : (c : Cursor) {p : Part} → s ≡ Some c → p ≡ word_part_of t c.at 0 → IsCode t k p
   unfolding code_part word_at book_code_of first_words step_text
   code_some c ec ep = record {
     place = rw (← es, ec) ep;
     bytes = rw (← es, ec, ep) (word_bytes t c.at 0 ∙ sym (first_or_nil (words Unicode (text_at_of t c.at))));
   }
 
-  pub code_none : s ≡ Done → IsCode t k (record { start = 0; len = 0 })
+  pub code_none : s ≡ None → IsCode t k (record { start = 0; len = 0 })
   unfolding code_part word_at book_code_of first_words step_text first_or
   code_none ec = record { place = rw (← es, ec); bytes = rw (← es, ec, words-nil Unicode) }
 
@@ -170,29 +167,3 @@ module _ (t : Tape) (k : ℕ) {r : Bytes} {y : Bool} (er : r ≡ step_text t (fi
   pub alt_some : y ≡ false → periph_alt t k ≡ some (joined (words Unicode r))
   unfolding periph_alt first_words
   alt_some h = rw (← er) (some-text (joined (words Unicode r)) (joined-some Unicode r (sym ey ∙ h)))
-
--- ---- cells
-
-module _ (name : Bytes) {y₁ : Bool} (e₁ : y₁ ≡ begins (b "thr") name) where
-  pub align_thr : y₁ ≡ true → End ≡ cell_align_of name
-  unfolding cell_align_of
-  align_thr h = rw (← e₁, h)
-
-  module _ {y₂ : Bool} (h₁ : y₁ ≡ false) (e₂ : y₂ ≡ begins (b "tcr") name) where
-    pub align_tcr : y₂ ≡ true → End ≡ cell_align_of name
-    unfolding cell_align_of
-    align_tcr h = rw (← e₁, h₁, ← e₂, h)
-
-    module _ {y₃ : Bool} (h₂ : y₂ ≡ false) (e₃ : y₃ ≡ begins (b "thc") name) where
-      pub align_thc : y₃ ≡ true → Center ≡ cell_align_of name
-      unfolding cell_align_of
-      align_thc h = rw (← e₁, h₁, ← e₂, h₂, ← e₃, h)
-
-      module _ {y₄ : Bool} (h₃ : y₃ ≡ false) (e₄ : y₄ ≡ begins (b "tcc") name) where
-        pub align_tcc : y₄ ≡ true → Center ≡ cell_align_of name
-        unfolding cell_align_of
-        align_tcc h = rw (← e₁, h₁, ← e₂, h₂, ← e₃, h₃, ← e₄, h)
-
-        pub align_start : y₄ ≡ false → Start ≡ cell_align_of name
-        unfolding cell_align_of
-        align_start h = rw (← e₁, h₁, ← e₂, h₂, ← e₃, h₃, ← e₄, h)

@@ -1,12 +1,11 @@
 -- What follows a node: the next solid sibling, and whether it is inline.
-use Rattle.std.specs.Prelude.{ℕ, Bool, false, not, ◌&&◌, ◌||◌, ◌≡◌, ◌⊎◌}
+use Rattle.std.specs.Prelude.{ℕ, Bool, false, not, ◌&&◌, ◌||◌, ◌≡◌, ◌⊎◌, None, Some}
 use Rattle.words.specs.Words.{is_blank_of as blank}
 use Rattle.words.specs.declared.Set.TheVariants.{Ascii}
 use Rattle.tape.specs.File.{Tape, text_at_of}
 use Rattle.tape.specs.Tree.{siblings}
 use Rattle.tape.specs.declared.Cursor.{Cursor}
-use Rattle.tape.specs.declared.Step.{Step}
-use Rattle.tape.specs.declared.Step.TheVariants.{At, Done}
+use Rattle.tape.specs.Found.{Step}
 use Rattle.render.specs.First.{first_with}
 use Rattle.render.specs.Shape.{is_text, is_attribute, is_error, is_inline_of}
 
@@ -20,8 +19,8 @@ next_solid_of t k = first_with (is_solid t) (siblings t k)
 
 -- whether a step leads to an inline node
 unfoldable pub inline_at_of : Tape → Step → Bool
-inline_at_of t Done = false
-inline_at_of t (At c) = is_inline_of t c.at
+inline_at_of t None = false
+inline_at_of t (Some c) = is_inline_of t c.at
 
 -- `inline_follows`: the first later sibling that is not passed over is inline
 unfoldable pub inline_follows_of : Tape → ℕ → Bool
@@ -33,4 +32,4 @@ followed t k outer = is_inline_of t k && (outer || inline_follows_of t k)
 
 -- a step kept from the child before: this very child, or the solid sibling behind it
 abbrev pub Kept : Tape → Cursor → Step → Type 0
-Kept t c kept = (kept ≡ At c) ⊎ (kept ≡ next_solid_of t c.at)
+Kept t c kept = (kept ≡ Some c) ⊎ (kept ≡ next_solid_of t c.at)

@@ -1,5 +1,5 @@
 -- What elements say in attributes: a note's caller, a category, the book's code and rest, periph's alt, a cell's alignment.
-use Rattle.std.specs.Prelude.{ℕ, ◌≡◌, cond, ◌||◌, List, [], ◌∷◌, drop}
+use Rattle.std.specs.Prelude.{ℕ, ◌≡◌, cond, ◌||◌, List, [], ◌∷◌, drop, None, Some}
 use Rattle.std.proofs.Math.Option.{Option, none, some}
 use Rattle.parts.specs.Bytes.{Bytes, b, begins, part}
 use Rattle.words.specs.Words.{words, joined, trim, after_word}
@@ -7,8 +7,7 @@ use Rattle.words.specs.declared.Set.TheVariants.{Unicode}
 use Rattle.words.specs.declared.Part.{Part}
 use Rattle.tape.specs.File.{Tape, text_at_of}
 use Rattle.tape.specs.Tree.{first_child, children}
-use Rattle.tape.specs.declared.Step.{Step}
-use Rattle.tape.specs.declared.Step.TheVariants.{At, Done}
+use Rattle.tape.specs.Found.{Step}
 use Rattle.render.specs.declared.note.Align.{Align}
 use Rattle.render.specs.declared.note.Align.TheVariants.{Start, Center, End}
 use Rattle.render.specs.Shape.{is_text, is_category_marker_of}
@@ -25,8 +24,8 @@ first_or other (w ∷ ws) = w
 
 -- the text that a step leads to, if it is a Text
 unfoldable pub lead_text : Tape → Step → Bytes
-lead_text t Done = []
-lead_text t (At c) = cond (is_text t c.at) (text_at_of t c.at) []
+lead_text t None = []
+lead_text t (Some c) = cond (is_text t c.at) (text_at_of t c.at) []
 
 -- the first word of the first child if that is Text, or something else
 unfoldable pub caller_or : Bytes → Tape → ℕ → Bytes
@@ -44,8 +43,8 @@ remainder s = after_word Unicode s
 
 -- the first Text child of the node that a step leads to
 unfoldable pub text_under : Tape → Step → Step
-text_under t Done = Done
-text_under t (At c) = first_text_of t c.at
+text_under t None = None
+text_under t (Some c) = first_text_of t c.at
 
 -- of the first `cat` child the first Text
 unfoldable pub category_text_of : Tape → ℕ → Step
@@ -53,8 +52,8 @@ category_text_of t k = text_under t (first_with (is_category_marker_of t) (child
 
 -- the text that a step leads to, trimmed
 unfoldable pub trimmed_at : Tape → Step → Option Bytes
-trimmed_at t Done = none
-trimmed_at t (At c) = some (trim Unicode (text_at_of t c.at))
+trimmed_at t None = none
+trimmed_at t (Some c) = some (trim Unicode (text_at_of t c.at))
 
 -- `category_of`, trimmed: of the first `cat` child the first Text; none if it has no Text
 unfoldable pub written_category : Tape → ℕ → Option Bytes
@@ -64,8 +63,8 @@ written_category t k = trimmed_at t (category_text_of t k)
 
 -- the text that a step leads to
 unfoldable pub step_text : Tape → Step → Bytes
-step_text t Done = []
-step_text t (At c) = text_at_of t c.at
+step_text t None = []
+step_text t (Some c) = text_at_of t c.at
 
 -- the words of the first Text child
 unfoldable pub first_words : Tape → ℕ → List Bytes
@@ -77,8 +76,8 @@ book_code_of t k = first_or [] (first_words t k)
 
 -- the first word that a step leads to, as a part of the source
 unfoldable pub word_at : Tape → Step → Part
-word_at t Done = record { start = 0; len = 0 }
-word_at t (At c) = word_part_of t c.at 0
+word_at t None = record { start = 0; len = 0 }
+word_at t (Some c) = word_part_of t c.at 0
 
 -- the book's code as a part of the source
 unfoldable pub code_part : Tape → ℕ → Part

@@ -1,13 +1,12 @@
 -- What a node is: its shape, inline or a block, a row, a category marker, blank, content.
-use Rattle.std.specs.Prelude.{ℕ, Bool, true, false, cond, not, ◌&&◌, ◌||◌, eqb}
+use Rattle.std.specs.Prelude.{ℕ, Bool, true, false, cond, not, ◌&&◌, ◌||◌, eqb, None, Some}
 use Rattle.parts.specs.Bytes.{b, same}
 use Rattle.words.specs.Words.{is_blank_of as blank}
 use Rattle.words.specs.declared.Set.TheVariants.{Unicode}
 use Rattle.tape.specs.File.{Tape, node_at, kind_at, text_at_of, info_at, entry_name}
 use Rattle.tape.specs.Tree.{is_close}
 use Rattle.tape.specs.Name.{marker_name}
-use Rattle.tape.specs.declared.Info.{Info}
-use Rattle.tape.specs.declared.Info.TheVariants.{Known, Unknown}
+use Rattle.tape.specs.Found.{Info}
 use Rattle.render.specs.declared.shape.Shape.{Shape}
 use Rattle.render.specs.declared.shape.Shape.TheVariants.{Block, Inline, Leaf, Other}
 use Rattle.tape.specs.Kind as kinds
@@ -48,8 +47,8 @@ closed_by kind = cond (eqb kind kinds.block_end_of) Block (cond (eqb kind kinds.
 
 -- the shape of a MarkerOpen by its entry: of one that is unknown, by the kind of its close
 unfoldable pub shape_by : Tape → ℕ → Info → Shape
-shape_by t k (Known e) = Other
-shape_by t k Unknown = closed_by (kind_at t (node_at t k).link)
+shape_by t k (Some e) = Other
+shape_by t k None = closed_by (kind_at t (node_at t k).link)
 
 -- `unknown_shape`: the shape of a MarkerOpen without an entry; Other for anything else
 unfoldable pub unknown_shape_of : Tape → ℕ → Shape
@@ -77,8 +76,8 @@ inline_category code = eqb code categories.character || (eqb code categories.not
 
 -- a marker runs inside text by its category, or by its shape
 unfoldable pub inline_marker : Tape → ℕ → Info → Bool
-inline_marker t k (Known e) = inline_category e.category.code
-inline_marker t k Unknown = is_inline_shape (unknown_shape_of t k)
+inline_marker t k (Some e) = inline_category e.category.code
+inline_marker t k None = is_inline_shape (unknown_shape_of t k)
 
 -- `is_inline`: a Text, a Verse, or a marker that runs inside text
 unfoldable pub is_inline_of : Tape → ℕ → Bool
@@ -86,8 +85,8 @@ is_inline_of t k = is_text t k || (is_verse_of t k || (is_open t k && inline_mar
 
 -- a marker is a block if its entry is not `usfm` and does not run inside text, or by its shape
 unfoldable pub block_marker : Tape → ℕ → Info → Bool
-block_marker t k (Known e) = not (same (entry_name t e) (b "usfm")) && not (inline_category e.category.code)
-block_marker t k Unknown = is_block_shape (unknown_shape_of t k)
+block_marker t k (Some e) = not (same (entry_name t e) (b "usfm")) && not (inline_category e.category.code)
+block_marker t k None = is_block_shape (unknown_shape_of t k)
 
 -- `is_top_level_block`: a Chapter, or a marker that is a block
 unfoldable pub is_top_level_block_of : Tape → ℕ → Bool
@@ -101,8 +100,8 @@ trims_after_of t k = is_chapter_of t k || (is_verse_of t k || not (is_inline_of 
 
 -- whether there is an entry with this element code
 unfoldable pub is_element_of : ℕ → Info → Bool
-is_element_of code (Known e) = eqb e.element.code code
-is_element_of code Unknown = false
+is_element_of code (Some e) = eqb e.element.code code
+is_element_of code None = false
 
 -- `is_table_row`: a MarkerOpen whose entry has the row code
 unfoldable pub is_row : Tape → ℕ → Bool

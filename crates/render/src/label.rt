@@ -1,10 +1,10 @@
 // The label of a verse.
 ghost use Rattle.std.specs.Prelude.{◌≡◌, ◌-◌, ◌≤◌, length};
-ghost use Rattle.tape.specs.File.{tape_in};
+ghost use Rattle.tape.specs.File.{contents};
 ghost use Rattle.tape.specs.Name.{strip, name_start};
 ghost use Rattle.render.specs.Label.{word_part_of, name_rest, IsLabel};
 
-use tape::{Cursor, Sections, long};
+use tape::{Cursor, TapeFile, long};
 use words::{Part, Set};
 
 // How many bytes are stripped of a text that may begin with one.
@@ -12,10 +12,7 @@ fn stripped(s: &[u8], x: u8) -> usize
     ensures value { result ≡ length s.now - length (strip x s.now) }
     ensures upper_bound { result ≤ 1 }
 {
-    if parts::begins_with(s, &[x]) {
-        return 1;
-    }
-    0
+    if parts::begins_with(s, &[x]) { 1 } else { 0 }
 }
 
 // Where the marker name starts in a text.
@@ -28,12 +25,12 @@ fn name_start(s: &[u8]) -> usize
 }
 
 // The word of a node's text that n others precede, as a part of the source.
-pub fn word_part(file: &[u8], tape: Sections, c: Cursor, n: usize) -> Part
-    ensures { result ≡ word_part_of (tape_in tape file.now) c.at n }
+pub fn word_part(tape: &TapeFile<'_>, c: Cursor, n: usize) -> Part
+    ensures { result ≡ word_part_of (contents tape.now) c.at n }
 {
-    let node = c.node(file, tape);
+    let node = c.node(tape);
     let start = long(node.start);
-    let text = parts::part(tape::source(file, tape), start, long(node.len));
+    let text = parts::part(tape.source(), start, long(node.len));
     let word = words::nth_word(text, Set::Unicode, n);
     Part {
         start: start + word.start,
@@ -42,27 +39,26 @@ pub fn word_part(file: &[u8], tape: Sections, c: Cursor, n: usize) -> Part
 }
 
 // The marker name past the entry's name length, as a part of the source.
-fn name_rest(file: &[u8], tape: Sections, c: Cursor) -> Part
-    ensures { result ≡ name_rest (tape_in tape file.now) c.at }
+fn name_rest(tape: &TapeFile<'_>, c: Cursor) -> Part
+    ensures { result ≡ name_rest (contents tape.now) c.at }
 {
-    let base = c.base_len(file, tape);
-    let place = name_start(c.text(file, tape)) + base;
-    let start = long(c.node(file, tape).start) + place;
-    let name = c.marker_name(file, tape);
-    if name.len() <= base {
-        return Part { start, len: 0 };
+    let base = c.base_len(tape);
+    let place = name_start(c.text(tape)) + base;
+    let start = long(c.node(tape).start) + place;
+    let name = c.marker_name(tape);
+    Part {
+        start,
+        len: name.len().saturating_sub(base),
     }
-    let len = name.len() - base;
-    Part { start, len }
 }
 
 // The label: the second word, or the rest of the marker name.
-pub fn verse_label(file: &[u8], tape: Sections, c: Cursor) -> Part
-    ensures { IsLabel (tape_in tape file.now) c.at result }
+pub fn verse_label(tape: &TapeFile<'_>, c: Cursor) -> Part
+    ensures { IsLabel (contents tape.now) c.at result }
 {
-    let word = word_part(file, tape, c, 1);
+    let word = word_part(tape, c, 1);
     if word.len == 0 {
-        return name_rest(file, tape, c);
+        return name_rest(tape, c);
     }
     word
 }

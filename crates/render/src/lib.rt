@@ -6,7 +6,7 @@ mod label;
 mod note;
 mod shape;
 
-pub use children::{Test, find, first_text, has_content, is_plain_text};
+pub use children::{find, first_text, has_content, is_plain_text};
 pub use follow::{followed, inline_at, inline_follows, next_solid, runs_on, solid_behind};
 pub use label::{verse_label, word_part};
 pub use note::{

@@ -1,15 +1,14 @@
 // What a node is.
 ghost use Rattle.std.specs.Prelude.{◌≡◌};
-ghost use Rattle.tape.specs.File.{tape_in};
-ghost use Rattle.leading_white.specs.Lean.{Solids};
+ghost use Rattle.tape.specs.File.{contents};
 ghost use Rattle.render.specs.Shape.{closed_by, unknown_shape_of, is_inline_shape, is_block_shape, inline_category, is_inline_of, is_top_level_block_of, trims_after_of, is_element_of, is_row, is_category_marker_of, is_blank_text, is_content_of};
 
-use leading_white::lean_text;
-use tape::{Category, Cursor, Element, Info, Kind, Sections};
+use leading_white::{Book, lean_text};
+use tape::{Category, Cursor, Element, Entry, Kind, TapeFile};
 use words::Set;
 
 // How an unknown marker is closed; Other for what is no unknown marker.
-#[derive(Clone, Copy)]
+#[derive(Clone, Copy, PartialEq, Eq)]
 pub enum Shape {
     Block,
     Inline,
@@ -18,178 +17,118 @@ pub enum Shape {
 }
 
 // The shape that a close of this kind gives.
+#[tactic(auto, unfolding(crate::specs::Shape::closed_by))]
 fn closed_by(kind: u8) -> Shape
     ensures { result ≡ closed_by kind }
 {
-    if kind == Kind::BLOCK_END {
-        return Shape::Block;
+    match kind {
+        Kind::BLOCK_END => Shape::Block,
+        Kind::MARKER_CLOSE => Shape::Inline,
+        _ => Shape::Leaf,
     }
-    if kind == Kind::MARKER_CLOSE {
-        return Shape::Inline;
-    }
-    Shape::Leaf
 }
 
-pub fn unknown_shape(file: &[u8], tape: Sections, c: Cursor) -> Shape
-    ensures { result ≡ unknown_shape_of (tape_in tape file.now) c.at }
+pub fn unknown_shape(tape: &TapeFile<'_>, c: Cursor) -> Shape
+    ensures { result ≡ unknown_shape_of (contents tape.now) c.at }
 {
-    let n = c.node(file, tape);
+    let n = c.node(tape);
     if n.kind.code != Kind::MARKER_OPEN {
         return Shape::Other;
     }
-    match c.marker_info(file, tape) {
-        Info::Known(_) => Shape::Other,
-        Info::Unknown => {
-            let close = Cursor::new(n.link);
-            closed_by(close.kind(file, tape).code)
-        }
-    }
-}
-
-fn is_inline_shape(s: Shape) -> bool
-    ensures { result ≡ is_inline_shape s }
-{
-    match s {
-        Shape::Block => false,
-        Shape::Inline => true,
-        Shape::Leaf => false,
-        Shape::Other => false,
-    }
-}
-
-fn is_block_shape(s: Shape) -> bool
-    ensures { result ≡ is_block_shape s }
-{
-    match s {
-        Shape::Block => true,
-        Shape::Inline => false,
-        Shape::Leaf => false,
-        Shape::Other => false,
+    match c.marker_info(tape) {
+        Some(_) => Shape::Other,
+        None => closed_by(Cursor::new(n.link).kind(tape).code),
     }
 }
 
 // Whether markers of this category run inside text.
+#[tactic(auto, unfolding(crate::specs::Shape::inline_category))]
 fn inline_category(code: u8) -> bool
     ensures { result ≡ inline_category code }
 {
-    if code == Category::CHARACTER {
-        return true;
-    }
-    if code == Category::NOTE {
-        return true;
-    }
-    code == Category::MILESTONE
+    matches!(
+        code,
+        Category::CHARACTER | Category::NOTE | Category::MILESTONE
+    )
 }
 
 // Whether a node runs inside text.
-pub fn is_inline(file: &[u8], tape: Sections, c: Cursor) -> bool
-    ensures { result ≡ is_inline_of (tape_in tape file.now) c.at }
+#[tactic(auto, using(crate::proofs::Shapes::same_inline), unfolding(crate::specs::Shape::is_inline_of, crate::specs::Shape::inline_marker))]
+pub fn is_inline(tape: &TapeFile<'_>, c: Cursor) -> bool
+    ensures { result ≡ is_inline_of (contents tape.now) c.at }
 {
-    let kind = c.kind(file, tape);
-    if kind.code == Kind::TEXT {
-        return true;
-    }
-    if kind.code == Kind::VERSE {
-        return true;
-    }
-    if kind.code != Kind::MARKER_OPEN {
-        return false;
-    }
-    match c.marker_info(file, tape) {
-        Info::Known(e) => inline_category(e.category.code),
-        Info::Unknown => is_inline_shape(unknown_shape(file, tape, c)),
+    match c.kind(tape).code {
+        Kind::TEXT | Kind::VERSE => true,
+        Kind::MARKER_OPEN => match c.marker_info(tape) {
+            Some(e) => inline_category(e.category.code),
+            None => unknown_shape(tape, c) == Shape::Inline,
+        },
+        _ => false,
     }
 }
 
-pub fn is_top_level_block(file: &[u8], tape: Sections, c: Cursor) -> bool
-    ensures { result ≡ is_top_level_block_of (tape_in tape file.now) c.at }
+#[tactic(auto, using(crate::proofs::Shapes::same_block), unfolding(crate::specs::Shape::is_top_level_block_of, crate::specs::Shape::block_marker))]
+pub fn is_top_level_block(tape: &TapeFile<'_>, c: Cursor) -> bool
+    ensures { result ≡ is_top_level_block_of (contents tape.now) c.at }
 {
-    let kind = c.kind(file, tape);
-    if kind.code == Kind::CHAPTER {
-        return true;
-    }
-    if kind.code != Kind::MARKER_OPEN {
-        return false;
-    }
-    match c.marker_info(file, tape) {
-        Info::Known(e) => {
-            if parts::same(tape::entry_name(file, tape, e), b"usfm") {
-                return false;
-            }
-            !inline_category(e.category.code)
-        }
-        Info::Unknown => is_block_shape(unknown_shape(file, tape, c)),
+    match c.kind(tape).code {
+        Kind::CHAPTER => true,
+        Kind::MARKER_OPEN => match c.marker_info(tape) {
+            Some(e) => !parts::same(tape.entry_name(e), b"usfm")
+                && !inline_category(e.category.code),
+            None => unknown_shape(tape, c) == Shape::Block,
+        },
+        _ => false,
     }
 }
 
 // Whether no space is kept at the start of a text behind this sibling.
-pub fn trims_after(file: &[u8], tape: Sections, c: Cursor) -> bool
-    ensures { result ≡ trims_after_of (tape_in tape file.now) c.at }
+#[tactic(auto, unfolding(crate::specs::Shape::trims_after_of))]
+pub fn trims_after(tape: &TapeFile<'_>, c: Cursor) -> bool
+    ensures { result ≡ trims_after_of (contents tape.now) c.at }
 {
-    let kind = c.kind(file, tape);
-    if kind.code == Kind::CHAPTER {
-        return true;
+    match c.kind(tape).code {
+        Kind::CHAPTER | Kind::VERSE => true,
+        _ => !is_inline(tape, c),
     }
-    if kind.code == Kind::VERSE {
-        return true;
-    }
-    !is_inline(file, tape, c)
 }
 
 // Whether there is an entry with this element code.
-pub fn is_element(known: Info, code: u8) -> bool
+#[tactic(auto, unfolding(crate::specs::Shape::is_element_of))]
+pub fn is_element(known: Option<Entry>, code: u8) -> bool
     ensures { result ≡ is_element_of code known }
 {
-    match known {
-        Info::Known(e) => e.element.code == code,
-        Info::Unknown => false,
-    }
+    known.is_some_and(|e| e.element.code == code)
 }
 
-pub fn is_row(file: &[u8], tape: Sections, c: Cursor) -> bool
-    ensures { result ≡ is_row (tape_in tape file.now) c.at }
+#[tactic(auto, unfolding(crate::specs::Shape::is_row))]
+pub fn is_row(tape: &TapeFile<'_>, c: Cursor) -> bool
+    ensures { result ≡ is_row (contents tape.now) c.at }
 {
-    let kind = c.kind(file, tape);
-    if kind.code != Kind::MARKER_OPEN {
-        return false;
-    }
-    is_element(c.marker_info(file, tape), Element::ROW)
+    c.kind(tape).code == Kind::MARKER_OPEN && is_element(c.marker_info(tape), Element::ROW)
 }
 
 // Whether a node is a marker that the source names `cat`.
-pub fn is_category_marker(file: &[u8], tape: Sections, c: Cursor) -> bool
-    ensures { result ≡ is_category_marker_of (tape_in tape file.now) c.at }
+#[tactic(auto, unfolding(crate::specs::Shape::is_category_marker_of))]
+pub fn is_category_marker(tape: &TapeFile<'_>, c: Cursor) -> bool
+    ensures { result ≡ is_category_marker_of (contents tape.now) c.at }
 {
-    let kind = c.kind(file, tape);
-    if kind.code != Kind::MARKER_OPEN {
-        return false;
-    }
-    c.is_named(file, tape, b"cat")
+    c.kind(tape).code == Kind::MARKER_OPEN && c.is_named(tape, b"cat")
 }
 
 // Whether a node is a Text of white space alone.
-pub fn is_blank(file: &[u8], tape: Sections, solids: &[u32], c: Cursor) -> bool
-    requires { Solids (tape_in tape file.now) solids.now }
-    ensures { result ≡ is_blank_text (tape_in tape file.now) c.at }
+#[tactic(auto, using(leading_white::proofs::Leans::blank_lean), unfolding(crate::specs::Shape::is_blank_text))]
+pub fn is_blank(book: &Book<'_>, c: Cursor) -> bool
+    ensures { result ≡ is_blank_text (contents book.now.tape) c.at }
 {
-    let kind = c.kind(file, tape);
-    if kind.code != Kind::TEXT {
-        return false;
-    }
-    words::is_blank(lean_text(file, tape, solids, c), Set::Unicode)
+    c.kind(&book.tape).code == Kind::TEXT && words::is_blank(lean_text(book, c), Set::Unicode)
 }
 
 // Whether a child counts as content.
-pub fn is_content(file: &[u8], tape: Sections, solids: &[u32], c: Cursor) -> bool
-    requires { Solids (tape_in tape file.now) solids.now }
-    ensures { result ≡ is_content_of (tape_in tape file.now) c.at }
+#[tactic(auto, unfolding(crate::specs::Shape::is_content_of))]
+pub fn is_content(book: &Book<'_>, c: Cursor) -> bool
+    ensures { result ≡ is_content_of (contents book.now.tape) c.at }
 {
-    let kind = c.kind(file, tape);
-    if kind.code == Kind::ATTRIBUTE {
-        return false;
-    }
-    if kind.is_close() {
-        return false;
-    }
-    !is_blank(file, tape, solids, c)
+    let kind = c.kind(&book.tape);
+    kind.code != Kind::ATTRIBUTE && !kind.is_close() && !is_blank(book, c)
 }

@@ -3,48 +3,14 @@
 use checker::Verdict;
 use std::io;
 
-fn wide(n: usize) -> u64 {
-    n as u64
-}
-
-fn say_accepted(rt: &impl Print, chapters: usize, verses: usize) -> io::Result<()> {
-    rt.write_all(b"accepted ")?;
-    rt.print(wide(chapters))?;
-    rt.write_all(b" ")?;
-    rt.print(wide(verses))?;
-    rt.write_all(b"\n")
-}
-
-fn say_place(rt: &impl Print, text: &[u8], answer: Verdict) -> io::Result<()> {
-    let at = checker::place(text, answer);
-    rt.write_all(b"at byte ")?;
-    rt.print(wide(at))?;
-    rt.write_all(b", line ")?;
-    rt.print(wide(checker::line_of(text, at)))?;
-    rt.write_all(b"\n")
-}
-
 // The first line of what is said.
 pub fn say_answer(rt: &impl Print, answer: Verdict) -> io::Result<()> {
     match answer {
-        Verdict::Accepted { chapters, verses } => say_accepted(rt, chapters, verses),
-        Verdict::NotTags => rt.write_all(b"refused 11\n"),
-        Verdict::TooHigh => rt.write_all(b"refused 12\n"),
-        Verdict::NoTree => rt.write_all(b"refused 13\n"),
-        Verdict::BadMarks => rt.write_all(b"refused 14\n"),
-    }
-}
-
-fn is_accepted(answer: Verdict) -> bool {
-    match answer {
-        Verdict::Accepted {
-            chapters: _,
-            verses: _,
-        } => true,
-        Verdict::NotTags => false,
-        Verdict::TooHigh => false,
-        Verdict::NoTree => false,
-        Verdict::BadMarks => false,
+        Verdict::Accepted { chapters, verses } => println!(rt; "accepted {chapters} {verses}"),
+        Verdict::NotTags => println!(rt; "refused 11"),
+        Verdict::TooHigh => println!(rt; "refused 12"),
+        Verdict::NoTree => println!(rt; "refused 13"),
+        Verdict::BadMarks => println!(rt; "refused 14"),
     }
 }
 
@@ -52,8 +18,10 @@ fn is_accepted(answer: Verdict) -> bool {
 pub fn report(rt: &impl Print, text: &[u8]) -> io::Result<()> {
     let answer = checker::check(text);
     say_answer(rt, answer)?;
-    if !is_accepted(answer) {
-        say_place(rt, text, answer)?;
+    if matches!(answer, Verdict::Accepted { .. }) {
+        return Ok(());
     }
-    Ok(())
+    let at = checker::place(text, answer);
+    let line = checker::line_of(text, at);
+    println!(rt; "at byte {at}, line {line}")
 }

@@ -3,10 +3,25 @@
 // under `oracle steps`.
 ghost use Rattle.std.specs.Prelude.{◌≡◌, min};
 
-use admit::Admitted;
 use std::io;
 use window::Window;
 use writer::{Answer, Writer};
+
+// The names of the steps, by their codes.
+const NAMES: [&[u8]; 12] = [
+    b"start",
+    b"entry",
+    b"source",
+    b"open",
+    b"close",
+    b"leaf",
+    b"text",
+    b"attribute",
+    b"error",
+    b"chapter",
+    b"verse",
+    b"finish",
+];
 
 // The code of a step that finishes a tape.
 const FINISH: u8 = 11;
@@ -15,130 +30,98 @@ const FINISH: u8 = 11;
 pub fn narrow(n: usize) -> u32
     ensures { result ≡ min n 4294967295 }
 {
-    if n <= 4294967295 { n as u32 } else { u32::MAX }
+    u32::try_from(n).unwrap_or(u32::MAX)
 }
 
 // ---- lines
 
-fn small(x: u8) -> u32 {
-    x as u32
-}
-
-// Which name a code has: whatever is no other step finishes.
-fn index(code: u8) -> usize {
-    if code < FINISH { code as usize } else { 11 }
-}
-
-fn put(w: Window, out: &mut [u8], run: &[u8]) -> Window {
-    window::put_run(w, out, run)
-}
-
 // A word and a number behind it.
-fn number(w: Window, out: &mut [u8], name: &[u8], n: u32) -> Window {
-    let next = put(w, out, name);
-    window::put_number(next, out, n)
+fn number(w: &mut Window, out: &mut [u8], name: &[u8], n: u32) {
+    w.put_run(out, name);
+    w.put_number(out, n);
 }
 
-fn count(w: Window, out: &mut [u8], n: usize) -> Window {
-    number(w, out, b" ", narrow(n))
-}
-
-// How much is added so far.
-fn counts(w: Window, out: &mut [u8], s: Writer) -> Window {
-    let w1 = count(w, out, s.nodes);
-    let w2 = count(w1, out, s.entries);
-    let w3 = count(w2, out, s.names);
-    count(w3, out, s.source)
+fn count(w: &mut Window, out: &mut [u8], n: usize) {
+    number(w, out, b" ", narrow(n));
 }
 
 // The numbers of a state.
-fn state(w: Window, out: &mut [u8], s: Writer) -> Window {
-    let w1 = number(w, out, b"state ", small(s.phase));
-    let w2 = counts(w1, out, s);
-    let w3 = count(w2, out, s.inner);
-    count(w3, out, s.depth)
+fn state(w: &mut Window, out: &mut [u8], s: Writer) {
+    number(w, out, b"state ", u32::from(s.phase));
+    count(w, out, s.nodes);
+    count(w, out, s.entries);
+    count(w, out, s.names);
+    count(w, out, s.source);
+    count(w, out, s.inner);
+    count(w, out, s.depth);
 }
 
-// The name of a step.
-fn name(w: Window, out: &mut [u8], code: u8) -> Window {
-    let row = b"start entry source open close leaf text attribute error chapter verse finish";
-    let word = words::nth_word(row, words::Set::Ascii, index(code));
-    put(w, out, parts::part(row, word.start, word.len))
+// The name of a step: whatever is no other step finishes.
+fn name(w: &mut Window, out: &mut [u8], code: u8) {
+    w.put_run(out, NAMES[usize::from(code.min(FINISH))]);
 }
 
 // Ends a line and writes it.
-fn end(rt: &impl Print, w: Window, out: &mut [u8]) -> io::Result<()> {
-    let n = put(w, out, b"\n").at;
-    rt.write_all(parts::part(out, 0, n))
+fn end(rt: &impl Print, w: &mut Window, out: &mut [u8]) -> io::Result<()> {
+    w.put_run(out, b"\n");
+    rt.write_all(parts::part(out, 0, w.at))
 }
 
 // ---- changed bytes
 
-// The first place at which two buffers differ, or the length of the first.
+// The first place at which two buffers of one length differ, or their length.
 fn first_change(a: &[u8], z: &[u8]) -> usize {
-    let mut i = 0;
-    while i < a.len() {
-        if a[i] != parts::byte_at(z, i) {
-            return i;
-        }
-        i += 1;
-    }
-    i
+    a.iter().zip(z).position(|(x, y)| x != y).unwrap_or(a.len())
 }
 
 // The place behind the last at which they differ, or 0.
 fn last_change(a: &[u8], z: &[u8]) -> usize {
-    let mut i = a.len();
-    while i > 0 {
-        if a[i - 1] != parts::byte_at(z, i - 1) {
-            return i;
-        }
-        i -= 1;
-    }
-    i
+    a.iter()
+        .zip(z)
+        .rposition(|(x, y)| x != y)
+        .map_or(0, |i| i + 1)
 }
 
 // A digit of base 16.
 fn digit(n: u8) -> u8 {
     let low = n % 16;
-    if low < 10 { 48 + low } else { 87 + low }
+    if low < 10 {
+        b'0' + low
+    } else {
+        b'a' + (low - 10)
+    }
 }
 
-fn hex(w: Window, out: &mut [u8], x: u8) -> Window {
-    put(w, out, &[digit(x / 16), digit(x)])
+fn hex(w: &mut Window, out: &mut [u8], x: u8) {
+    w.put_run(out, &[digit(x / 16), digit(x)]);
 }
 
 // Bytes in base 16.
-fn dump(w: Window, out: &mut [u8], s: &[u8]) -> Window {
-    let mut line = w;
-    let mut i = 0;
-    while i < s.len() {
-        line = hex(line, out, s[i]);
-        i += 1;
+fn dump(w: &mut Window, out: &mut [u8], s: &[u8]) {
+    for &x in s {
+        hex(w, out, x);
     }
-    line
 }
 
 // Where the buffer changed, and the bytes from the first to the last that did.
-fn changes(w: Window, out: &mut [u8], old: &[u8], buf: &[u8]) -> Window {
+fn changes(w: &mut Window, out: &mut [u8], old: &[u8], buf: &[u8]) {
     let to = last_change(buf, old);
     let from = first_change(buf, old);
-    if to <= from {
-        return w;
+    if from < to {
+        number(w, out, b" at ", narrow(from));
+        w.put_run(out, b" ");
+        dump(w, out, parts::part(buf, from, to - from));
     }
-    let w1 = number(w, out, b" at ", narrow(from));
-    let w2 = put(w1, out, b" ");
-    dump(w2, out, parts::part(buf, from, to - from))
 }
 
 // ---- steps
 
 // What a step of a code answers.
-fn answer(w: Window, out: &mut [u8], code: u8, a: Answer) -> Window {
-    let w1 = name(w, out, code);
-    let w2 = number(w1, out, b" number ", small(a.number));
-    let w3 = number(w2, out, b" length ", narrow(a.length));
-    put(w3, out, b" ")
+fn answer(w: &mut Window, out: &mut [u8], code: u8, a: Answer) {
+    name(w, out, code);
+    number(w, out, b" number ", u32::from(a.number));
+    number(w, out, b" length ", narrow(a.length));
+    w.put_run(out, b" ");
 }
 
 // The line of a step.
@@ -150,45 +133,33 @@ pub fn say_step(
     old: &[u8],
     buf: &[u8],
 ) -> io::Result<()> {
-    let w1 = answer(Window { at: 0, from: 0 }, out, code, a);
-    let w2 = state(w1, out, a.writer);
-    let w3 = changes(w2, out, old, buf);
-    end(rt, w3, out)
+    let mut w = Window { at: 0, from: 0 };
+    answer(&mut w, out, code, a);
+    state(&mut w, out, a.writer);
+    changes(&mut w, out, old, buf);
+    end(rt, &mut w, out)
 }
 
 // The line of a state.
 pub fn say_state(rt: &impl Print, out: &mut [u8], s: Writer) -> io::Result<()> {
-    let w = state(Window { at: 0, from: 0 }, out, s);
-    end(rt, w, out)
+    let mut w = Window { at: 0, from: 0 };
+    state(&mut w, out, s);
+    end(rt, &mut w, out)
 }
 
 // Whether a finished file is admitted.
-fn judged(rt: &impl Print, out: &mut [u8], file: &[u8]) -> io::Result<()> {
-    let w = Window { at: 0, from: 0 };
+fn judged(rt: &impl Print, file: &[u8]) -> io::Result<()> {
     match admit::admit(file) {
-        Admitted::Tape(_) => {
-            let w1 = put(w, out, b"admitted");
-            end(rt, w1, out)
-        }
-        Admitted::Refused(n) => {
-            let w1 = number(w, out, b"refused ", small(n));
-            end(rt, w1, out)
-        }
+        Ok(_) => println!(rt; "admitted"),
+        Err(reason) => println!(rt; "refused {}", reason.number()),
     }
 }
 
 // The line of a finished file; none of another answer.
-pub fn say_file(
-    rt: &impl Print,
-    out: &mut [u8],
-    code: u8,
-    a: Answer,
-    buf: &[u8],
-) -> io::Result<()> {
-    if code == FINISH {
-        if a.number == 0 {
-            return judged(rt, out, parts::part(buf, 0, a.length));
-        }
+pub fn say_file(rt: &impl Print, code: u8, a: Answer, buf: &[u8]) -> io::Result<()> {
+    if code == FINISH && a.number == 0 {
+        judged(rt, parts::part(buf, 0, a.length))
+    } else {
+        Ok(())
     }
-    Ok(())
 }

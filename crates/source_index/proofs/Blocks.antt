@@ -36,11 +36,14 @@ module _ {test : Test} {s : Bytes} {table : List ℕ} {b : ℕ} where
         right = λ h. record { block = λ j l k. absurd (omega arith) };
       }
 
-  pub fill-turn : {next end e p next' v : ℕ} → Filled test s b next table → 0 < b → end ≡ edge_of s b → e ≡ edge_of s (b - 1) → Sought test s e end p
+  pub fill-turn : {next end e p next' v : ℕ} → Filled test s b next table → 0 < b → end ≡ edge_of s (b - 1 + 1) → e ≡ edge_of s (b - 1) → Sought test s e end p
       → next' ≡ cond (ltb p end) p next → (next' < 2 ^ 32 → v ≡ next') → Filled test s (b - 1) next' (set table (b - 1) v)
-  fill-turn {next} {end} {e} {p} {next'} {v} f pos ed ee q en ev =
+  fill-turn {next} {end} {e} {p} {next'} {v} f pos behind ee q en ev =
       record { bound = omega (arith, f.bound, length-set table (b - 1) v); place = place; right = right }
     where
+      ed : end ≡ edge_of s b
+      ed = let same : b - 1 + 1 ≡ b = omega arith in behind ∙ ap (edge_of s) same
+
       go : (t : Bool) → ltb p end ≡ t → next' ≡ cond t p next → next' ≡ next_from test s e
       go true t n = n ∙ sought_hit q (omega arith) (ltb-true p end t)
       go false t n =
@@ -66,9 +69,6 @@ module _ {test : Test} {s : Bytes} {table : List ℕ} {b : ℕ} where
               let z = eqb-false j (b - 1) t in
               get_or-set_other table (b - 1) j v 0 z ∙ (f.right h).block j (omega arith) (omega (arith, length-set table (b - 1) v))
 
-  pub fill_done : {next : ℕ} → Filled test s b next table → b ≤ 0 → length s < 2 ^ 32 → Right test s table
-  fill_done f z h = record { block = λ j l k. (f.right h).block j (omega arith) k }
-
 -- ---- asking
 
 module _ {test : Test} {s : Bytes} {table : List ℕ} {i b : ℕ} (eb : b ≡ i / 64) where
@@ -78,12 +78,5 @@ module _ {test : Test} {s : Bytes} {table : List ℕ} {i b : ℕ} (eb : b ≡ i 
       q ∙ sym (next-same test s (edge_of s b) i (omega arith) (omega arith))
 
 module _ {test : Test} {s : Bytes} {table : List ℕ} {i b end p : ℕ} (eb : b ≡ i / 64 + 1) (ee : end ≡ edge_of s b) (q : Sought test s i end p) where
-  pub ask_near : p < end → Right test s table → i ≤ length s → p ≡ next_from test s i
-  ask_near l t h = sought_hit q (omega arith) l
-
-  pub ask_table : {r : ℕ} → end ≤ p → end < length s → b < length table → r ≡ get_or table b 0 → Right test s table → i ≤ length s → r ≡ next_from test s i
-  ask_table l m k er t h =
-      er ∙ t.block b (omega arith) k ∙ sym (ap (next_from test s) ee) ∙ sought_none q (omega arith) (omega arith) l
-
   pub ask_far : {n r : ℕ} → end ≤ p → n ≡ length s → Sought test s end n r → Right test s table → i ≤ length s → r ≡ next_from test s i
   ask_far l en z t h = sought_all en z (omega arith) ∙ sought_none q (omega arith) (omega arith) l

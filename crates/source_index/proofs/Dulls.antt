@@ -191,36 +191,3 @@ module _ (s : Bytes) (some : length s ≡ 0 → ⊥) (d : Dull (get_or s 0 0)) w
       go false ea false eb false ec true ef = four (ltb-false _ _ ec) (leb-true _ _ ef)
       go false ea false eb false ec false ef =
           odd (len_at s some ∙ no_rows (get_or s 0 0) (get_or s 1 0) (get_or s 2 0) (get_or s 3 0) (leb-false _ _ ef))
-
--- ---- the test of a byte
-
-pub opens_yes : {x : ℕ} → true ≡ false → Dull x
-opens_yes e = absurd (let no_way : ◌≡◌ {A = ℕ} 0 1 = cc in omega arith)
-
-pub ascii_yes : {x : ℕ} → 32 < x → x < 128 → true ≡ false → Dull x
-ascii_yes l h e = opens_yes e
-
-pub ascii_no : {x : ℕ} → (x ≡ 42 → ⊥) → (x ≡ 92 → ⊥) → 32 < x → x < 128 → eqb x 124 ≡ false → Dull x
-ascii_no {x} s b l h e =
-    record {
-      low = l;
-      star = s;
-      slash = b;
-      bar = eqb-false x 124 e;
-      two = λ q. omega arith;
-      three = λ q. absurd (omega arith);
-    }
-
-pub opens_low : {x : ℕ} {r : Bool} → 32 < x → x < 128 → (32 < x → x < 128 → r ≡ false → Dull x) → r ≡ false → Dull x
-opens_low l h f e = f l h e
-
-module _ {x : ℕ} (h : 128 ≤ x) (t : x ≡ 194 → ⊥) where
-  high : (225 ≤ x → 227 < x) → Dull x
-  high f =
-      record { low = omega arith; star = λ q. omega arith; slash = λ q. omega arith; bar = λ q. omega arith; two = t; three = f }
-
-  pub opens_middle : x < 225 → false ≡ false → Dull x
-  opens_middle l e = high (λ q. absurd (omega arith))
-
-  pub opens_high : 225 ≤ x → ltb x 228 ≡ false → Dull x
-  opens_high l e = let k = ltb-false x 228 e in high (λ q. omega arith)

@@ -19,7 +19,7 @@ use Rattle.words.specs.Words.{white}
 use Rattle.tape.specs.Name.{ends_name_of}
 use Rattle.source_index.specs.Seek.{ends_at, white_at, solid_at, gap_at, solid_byte, passes_at, next_from, Sought, Dull}
 use Rattle.source_index.specs.declared.Test.{Test}
-use Rattle.source_index.specs.declared.Test.TheVariants.{Ender, Gap, Solid}
+use Rattle.source_index.specs.declared.Test.TheVariants.{Ender, Gap}
 use Rattle.source_index.proofs.Dulls.{dull_first, ends_white_not}
 
 -- ---- tests
@@ -125,19 +125,6 @@ module _ (s : Bytes) (i : ℕ) where
   unfolding solid_byte
   byte_past h = rw (drop_of_length-le s h)
 
-module _ (s : Bytes) (i : ℕ) {test : Test} {r : Bool} where
-  pub passes_ender : test ≡ Ender → r ≡ ends_at (drop i s) → r ≡ passes_at test (drop i s)
-  unfolding passes_at
-  passes_ender e er = rw e er
-
-  pub passes_gap : test ≡ Gap → r ≡ gap_at (drop i s) → r ≡ passes_at test (drop i s)
-  unfolding passes_at
-  passes_gap e er = rw e er
-
-  pub passes-solid : test ≡ Solid → r ≡ solid_byte (drop i s) → r ≡ passes_at test (drop i s)
-  unfolding passes_at
-  passes-solid e er = rw e er
-
 -- ---- the first that passes
 
 module _ (p : Bytes → Bool) where
@@ -214,9 +201,6 @@ pub record Passed (test : Test) (s : Bytes) (i end at : ℕ) : Type 0 where
   pub behind : i ≤ end → at ≤ end
   pub same : end ≤ length s → next_from test s at ≡ next_from test s i
 
-pub look_start : (test : Test) (s : Bytes) (i end : ℕ) → Passed test s i end i
-look_start test s i end = record { ahead = omega arith; behind = λ h. h; same = λ h. refl }
-
 module _ {test : Test} {s : Bytes} {i end at : ℕ} (q : Passed test s i end at) where
   pub look_found : {b : Bool} → at < end → b ≡ passes_at test (drop at s) → b ≡ true → Sought test s i end at
   look_found h eb e =
@@ -229,9 +213,6 @@ module _ {test : Test} {s : Bytes} {i end at : ℕ} (q : Passed test s i end at)
         behind = λ l. omega arith;
         same = λ l. next_miss test s at (omega arith) (sym eb ∙ e) ∙ q.same l;
       }
-
-  pub look_end : end ≤ at → Sought test s i end at
-  look_end h = record { behind = q.behind; ahead = q.ahead; stopped = λ l. absurd (omega arith); same = q.same }
 
 module _ {test : Test} {s : Bytes} {i r : ℕ} where
   -- a search up to the text's end

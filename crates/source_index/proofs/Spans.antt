@@ -3,9 +3,9 @@ use mathlib.Core.Path.{◌≡◌, refl, sym, ap, ◌∙◌}
 use mathlib.Core.Bool.{Bool, true, false, cond, not, ◌&&◌}
 use mathlib.Core.Logic.{◌↔◌, ◌⊎◌, inl, inr, ⊎_elim}
 use mathlib.Core.List.{List, [], ◌∷◌, ◌++◌, flatten}
-use Prim.Native.Nat.{ℕ, suc, ◌+◌, ◌-◌, ◌≤◌, ◌<◌, ◌^◌}
+use Prim.Native.Nat.{ℕ, suc, ◌+◌, ◌-◌, ◌≤◌, ◌<◌}
 use native.Mathlib.Omega.{arith}
-use lib.ListN.{length, get_or, take, drop, length-take, length-drop, length-append, take-append-drop, get_or-eq_default}
+use lib.ListN.{length, get_or, take, drop, length-drop, length-append, take-append-drop, get_or-eq_default}
 use lib.Seq.{drop-drop, length-take-le, get_or-drop}
 use lib.Dec.{eqb, ltb}
 use borrow.Author.Tests.{lt-ltb, le-ltb, ltb-true, ltb-false, eqb-true, not-true}
@@ -20,16 +20,9 @@ use Rattle.words.specs.declared.Set.TheVariants.{Unicode}
 use Rattle.words.proofs.Rows.{Row, none, more, row_cut}
 use Rattle.words.proofs.Steps.{Apart}
 use Rattle.words.proofs.Texts.{chars_apart}
-use Rattle.tape.specs.File.{source_at, tape_in}
-use Rattle.tape.specs.declared.Sections.{Sections}
 use Rattle.tape.specs.Name.{strip, bare, in_name_of, name_len}
 use Rattle.source_index.specs.Seek.{white_at, solid_at, to_word}
 use Rattle.source_index.proofs.Runs.{characters-first, name-le, name-solid}
-
--- the source is no longer than its count says
-pub source_short : (c : Sections) (file : Bytes) → c.source < 2 ^ 32 → length (tape_in c file).source < 2 ^ 32
-unfolding tape_in
-source_short c file h = omega (arith, length-take c.source (drop (source_at c) file))
 
 -- ---- rows of characters
 

@@ -1,7 +1,7 @@
 #![tactic(auto)]
 // Places of a text that pass a test, asked through tables: whatever the text, an answer costs at most a block of 64 bytes.
-ghost use Rattle.std.specs.Prelude.{◌≡◌, false, cond, ◌+◌, ◌≤◌, ◌<◌, ◌^◌, length, drop, ltb};
-ghost use Rattle.chars.specs.Utf8.{step, characters};
+ghost use Rattle.std.specs.Prelude.{◌≡◌, false, ◌+◌, ◌≤◌, ◌<◌, ◌^◌, length, drop, ltb};
+ghost use Rattle.chars.specs.Utf8.{characters};
 ghost use Rattle.tape.specs.Name.{name_len};
 ghost use Rattle.source_index.specs.Seek.{ends_at, solid_at, gap_at, solid_byte, passes_at, next_from, edge_of, Right, Sought, to_word, Dull};
 
@@ -19,79 +19,39 @@ pub enum Test {
 fn opens(x: u8) -> bool
     ensures { result ≡ false → Dull x }
 {
-    if x <= 0x20 {
-        return true;
-    }
-    if x < 0x80 {
-        return opens_ascii(x);
-    }
-    if x == 0xC2 {
-        return true;
-    }
-    if x < 0xE1 {
-        return false;
-    }
-    x < 0xE4
-}
-
-// The same of a byte in 21..7F.
-fn opens_ascii(x: u8) -> bool
-    ensures { 32 < x → x < 128 → result ≡ false → Dull x }
-{
-    if x == 0x2A {
-        return true;
-    }
-    if x == 0x5C {
-        return true;
-    }
-    x == 0x7C
+    matches!(x, 0x00..=0x20 | b'*' | b'\\' | b'|' | 0xC2 | 0xE1..=0xE3)
 }
 
 fn ends_at(s: &[u8], i: usize) -> bool
     ensures { result ≡ ends_at (drop i s.now) }
 {
-    if i < s.len() {
-        if opens(s[i]) {
-            let c = chars::first_char(parts::from(s, i));
-            return tape::ends_name(c.code);
-        }
-    }
-    false
+    i < s.len() && opens(s[i]) && tape::ends_name(chars::first_char(parts::from(s, i)).code)
 }
 
 fn solid_at(s: &[u8], i: usize) -> bool
     ensures { result ≡ solid_at (drop i s.now) }
 {
-    if i < s.len() {
-        let c = chars::first_char(parts::from(s, i));
-        return !chars::is_white(c.code);
-    }
-    false
+    i < s.len() && !chars::is_white(chars::first_char(parts::from(s, i)).code)
 }
 
 fn gap_at(s: &[u8], i: usize) -> bool
     ensures { result ≡ gap_at (drop i s.now) }
 {
-    if i < s.len() {
-        if opens(s[i]) {
-            let c = chars::first_char(parts::from(s, i));
-            if chars::is_white(c.code) {
-                return solid_at(s, i + c.width);
-            }
-        }
+    if i < s.len() && opens(s[i]) {
+        let c = chars::first_char(parts::from(s, i));
+        chars::is_white(c.code) && solid_at(s, i + c.width)
+    } else {
+        false
     }
-    false
 }
 
 fn solid_byte(s: &[u8], i: usize) -> bool
     ensures { result ≡ solid_byte (drop i s.now) }
 {
-    if i < s.len() {
-        return !chars::is_ascii_white(s[i]);
-    }
-    false
+    i < s.len() && !chars::is_ascii_white(s[i])
 }
 
+#[tactic(auto, unfolding(crate::specs::Seek::passes_at))]
 fn passes(s: &[u8], i: usize, test: Test) -> bool
     ensures { result ≡ passes_at test (drop i s.now) }
 {
@@ -106,14 +66,12 @@ fn passes(s: &[u8], i: usize, test: Test) -> bool
 fn look(s: &[u8], test: Test, i: usize, end: usize) -> usize
     ensures { Sought test s.now i end result }
 {
-    let mut at = i;
-    while at < end {
+    for at in i..end {
         if passes(s, at, test) {
             return at;
         }
-        at += 1;
     }
-    at
+    i.max(end)
 }
 
 // Where a block starts, as far as the text reaches.
@@ -127,27 +85,20 @@ fn edge(s: &[u8], b: usize) -> usize
 fn short(x: usize) -> u32
     ensures { x < 2 ^ 32 → result ≡ x }
 {
-    if x < 0x100000000 { x as u32 } else { 0 }
-}
-
-// A place that was found before the end of a search, or else another.
-fn found_or(p: usize, end: usize, other: usize) -> usize
-    ensures { result ≡ cond (ltb p end) p other }
-{
-    if p < end { p } else { other }
+    u32::try_from(x).unwrap_or(0)
 }
 
 // Fills a table of a text, from the last block to the first.
 pub fn fill(table: &mut [u32], s: &[u8], test: Test)
     ensures { length s.now < 2 ^ 32 → Right test s.now table.new }
 {
-    let mut b = table.len();
-    let mut next = look(s, test, edge(s, b), s.len());
-    while 0 < b {
-        let end = edge(s, b);
-        b -= 1;
+    let mut next = look(s, test, edge(s, table.len()), s.len());
+    for b in (0..table.len()).rev() {
+        let end = edge(s, b + 1);
         let p = look(s, test, edge(s, b), end);
-        next = found_or(p, end, next);
+        if p < end {
+            next = p;
+        }
         table[b] = short(next);
     }
 }
@@ -162,10 +113,8 @@ fn next_near(table: &[u32], s: &[u8], test: Test, i: usize) -> usize
     if p < end {
         return p;
     }
-    if end < s.len() {
-        if b < table.len() {
-            return long(table[b]);
-        }
+    if end < s.len() && b < table.len() {
+        return long(table[b]);
     }
     look(s, test, end, s.len())
 }
@@ -190,17 +139,7 @@ pub fn name_passes(enders: &[u32], s: &[u8], at: usize, base: usize) -> bool
     ensures { Right Test.Ender s.now enders.now → at ≤ length s.now → result ≡ ltb base (name_len (drop at s.now)) }
 {
     let p = next(enders, s, Test::Ender, at);
-    if at < p {
-        return base < p - at;
-    }
-    false
-}
-
-fn width_at(s: &[u8], i: usize) -> usize
-    ensures { result ≡ step (drop i s.now) }
-{
-    let c = chars::first_char(parts::from(s, i));
-    c.width
+    at < p && base < p - at
 }
 
 // Whether a word that white space precedes starts behind a place and before another.
@@ -208,5 +147,5 @@ pub fn word_follows(gaps: &[u32], s: &[u8], at: usize, end: usize) -> bool
     ensures { Right Test.Gap s.now gaps.now → at ≤ length s.now → result ≡ ltb (at + to_word false (characters (drop at s.now))) end }
 {
     let p = next(gaps, s, Test::Gap, at);
-    p + width_at(s, p) < end
+    p + chars::first_char(parts::from(s, p)).width < end
 }

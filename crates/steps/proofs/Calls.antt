@@ -1,10 +1,12 @@
 -- What a call leaves, from what its parts ensure.
 use mathlib.Core.Path.{◌≡◌, refl, subst, ◌∙◌}
 use mathlib.Core.List.{List, [], ◌∷◌}
-use Prim.Native.Nat.{ℕ, ◌≤◌, ◌<◌}
+use Prim.Native.Nat.{ℕ, ◌≤◌, min}
 use native.Mathlib.Omega.{arith}
 use lib.ListN.{length, set}
-use borrow.Author.Tests.{le-leb, lt-leb}
+use borrow.Author.Tests.{leb-true, leb-false}
+use lib.Dec.{leb}
+use mathlib.Core.Bool.{Bool, true, false, cond}
 use Rattle.parts.specs.Bytes.{Bytes}
 use Rattle.layout.specs.declared.Writer.{Writer}
 use Rattle.writer.specs.declared.Answer.{Answer}
@@ -13,13 +15,13 @@ use Rattle.steps.specs.Numbers.{phase_in_of, writer_in, kept_in, stored_in, Call
 
 -- ---- phases
 
-pub phase_known : {p : ℕ} → p ≤ 2 → p ≡ phase_in_of p
+pub phase_least : (p : ℕ) → min p 3 ≡ phase_in_of p
 unfolding phase_in_of
-phase_known {p} h = rw (le-leb p 2 h)
-
-pub phase_odd : {p : ℕ} → 2 < p → 3 ≡ phase_in_of p
-unfolding phase_in_of
-phase_odd {p} h = rw (lt-leb p 2 h)
+phase_least p = go (leb p 2) refl
+  where
+    go : (b : Bool) → leb p 2 ≡ b → min p 3 ≡ cond b p 3
+    go true e = omega (arith, leb-true p 2 e)
+    go false e = omega (arith, leb-false p 2 e)
 
 -- ---- numbers
 

@@ -15,6 +15,7 @@ pub fn read_full<R: Read>(input: &mut R, space: &mut [u8]) -> io::Result<usize>
     ensures end { IfOk result (λ n. n < length space.new → IsAtEnd (R.remaining input.new)) }
 {
     let mut done = 0;
+    // A `while`: each turn reads as many bytes as the reader gives at once.
     while done < space.len() {
         let n = input.read(&mut space[done..])?;
         if n == 0 {

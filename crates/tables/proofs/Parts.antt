@@ -8,8 +8,8 @@ use Rattle.parts.specs.Bytes.{Bytes}
 use Rattle.tape.specs.File.{Tape}
 use Rattle.tape.specs.Tree.{first_child, next_sibling, walk_from, children, up_to}
 use Rattle.tape.specs.declared.Cursor.{Cursor}
-use Rattle.tape.specs.declared.Step.{Step}
-use Rattle.tape.specs.declared.Step.TheVariants.{At, Done}
+use Rattle.tape.specs.Found.{Step}
+use Rattle.std.specs.Prelude.{None, Some}
 use Rattle.tape.proofs.Walk.{walk_turn, walk_end}
 use Rattle.render.specs.Shape.{is_row}
 use Rattle.render.specs.Children.{has_content_of}
@@ -30,6 +30,7 @@ use Rattle.roles.specs.Roles.{manner_by}
 use Rattle.holders.specs.Rows.{cell_attrs, row_opens, row_closes, table_opens, table_closes}
 use Rattle.tables.specs.Rows.{is_no_row}
 use Rattle.tables.proofs.Spans.{up-row, up-other, up_none}
+use Rattle.desk.specs.declared.Desk.{Desk as Held}
 
 -- ---- a cell
 
@@ -39,28 +40,28 @@ unfolding element emit_all
 cell-around t k d ys ee ef eg = between d (item (start 12 (cell_attrs t k)) ∷ []) ys (item (close 12) ∷ []) ee ef eg
 
 -- the desk behind a cell with something in it
-pub cell_full : (t : Tape) (k depth : ℕ) (at a z r : ℕ) (d d₁ d₂ d₃ : List ℕ) (out mid now last : Bytes)
-    → desk_of t.source a d₁ mid ≡ emit (desk_of t.source at d out) (item (start 12 (cell_attrs t k)))
-    → desk_of t.source z d₂ now ≡ emit_all (desk_of t.source a d₁ mid) (inside t depth (manner_by false) k false)
-    → Drew z d₂ now (closes 12 ∷ []) r d₃ last
-    → desk_of t.source r d₃ last
-    ≡ emit_all (desk_of t.source at d out) (element 12 (cell_attrs t k) (inside t depth as_inline k false))
+pub cell_full : (t : Tape) (k depth : ℕ) (at a z r : ℕ) (d d₁ d₂ d₃ : Held) (out mid now last : Bytes)
+    → desk_of t.source d₁ mid ≡ emit (desk_of t.source d out) (item (start 12 (cell_attrs t k)))
+    → desk_of t.source d₂ now ≡ emit_all (desk_of t.source d₁ mid) (inside t depth (manner_by false) k false)
+    → Drew d₂ now (closes 12 ∷ []) d₃ last
+    → desk_of t.source d₃ last
+    ≡ emit_all (desk_of t.source d out) (element 12 (cell_attrs t k) (inside t depth as_inline k false))
 unfolding manner_by strokes_of
 cell_full t k depth at a z r d d₁ d₂ d₃ out mid now last ea ez er =
-    cell-around t k (desk_of t.source at d out) (inside t depth as_inline k false) ea ez (drew_item d₂ d₃ (close 12) er t.source)
+    cell-around t k (desk_of t.source d out) (inside t depth as_inline k false) ea ez (drew_item d₂ d₃ (close 12) er t.source)
 
-module _ (t : Tape) (k depth level at a r : ℕ) (d d₁ d₂ : List ℕ) (out mid last : Bytes)
-    (ea : (source : Bytes) → desk_of source a d₁ mid ≡ emit (desk_of source at d out) (item (line level))) {x : Bool} (ex : x ≡ has_content_of t k) where
+module _ (t : Tape) (k depth level a : ℕ) (d d₁ d₂ : Held) (out mid last : Bytes)
+    (ea : (source : Bytes) → desk_of source d₁ mid ≡ emit (desk_of source d out) (item (line level))) {x : Bool} (ex : x ≡ has_content_of t k) where
   pub cell_with : x ≡ true
-      → desk_of t.source r d₂ last ≡ emit_all (desk_of t.source a d₁ mid) (element 12 (cell_attrs t k) (inside t depth as_inline k false))
-      → desk_of t.source r d₂ last ≡ emit_all (desk_of t.source at d out) (cell_in (inside t depth) t level k)
+      → desk_of t.source d₂ last ≡ emit_all (desk_of t.source d₁ mid) (element 12 (cell_attrs t k) (inside t depth as_inline k false))
+      → desk_of t.source d₂ last ≡ emit_all (desk_of t.source d out) (cell_in (inside t depth) t level k)
   unfolding cell_in emit_all
   cell_with hx er =
       rw (← ex, hx) (er ∙ ap (λ (w : Desk). emit_all w (element 12 (cell_attrs t k) (inside t depth as_inline k false))) (ea t.source))
 
   pub cell-without : x ≡ false
-      → desk_of t.source r d₂ last ≡ emit (desk_of t.source a d₁ mid) (item (empty 12 (cell_attrs t k)))
-      → desk_of t.source r d₂ last ≡ emit_all (desk_of t.source at d out) (cell_in (inside t depth) t level k)
+      → desk_of t.source d₂ last ≡ emit (desk_of t.source d₁ mid) (item (empty 12 (cell_attrs t k)))
+      → desk_of t.source d₂ last ≡ emit_all (desk_of t.source d out) (cell_in (inside t depth) t level k)
   unfolding cell_in emit_all
   cell-without hx er = rw (← ex, hx) (er ∙ ap (λ (w : Desk). emit w (item (empty 12 (cell_attrs t k)))) (ea t.source))
 
@@ -72,11 +73,11 @@ module _ (t : Tape) (depth level : ℕ) (d : Desk) where
   cells_on s = emit_all d (cells_along (inside t depth) t level (walk_from t s))
 
 module _ (t : Tape) (depth level : ℕ) (d₀ d : Desk) (s₀ s : Step) (inv : cells_on t depth level d s ≡ cells_on t depth level d₀ s₀) where
-  pub cells_end : s ≡ Done → d ≡ emit_all d₀ (cells_along (inside t depth) t level (walk_from t s₀))
+  pub cells_end : s ≡ None → d ≡ emit_all d₀ (cells_along (inside t depth) t level (walk_from t s₀))
   unfolding cells_on cells_along emit_all
   cells_end e = sym (ap (λ (ks : List ℕ). emit_all d (cells_along (inside t depth) t level ks)) (walk_end t e)) ∙ inv
 
-  module _ (c : Cursor) (es : s ≡ At c) {n : Step} (en : n ≡ next_sibling t c.at) {x : Bool} (ex : x ≡ is_cell_of t c.at) where
+  module _ (c : Cursor) (es : s ≡ Some c) {n : Step} (en : n ≡ next_sibling t c.at) {x : Bool} (ex : x ≡ is_cell_of t c.at) where
     here : emit_all d (cond x (cell_in (inside t depth) t level c.at) [] ++ cells_along (inside t depth) t level (walk_from t n)) ≡ cells_on t depth level d₀ s₀
     unfolding cells_on cells_along
     here =
@@ -114,15 +115,15 @@ module _ (t : Tape) (k level : ℕ) (d : Desk) where
 -- ---- rows
 
 -- a row from its tags and its cells
-pub row_whole : (t : Tape) (k level : ℕ) {deep depth : ℕ} → deep ≡ depth → (at a z r : ℕ) (d d₁ d₂ d₃ : List ℕ) (out mid now last : Bytes)
-    → ((source : Bytes) → desk_of source a d₁ mid ≡ emit_all (desk_of source at d out) (row_opens (level + 1)))
-    → desk_of t.source z d₂ now ≡ emit_all (desk_of t.source a d₁ mid) (cells t deep (level + 2) k)
-    → ((source : Bytes) → desk_of source r d₃ last ≡ emit_all (desk_of source z d₂ now) (row_closes (level + 1)))
-    → desk_of t.source r d₃ last ≡ emit_all (desk_of t.source at d out) (row_e t depth level k)
+pub row_whole : (t : Tape) (k level : ℕ) {deep depth : ℕ} → deep ≡ depth → (at a z r : ℕ) (d d₁ d₂ d₃ : Held) (out mid now last : Bytes)
+    → ((source : Bytes) → desk_of source d₁ mid ≡ emit_all (desk_of source d out) (row_opens (level + 1)))
+    → desk_of t.source d₂ now ≡ emit_all (desk_of t.source d₁ mid) (cells t deep (level + 2) k)
+    → ((source : Bytes) → desk_of source d₃ last ≡ emit_all (desk_of source d₂ now) (row_closes (level + 1)))
+    → desk_of t.source d₃ last ≡ emit_all (desk_of t.source d out) (row_e t depth level k)
 unfolding row_e row_opens row_closes
 row_whole t k level {deep} ed at a z r d d₁ d₂ d₃ out mid now last ea ez er =
-    between (desk_of t.source at d out) (row_opens (level + 1)) (cells t deep (level + 2) k) (row_closes (level + 1)) (ea t.source) ez (er t.source)
-    ∙ ap (λ (j : ℕ). emit_all (desk_of t.source at d out) (row_e t j level k)) ed
+    between (desk_of t.source d out) (row_opens (level + 1)) (cells t deep (level + 2) k) (row_closes (level + 1)) (ea t.source) ez (er t.source)
+    ∙ ap (λ (j : ℕ). emit_all (desk_of t.source d out) (row_e t j level k)) ed
 
 -- what the rows from a step on still give
 module _ (t : Tape) (span : Span) (depth level : ℕ) (d : Desk) where
@@ -134,10 +135,10 @@ module _ (t : Tape) (span : Span) (depth level : ℕ) (d₀ d : Desk) (s₀ s : 
   unfolding rows_on rows_e emit_all
   over e = sym (ap (λ (ks : List ℕ). emit_all d (rows_e t depth level ks)) e) ∙ inv
 
-  pub rows_end : s ≡ Done → d ≡ emit_all d₀ (rows_e t depth level (up_to (is_no_row t) (nodes_in t span s₀)))
+  pub rows_end : s ≡ None → d ≡ emit_all d₀ (rows_e t depth level (up_to (is_no_row t) (nodes_in t span s₀)))
   rows_end e = over (up_none t (nodes_done t span e))
 
-  module _ {c : Cursor} (es : s ≡ At c) {m : Member} (em : m ≡ member_of_of t span c.at) where
+  module _ {c : Cursor} (es : s ≡ Some c) {m : Member} (em : m ≡ member_of_of t span c.at) where
     pub rows_cut : m ≡ End → d ≡ emit_all d₀ (rows_e t depth level (up_to (is_no_row t) (nodes_in t span s₀)))
     rows_cut h = over (up_none t (nodes-cut t span es em h))
 
@@ -163,11 +164,11 @@ module _ (t : Tape) (span : Span) (depth level : ℕ) (d₀ d : Desk) (s₀ s : 
 -- ---- a table
 
 -- a table from its tags and its rows
-pub table_whole : (t : Tape) (depth level : ℕ) (ks : List ℕ) (at a z r : ℕ) (d d₁ d₂ d₃ : List ℕ) (out mid now last : Bytes)
-    → ((source : Bytes) → desk_of source a d₁ mid ≡ emit_all (desk_of source at d out) (table_opens level))
-    → desk_of t.source z d₂ now ≡ emit_all (desk_of t.source a d₁ mid) (rows_e t depth level ks)
-    → ((source : Bytes) → desk_of source r d₃ last ≡ emit_all (desk_of source z d₂ now) (table_closes level))
-    → desk_of t.source r d₃ last ≡ emit_all (desk_of t.source at d out) (table_e t depth level ks)
+pub table_whole : (t : Tape) (depth level : ℕ) (ks : List ℕ) (at a z r : ℕ) (d d₁ d₂ d₃ : Held) (out mid now last : Bytes)
+    → ((source : Bytes) → desk_of source d₁ mid ≡ emit_all (desk_of source d out) (table_opens level))
+    → desk_of t.source d₂ now ≡ emit_all (desk_of t.source d₁ mid) (rows_e t depth level ks)
+    → ((source : Bytes) → desk_of source d₃ last ≡ emit_all (desk_of source d₂ now) (table_closes level))
+    → desk_of t.source d₃ last ≡ emit_all (desk_of t.source d out) (table_e t depth level ks)
 unfolding table_e table_opens table_closes
 table_whole t depth level ks at a z r d d₁ d₂ d₃ out mid now last ea ez er =
-    between (desk_of t.source at d out) (table_opens level) (rows_e t depth level ks) (table_closes level) (ea t.source) ez (er t.source)
+    between (desk_of t.source d out) (table_opens level) (rows_e t depth level ks) (table_closes level) (ea t.source) ez (er t.source)

@@ -19,8 +19,7 @@ use Rattle.tags.specs.declared.Class.{Class}
 use Rattle.tags.specs.declared.Class.TheVariants.{Text, Value, Key}
 use Rattle.tags.specs.declared.Named.{Named}
 use Rattle.tags.specs.declared.Named.TheVariants.{Name, Unnamed}
-use Rattle.tags.specs.declared.Found.{Found}
-use Rattle.tags.specs.declared.Found.TheVariants.{Got, Nothing}
+use Rattle.std.specs.Prelude.{Option as Optional, Some, None}
 use Rattle.tags.specs.declared.Head.TheVariants.{Bad, Words, Closing}
 use Rattle.tags.specs.declared.Tail.TheVariants.{Open, Empty, Neither}
 use Rattle.tags.proofs.Laws.{run-le, pair_says}
@@ -173,7 +172,7 @@ element_says s n l e =
 
 -- ---- attributes
 
-module _ (s : Bytes) (k v : ℕ) (e : pair_at s ≡ Got k v) where
+module _ (s : Bytes) (k v : ℕ) (e : pair_at s ≡ Some (k, v)) where
   s₁ : Bytes
   s₁ = drop 1 s
 
@@ -222,10 +221,10 @@ unfolding pairs_at write_pairs
 pairs_say zero s = (refl, no_pair)
 pairs_say (suc n) s = go (pair_at s) refl (pairs_say n)
   where
-    go : (p : Found) → pair_at s ≡ p → ((r : Bytes) → (write_pairs (pairs_at n r).list (pairs_at n r).rest ≡ r) × CleanPairs (pairs_at n r).list)
+    go : (p : Optional (ℕ × ℕ)) → pair_at s ≡ p → ((r : Bytes) → (write_pairs (pairs_at n r).list (pairs_at n r).rest ≡ r) × CleanPairs (pairs_at n r).list)
         → (write_pairs (more_pairs (pairs_at n) s p).list (more_pairs (pairs_at n) s p).rest ≡ s) × CleanPairs (more_pairs (pairs_at n) s p).list
-    go Nothing e rest = (refl, no_pair)
-    go (Got k v) e rest =
+    go None e rest = (refl, no_pair)
+    go (Some (k, v)) e rest =
         let r = rest (drop (pair_len k v) s) in
         (ap (write_pair (pair_of s k v)) r.0 ∙ pair-written s k v e, more (pair_clean s k v e) r.1)
 

@@ -17,7 +17,7 @@ use Rattle.tags.specs.Write.{write_pair, write_pairs, write, write_all, Clean, C
 use Rattle.tags.specs.declared.Class.{Class}
 use Rattle.tags.specs.declared.Class.TheVariants.{Text, Value, Key}
 use Rattle.tags.specs.declared.Named.TheVariants.{Name}
-use Rattle.tags.specs.declared.Found.TheVariants.{Got, Nothing}
+use Rattle.std.specs.Prelude.{Some, None}
 use Rattle.tags.proofs.Laws.{pairs-by, pair_got}
 use Rattle.tags.proofs.Tokens.{tokens-by}
 
@@ -77,7 +77,7 @@ stop_value : (r : Bytes) → run (ok Value) (b "\"" ++ r) ≡ 0
 unfolding run ok plain
 stop_value r = refl
 
-pub pair_write : (a : Pair) (r : Bytes) → CleanPair a → pair_at (write_pair a r) ≡ Got (length a.key) (length a.value)
+pub pair_write : (a : Pair) (r : Bytes) → CleanPair a → pair_at (write_pair a r) ≡ Some (length a.key, length a.value)
 unfolding write_pair begins
 pair_write a r h =
     let s₃ : Bytes = a.value ++ (b "\"" ++ r) in
@@ -100,9 +100,9 @@ rest-write a r =
     let e : length a.key + length a.value + 4 ≡ suc (length a.key + suc (suc (length a.value + 1))) = omega arith in
     rw (e, drop-append-add a.key (b "=\"" ++ (a.value ++ (b "\"" ++ r))) (suc (suc (length a.value + 1))), drop-append-add a.value (b "\"" ++ r) 1)
 
-pub pairs-write : (ps : List Pair) (r : Bytes) → CleanPairs ps → pair_at r ≡ Nothing → pairs_row (write_pairs ps r) ≡ record { list = ps; rest = r }
+pub pairs-write : (ps : List Pair) (r : Bytes) → CleanPairs ps → pair_at r ≡ None → pairs_row (write_pairs ps r) ≡ record { list = ps; rest = r }
 unfolding write_pairs
-pairs-write [] r no_pair e = pairs-by r Nothing e
+pairs-write [] r no_pair e = pairs-by r None e
 pairs-write (a ∷ ps) r (more h hs) e =
     pairs-by (write_pair a (write_pairs ps r)) _ (pair_write a (write_pairs ps r) h)
     ∙ rw (pair_of_write a (write_pairs ps r), rest-write a (write_pairs ps r), pairs-write ps r hs e)
@@ -114,11 +114,11 @@ unfolding run ok plain escape_at begins
 stop_text r = refl
 
 -- behind a tag no pair stands
-shut_open : (r : Bytes) → pair_at (b ">" ++ r) ≡ Nothing
+shut_open : (r : Bytes) → pair_at (b ">" ++ r) ≡ None
 unfolding pair_at begins
 shut_open r = refl
 
-shut_empty : (r : Bytes) → pair_at (b " />" ++ r) ≡ Nothing
+shut_empty : (r : Bytes) → pair_at (b " />" ++ r) ≡ None
 unfolding pair_at begins run ok plain key_byte_of
 shut_empty r = refl
 

@@ -14,8 +14,7 @@ use Rattle.tags.specs.Form.{ok, run, Row, pair_at, pair_len, more_pairs, pairs_a
 use Rattle.tags.specs.declared.Class.TheVariants.{Text}
 use Rattle.tags.specs.declared.Named.{Named}
 use Rattle.tags.specs.declared.Named.TheVariants.{Name, Unnamed}
-use Rattle.tags.specs.declared.Found.{Found}
-use Rattle.tags.specs.declared.Found.TheVariants.{Got, Nothing}
+use Rattle.std.specs.Prelude.{Option, Some, None}
 use Rattle.tags.specs.declared.Head.{Head}
 use Rattle.tags.specs.declared.Head.TheVariants.{Bad, Words, Closing, Opening}
 use Rattle.tags.specs.declared.Tail.{Tail}
@@ -92,9 +91,9 @@ unfolding pairs_at
 rest_le zero s = omega arith
 rest_le (suc n) s = go (pair_at s) (rest_le n)
   where
-    go : (p : Found) → ((r : Bytes) → length (pairs_at n r).rest ≤ length r) → length (more_pairs (pairs_at n) s p).rest ≤ length s
-    go Nothing more = omega arith
-    go (Got k v) more = omega (arith, more (drop (pair_len k v) s), length-drop (pair_len k v) s)
+    go : (p : Option (ℕ × ℕ)) → ((r : Bytes) → length (pairs_at n r).rest ≤ length r) → length (more_pairs (pairs_at n) s p).rest ≤ length s
+    go None more = omega arith
+    go (Some (k, v)) more = omega (arith, more (drop (pair_len k v) s), length-drop (pair_len k v) s)
 
 ended_shorter : (n m : ℕ) (ps : Row) (t : Tail) → length ps.rest < n → Shorter n (ended m ps t)
 unfolding ended

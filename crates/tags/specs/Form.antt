@@ -1,14 +1,13 @@
 -- The tag form: a text as a list of tokens.
 use Rattle.std.specs.Prelude.{ℕ, zero, suc, ◌+◌, ◌-◌, List, [], ◌∷◌, Bool, true, false, cond, not, ◌&&◌, ◌||◌, length, take, drop, get_or, eqb, ltb}
 use Rattle.std.proofs.Math.Option.{Option, some, none}
+use Rattle.std.specs.Prelude.{Option as Optional, Some, None}
 use Rattle.parts.specs.Bytes.{Bytes, b, begins}
 use Rattle.tags.specs.Names.{element_at}
 use Rattle.tags.specs.declared.Class.{Class}
 use Rattle.tags.specs.declared.Class.TheVariants.{Text, Value, Key}
 use Rattle.tags.specs.declared.Named.{Named}
 use Rattle.tags.specs.declared.Named.TheVariants.{Name, Unnamed}
-use Rattle.tags.specs.declared.Found.{Found}
-use Rattle.tags.specs.declared.Found.TheVariants.{Got, Nothing}
 use Rattle.tags.specs.declared.Head.{Head}
 use Rattle.tags.specs.declared.Head.TheVariants.{Bad, Words, Closing, Opening}
 use Rattle.tags.specs.declared.Tail.{Tail}
@@ -47,14 +46,14 @@ pub record Pair : Type 0 where
   pub value : Bytes
 
 -- ` key="value"` at the front: the lengths of key and value
-unfoldable pub pair_at : Bytes → Found
+unfoldable pub pair_at : Bytes → Optional (ℕ × ℕ)
 pair_at s =
     let s₁ = drop 1 s in
     let k = run (ok Key) s₁ in
     let s₂ = drop k s₁ in
     let s₃ = drop 2 s₂ in
     let v = run (ok Value) s₃ in
-    cond (begins (b " ") s && (ltb 0 k && (begins (b "=\"") s₂ && begins (b "\"") (drop v s₃)))) (Got k v) Nothing
+    cond (begins (b " ") s && (ltb 0 k && (begins (b "=\"") s₂ && begins (b "\"") (drop v s₃)))) (Some (k, v)) None
 
 -- how far ` key="value"` reaches
 abbrev pub pair_len : ℕ → ℕ → ℕ
@@ -70,9 +69,9 @@ pub record Row : Type 0 where
   pub rest : Bytes
 
 -- the attribute at the front, where there is one, and those behind it
-abbrev pub more_pairs : (Bytes → Row) → Bytes → Found → Row
-more_pairs f s Nothing = record { list = []; rest = s }
-more_pairs f s (Got k v) =
+abbrev pub more_pairs : (Bytes → Row) → Bytes → Optional (ℕ × ℕ) → Row
+more_pairs f s None = record { list = []; rest = s }
+more_pairs f s (Some (k, v)) =
     record { list = pair_of s k v ∷ (f (drop (pair_len k v) s)).list; rest = (f (drop (pair_len k v) s)).rest }
 
 -- the attributes at the front, at most as many as the fuel

@@ -1,7 +1,7 @@
 // The sixteen elements, by number from 1 in document 01's order.
 ghost use Rattle.std.specs.Prelude.{◌≡◌};
 
-// An element of the text.
+// An element of the text; a number and no enum, since `head_at` and the tokens of specs/ give it so.
 #[derive(Clone, Copy)]
 pub struct Element {
     pub code: u8,

@@ -2,7 +2,7 @@
 use mathlib.Core.Path.{◌≡◌, refl, sym, ap, ◌∙◌}
 use mathlib.Core.Bool.{Bool, true, false, cond, ◌&&◌, ◌||◌}
 use mathlib.Core.List.{[], ◌∷◌, ◌++◌}
-use Prim.Native.Nat.{ℕ, zero, suc, ◌+◌, ◌-◌, ◌*◌, ◌≤◌, ◌<◌, min}
+use Prim.Native.Nat.{ℕ, zero, suc, ◌+◌, ◌-◌, ◌*◌, ◌≤◌, ◌<◌, ◌^◌, min}
 use native.Mathlib.Nat.{mul-zero, mul-suc, add_comm}
 use native.Mathlib.Omega.{arith}
 use lib.ListN.{length, get_or, take, drop, take-append-drop, length-append, length-drop, length-take, get_or-eq_default, get_or-append}
@@ -20,10 +20,9 @@ use Rattle.tape.specs.declared.Node.{Node}
 use Rattle.tape.specs.declared.Entry.{Entry}
 use Rattle.tape.specs.declared.Sections.{Sections}
 use Rattle.tape.specs.declared.Cursor.{Cursor}
-use Rattle.tape.specs.declared.Info.{Info}
-use Rattle.tape.specs.declared.Info.TheVariants.{Known, Unknown}
-use Rattle.tape.specs.declared.Step.{Step}
-use Rattle.tape.specs.declared.Step.TheVariants.{At, Done}
+use Rattle.tape.specs.Found.{Info}
+use Rattle.tape.specs.Found.{Step}
+use Rattle.std.specs.Prelude.{None, Some}
 use Rattle.tape.specs.Flag as flags
 
 -- ---- numbers
@@ -123,8 +122,8 @@ records_length read size (suc n) s = ap suc (records_length read size n (drop si
 
 -- ---- records that their constructors make
 
-at_of : {s : Cursor} {k : ℕ} → s.at ≡ k → At s ≡ At (record { at = k })
-at_of e = ap (λ (k : ℕ). At (record { at = k })) e
+at_of : {s : Cursor} {k : ℕ} → s.at ≡ k → Some s ≡ Some (record { at = k })
+at_of e = ap (λ (k : ℕ). Some (record { at = k })) e
 
 -- ---- the record at an index, in the file
 
@@ -268,22 +267,6 @@ pub close_second : (k : ℕ) → (k ≡ 4 → ⊥) → eqb k 5 ≡ is_close k
 unfolding is_close
 close_second k h = sym (either_second k 4 (eqb k 5) h)
 
-pub holds-first : (k : ℕ) → k ≡ 0 → true ≡ holds k
-unfolding holds
-holds-first k h = sym (either_first k 0 (eqb k 3) h)
-
-pub holds_second : (k : ℕ) → (k ≡ 0 → ⊥) → eqb k 3 ≡ holds k
-unfolding holds
-holds_second k h = sym (either_second k 0 (eqb k 3) h)
-
-pub bears_low : (k : ℕ) → k < 3 → false ≡ bears_marker k
-unfolding bears_marker
-bears_low k h = rw (lt-leb 3 k h)
-
-pub bears_high : (k : ℕ) → 3 ≤ k → leb k 7 ≡ bears_marker k
-unfolding bears_marker
-bears_high k h = rw (le-leb 3 k h)
-
 -- ---- fields of a node that is read
 
 module _ (t : Tape) (k : ℕ) {n : Node} (e : n ≡ node_at t k) where
@@ -357,11 +340,11 @@ module _ (t : Tape) (k : ℕ) {l n : ℕ} {r : Bytes} (er : r ≡ drop (node_at 
   size_cut h = omega (arith, size_is)
 
 module _ (t : Tape) (k : ℕ) {z : Kind} (ez : z.code ≡ kind_at t k) where
-  pub close_of : z.code ≡ 3 → {l : ℕ} {s : Cursor} → l ≡ (node_at t k).link → s.at ≡ l → At s ≡ matching_close t k
+  pub close_of : z.code ≡ 3 → {l : ℕ} {s : Cursor} → l ≡ (node_at t k).link → s.at ≡ l → Some s ≡ matching_close t k
   unfolding matching_close
   close_of h el es = rw (eq-eqb (kind_at t k) 3 (sym ez ∙ h)) (at_of (es ∙ el))
 
-  pub close-none : (z.code ≡ 3 → ⊥) → Done ≡ matching_close t k
+  pub close-none : (z.code ≡ 3 → ⊥) → None ≡ matching_close t k
   unfolding matching_close
   close-none h = rw (ne_eqb (kind_at t k) 3 (λ x. h (ez ∙ x)))
 
@@ -374,11 +357,11 @@ module _ (t : Tape) (k : ℕ) {z : Kind} (ez : z.code ≡ kind_at t k) where
     unfolding last_held
     last_self y = rw (ap holds (sym ez) ∙ sym eh ∙ y)
 
-    pub child_none : h ≡ false → Done ≡ first_child t k
+    pub child_none : h ≡ false → None ≡ first_child t k
     unfolding first_child
     child_none y = rw (ap holds (sym ez) ∙ sym eh ∙ y)
 
-  pub info_plain : {h : Bool} → h ≡ bears_marker z.code → h ≡ false → Unknown ≡ info_at t k
+  pub info_plain : {h : Bool} → h ≡ bears_marker z.code → h ≡ false → None ≡ info_at t k
   unfolding info_at
   info_plain eh h = rw (ap bears_marker (sym ez) ∙ sym eh ∙ h)
 
@@ -390,52 +373,52 @@ module _ (c : Sections) (file : Bytes) (k : ℕ) {z : Kind} (ez : z.code ≡ kin
   child_some eh h el es = rw (ap holds (sym ez) ∙ sym eh ∙ h, node-count c file) (es ∙ ap (child_before c.nodes k) el)
 
   module _ {h : Bool} (eh : h ≡ bears_marker z.code) (y : h ≡ true) {l m : ℕ} (el : l ≡ (node_at (tape_in c file) k).marker) (em : m ≡ l) where
-    pub info_known : m < c.entries → {i : Entry} → i ≡ entry_at (tape_in c file) m → Known i ≡ info_at (tape_in c file) k
+    pub info_known : m < c.entries → {i : Entry} → i ≡ entry_at (tape_in c file) m → Some i ≡ info_at (tape_in c file) k
     unfolding info_at
     info_known b ei = rw (ap bears_marker (sym ez) ∙ sym eh ∙ y, entry-count c file, ← el, ← em, lt-ltb _ _ b, ei)
 
-    pub info_unknown : c.entries ≤ m → Unknown ≡ info_at (tape_in c file) k
+    pub info_unknown : c.entries ≤ m → None ≡ info_at (tape_in c file) k
     unfolding info_at
     info_unknown b = rw (ap bears_marker (sym ez) ∙ sym eh ∙ y, entry-count c file, ← el, ← em, le-ltb _ _ b)
 
 -- ---- steps
 
 module _ (nodes k link : ℕ) where
-  pub before_back : link ≤ k → Done ≡ child_before nodes k link
+  pub before_back : link ≤ k → None ≡ child_before nodes k link
   unfolding child_before
   before_back h = rw (le-ltb (k + 1) link (omega arith))
 
-  pub before_none : link ≤ k + 1 → Done ≡ child_before nodes k link
+  pub before_none : link ≤ k + 1 → None ≡ child_before nodes k link
   unfolding child_before
   before_none h = rw (le-ltb (k + 1) link h)
 
-  pub before_some : {s : Cursor} → k + 1 < link → k + 1 < nodes → s.at ≡ k + 1 → At s ≡ child_before nodes k link
+  pub before_some : {s : Cursor} → k + 1 < link → k + 1 < nodes → s.at ≡ k + 1 → Some s ≡ child_before nodes k link
   unfolding child_before
   before_some h l es = rw (lt-ltb (k + 1) link h, lt-ltb (k + 1) nodes l) (at_of es)
 
-  pub before_out : k + 1 < link → nodes ≤ k + 1 → Done ≡ child_before nodes k link
+  pub before_out : k + 1 < link → nodes ≤ k + 1 → None ≡ child_before nodes k link
   unfolding child_before
   before_out h l = rw (lt-ltb (k + 1) link h, le-ltb (k + 1) nodes l)
 
 module _ (c : Sections) (file : Bytes) (k last : ℕ) where
-  pub past_back : last < k → Done ≡ sibling_past (tape_in c file) k last
+  pub past_back : last < k → None ≡ sibling_past (tape_in c file) k last
   unfolding sibling_past
   past_back h = rw (lt-ltb last k h)
 
-  pub past_out : k ≤ last → c.nodes ≤ last + 1 → Done ≡ sibling_past (tape_in c file) k last
+  pub past_out : k ≤ last → c.nodes ≤ last + 1 → None ≡ sibling_past (tape_in c file) k last
   unfolding sibling_past
   past_out h l = rw (le-ltb last k h, node-count c file, le-ltb (last + 1) c.nodes l)
 
-  pub past_far : k ≤ last → c.nodes ≤ last → Done ≡ sibling_past (tape_in c file) k last
+  pub past_far : k ≤ last → c.nodes ≤ last → None ≡ sibling_past (tape_in c file) k last
   past_far h l = past_out h (omega arith)
 
   pub past-close : {s : Cursor} {z : Kind} {x : Bool} → k ≤ last → last + 1 < c.nodes → s.at ≡ last + 1 → z.code ≡ kind_at (tape_in c file) s.at
-      → x ≡ is_close z.code → x ≡ true → Done ≡ sibling_past (tape_in c file) k last
+      → x ≡ is_close z.code → x ≡ true → None ≡ sibling_past (tape_in c file) k last
   unfolding sibling_past
   past-close h l es ek ec x = rw (le-ltb last k h, node-count c file, lt-ltb (last + 1) c.nodes l, ← es, ← ek, ← ec, x)
 
   pub past-some : {s : Cursor} {z : Kind} {x : Bool} → k ≤ last → last + 1 < c.nodes → s.at ≡ last + 1 → z.code ≡ kind_at (tape_in c file) s.at
-      → x ≡ is_close z.code → x ≡ false → At s ≡ sibling_past (tape_in c file) k last
+      → x ≡ is_close z.code → x ≡ false → Some s ≡ sibling_past (tape_in c file) k last
   unfolding sibling_past
   past-some h l es ek ec x = rw (le-ltb last k h, node-count c file, lt-ltb (last + 1) c.nodes l, ← es, ← ek, ← ec, x)
 
@@ -446,35 +429,35 @@ next_of t k el es = es ∙ ap (sibling_past t k) el
 -- ---- the entry of a node, taken apart
 
 module _ {i j : Info} (ei : i ≡ j) where
-  pub category_known : (e : Entry) → i ≡ Known e → e.category.code ≡ category_of j
+  pub category_known : (e : Entry) → i ≡ Some e → e.category.code ≡ category_of j
   unfolding category_of
   category_known e h = ap category_of (sym h ∙ ei)
 
-  pub category-unknown : {c : Category} → i ≡ Unknown → c.code ≡ 7 → c.code ≡ category_of j
+  pub category-unknown : {c : Category} → i ≡ None → c.code ≡ 7 → c.code ≡ category_of j
   unfolding category_of
   category-unknown h e = e ∙ ap category_of (sym h ∙ ei)
 
-  pub element_known : (e : Entry) → i ≡ Known e → e.element.code ≡ element_of j
+  pub element_known : (e : Entry) → i ≡ Some e → e.element.code ≡ element_of j
   unfolding element_of
   element_known e h = ap element_of (sym h ∙ ei)
 
-  pub element-unknown : {c : Element} → i ≡ Unknown → c.code ≡ 0 → c.code ≡ element_of j
+  pub element-unknown : {c : Element} → i ≡ None → c.code ≡ 0 → c.code ≡ element_of j
   unfolding element_of
   element-unknown h e = e ∙ ap element_of (sym h ∙ ei)
 
-  pub base_known : (e : Entry) {n : ℕ} → i ≡ Known e → n ≡ e.len → n ≡ base_len j
+  pub base_known : (e : Entry) {n : ℕ} → i ≡ Some e → n ≡ e.len → n ≡ base_len j
   unfolding base_len
   base_known e h en = en ∙ ap base_len (sym h ∙ ei)
 
-  pub base_unknown : i ≡ Unknown → 0 ≡ base_len j
+  pub base_unknown : i ≡ None → 0 ≡ base_len j
   unfolding base_len
   base_unknown h = ap base_len (sym h ∙ ei)
 
-  pub name_known : (t : Tape) (e : Entry) {r : Bytes} → i ≡ Known e → r ≡ entry_name t e → r ≡ info_name t j
+  pub name_known : (t : Tape) (e : Entry) {r : Bytes} → i ≡ Some e → r ≡ entry_name t e → r ≡ info_name t j
   unfolding info_name
   name_known t e h er = er ∙ ap (info_name t) (sym h ∙ ei)
 
-  pub name-unknown : (t : Tape) {r : Bytes} → i ≡ Unknown → r ≡ [] → r ≡ info_name t j
+  pub name-unknown : (t : Tape) {r : Bytes} → i ≡ None → r ≡ [] → r ≡ info_name t j
   unfolding info_name
   name-unknown t h er = er ∙ ap (info_name t) (sym h ∙ ei)
 
@@ -510,3 +493,7 @@ module _ (c : Sections) (file : Bytes) (k : ℕ) (h : k < c.nodes) (l : c.head +
   pub len_bytes : (node_at (tape_in c file) k).len ≡ le32 (drop 12 (drop (c.head + 16 * k) file))
   unfolding node_fields_of
   len_bytes = ap (λ (n : Node). n.len) node_bytes
+
+-- a part that is short is
+pub part_short : (s : Bytes) (a n : ℕ) {r : Bytes} → r ≡ part s a n → n < 2 ^ 32 → length r < 2 ^ 32
+part_short s a n e h = omega (arith, ap length e, length-take n (drop a s))

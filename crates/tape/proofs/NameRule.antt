@@ -7,11 +7,10 @@ use native.Mathlib.Omega.{arith}
 use lib.ListN.{length, get_or, take, drop, drop_of_length-le, length-drop, length-append}
 use lib.Seq.{length-take-le, take-append-add}
 use lib.Dec.{eqb}
-use borrow.Author.Tests.{eq-eqb, ne_eqb, not-true}
+use borrow.Author.Tests.{ne_eqb, not-true}
 use Rattle.parts.specs.Bytes.{Bytes, part, same, begins}
 use Rattle.parts.proofs.Laws.{drop_at}
 use Rattle.chars.specs.Utf8.{seq_len, step, cut_at, characters, code_of, first_char}
-use Rattle.chars.specs.Space.{is_white}
 use Rattle.chars.specs.declared.Char.{Char}
 use Rattle.chars.proofs.Laws.{first_one, len_ascii}
 use Rattle.chars.proofs.White.{between_white}
@@ -20,8 +19,8 @@ use Rattle.words.specs.Words.{take_while}
 use Rattle.tape.specs.File.{Tape, text_at_of, info_at, entry_name}
 use Rattle.tape.specs.Name.{strip, bare, ends_name_of, in_name_of, name_len, name_in_of, marker_name, named, entry_is_of}
 use Rattle.tape.specs.declared.Entry.{Entry}
-use Rattle.tape.specs.declared.Info.{Info}
-use Rattle.tape.specs.declared.Info.TheVariants.{Known, Unknown}
+use Rattle.tape.specs.Found.{Info}
+use Rattle.std.specs.Prelude.{None, Some}
 
 -- ---- the front
 
@@ -38,23 +37,6 @@ unfolding bare
 bare_of s eu ev = ev ∙ ap (strip 43) eu
 
 -- ---- what ends a name
-
-pub ends-white : (c : ℕ) {w : Bool} → w ≡ is_white c → w ≡ true → true ≡ ends_name_of c
-unfolding ends_name_of
-ends-white c ew w = rw (← ew, w)
-
-module _ (c : ℕ) {w : Bool} (ew : w ≡ is_white c) (h : w ≡ false) where
-  pub ends_star : c ≡ 42 → true ≡ ends_name_of c
-  unfolding ends_name_of
-  ends_star e = rw (← ew, h, eq-eqb c 42 e)
-
-  pub ends_bar : (c ≡ 42 → ⊥) → c ≡ 124 → true ≡ ends_name_of c
-  unfolding ends_name_of
-  ends_bar n e = rw (← ew, h, ne_eqb c 42 n, eq-eqb c 124 e)
-
-  pub ends_slash : (c ≡ 42 → ⊥) → (c ≡ 124 → ⊥) → eqb c 92 ≡ ends_name_of c
-  unfolding ends_name_of
-  ends_slash n m = rw (← ew, h, ne_eqb c 42 n, ne_eqb c 124 m)
 
 -- ---- bytes that end no name
 
@@ -155,10 +137,10 @@ same_as n ea er = er ∙ ap (λ (y : Bytes). same y n) ea
 -- ---- the name of an entry
 
 module _ (t : Tape) (k : ℕ) (name : Bytes) {i : Info} (ei : i ≡ info_at t k) where
-  pub entry_known : (e : Entry) {a : Bytes} {r : Bool} → i ≡ Known e → a ≡ entry_name t e → r ≡ same a name → r ≡ entry_is_of t k name
+  pub entry_known : (e : Entry) {a : Bytes} {r : Bool} → i ≡ Some e → a ≡ entry_name t e → r ≡ same a name → r ≡ entry_is_of t k name
   unfolding entry_is_of named
   entry_known e ek ea er = er ∙ ap (λ (y : Bytes). same y name) ea ∙ ap (named t name) (sym ek ∙ ei)
 
-  pub entry-unknown : i ≡ Unknown → false ≡ entry_is_of t k name
+  pub entry-unknown : i ≡ None → false ≡ entry_is_of t k name
   unfolding entry_is_of named
   entry-unknown ek = ap (named t name) (sym ek ∙ ei)

@@ -14,8 +14,8 @@ use Rattle.tape.specs.File.{tape_in, names_at, source_at, node_at, text_at_of, t
 use Rattle.tape.specs.Name.{strip, bare, name_len, name_in_of, name_start, marker_start, marker_len}
 use Rattle.tape.specs.declared.Sections.{Sections}
 use Rattle.tape.specs.declared.Entry.{Entry}
-use Rattle.tape.specs.declared.Info.{Info}
-use Rattle.tape.specs.declared.Info.TheVariants.{Known, Unknown}
+use Rattle.tape.specs.Found.{Info}
+use Rattle.std.specs.Prelude.{None, Some}
 use Rattle.tape.proofs.Laws.{text_of, entry_name_in}
 use Rattle.tape.proofs.NameRule.{strip-some, strip-none, bare_of, name_of}
 
@@ -77,12 +77,12 @@ module _ (c : Sections) (file : Bor Bytes) where
       very_within ps pr (rw (es, ea)) (ap length (entry_name_in (tape_in c file.now) e es ea en er))
 
   module _ {i j : Info} (ei : i ≡ j) where
-    pub known_at : (e : Entry) {r : Bor Bytes} → i ≡ Known e → VeryPart file r (entry_start c file.now e) (length (entry_name (tape_in c file.now) e))
+    pub known_at : (e : Entry) {r : Bor Bytes} → i ≡ Some e → VeryPart file r (entry_start c file.now e) (length (entry_name (tape_in c file.now) e))
         → VeryPart file r (name_of_start c file.now j) (length (info_name (tape_in c file.now) j))
     unfolding name_of_start info_name
     known_at e h v = rw (sym ei ∙ h) v
 
-    pub unknown_at : {r : Bor Bytes} → i ≡ Unknown → VeryPart file r 0 0
+    pub unknown_at : {r : Bor Bytes} → i ≡ None → VeryPart file r 0 0
         → VeryPart file r (name_of_start c file.now j) (length (info_name (tape_in c file.now) j))
     unfolding name_of_start info_name
     unknown_at h v = rw (sym ei ∙ h) v

@@ -1,11 +1,11 @@
 -- The tape file: any bytes make a tape. Outside it stands a default.
-use Rattle.std.specs.Prelude.{ℕ, zero, suc, ◌+◌, ◌*◌, min, List, [], ◌∷◌, Bool, cond, ◌&&◌, ◌||◌, length, get_or, drop, eqb, ltb, leb}
+use Rattle.std.specs.Prelude.{ℕ, zero, suc, ◌+◌, ◌*◌, min, List, [], ◌∷◌, Bool, cond, ◌&&◌, ◌||◌, length, get_or, drop, eqb, ltb, leb, None, Some}
 use Rattle.parts.specs.Bytes.{Bytes, part}
 use Rattle.tape.specs.declared.Node.{Node}
 use Rattle.tape.specs.declared.Entry.{Entry}
 use Rattle.tape.specs.declared.Sections.{Sections}
-use Rattle.tape.specs.declared.Info.{Info}
-use Rattle.tape.specs.declared.Info.TheVariants.{Known, Unknown}
+use Rattle.tape.specs.declared.TapeFile.{TapeFile}
+use Rattle.tape.specs.Found.{Info}
 use Rattle.tape.specs.Kind as kinds
 use Rattle.tape.specs.Flag as flags
 use Rattle.tape.specs.Category as categories
@@ -105,6 +105,10 @@ tape_in c file =
       source = part file (source_at c) c.source;
     }
 
+-- the tape that a tape file holds
+abbrev pub contents : TapeFile → Tape
+contents t = tape_in t.sections t.file.now
+
 -- how long the header is: nine u32
 abbrev pub header_len : ℕ
 header_len = 36
@@ -178,7 +182,7 @@ bears_marker kind = leb kinds.marker_open kind && leb kind kinds.verse
 unfoldable pub info_at : Tape → ℕ → Info
 info_at t k =
     cond (bears_marker (kind_at t k) && ltb (node_at t k).marker (length t.entries))
-    (Known (entry_at t (node_at t k).marker)) Unknown
+    (Some (entry_at t (node_at t k).marker)) None
 
 -- the number of a Chapter or Verse, which stands in its link
 unfoldable pub number_at : Tape → ℕ → ℕ
@@ -186,25 +190,25 @@ number_at t k = cond (eqb (kind_at t k) kinds.chapter || eqb (kind_at t k) kinds
 
 -- the category of a node's entry; that of what is unknown is Other
 unfoldable pub category_of : Info → ℕ
-category_of (Known e) = e.category.code
-category_of Unknown = categories.other
+category_of (Some e) = e.category.code
+category_of None = categories.other
 
 -- the element of a node's entry; that of what is unknown is other
 unfoldable pub element_of : Info → ℕ
-element_of (Known e) = e.element.code
-element_of Unknown = elements.other
+element_of (Some e) = e.element.code
+element_of None = elements.other
 
 -- how long the name of a node's entry is; unknown counts 0
 unfoldable pub base_len : Info → ℕ
-base_len (Known e) = e.len
-base_len Unknown = 0
+base_len (Some e) = e.len
+base_len None = 0
 
 -- the name of a node's entry; what is unknown has none
 unfoldable pub info_name : Tape → Info → Bytes
-info_name t (Known e) = entry_name t e
-info_name t Unknown = []
+info_name t (Some e) = entry_name t e
+info_name t None = []
 
 -- where the name of a node's entry starts in the file; nothing stands at the file's start
 unfoldable pub name_of_start : Sections → Bytes → Info → ℕ
-name_of_start c file (Known e) = entry_start c file e
-name_of_start c file Unknown = 0
+name_of_start c file (Some e) = entry_start c file e
+name_of_start c file None = 0

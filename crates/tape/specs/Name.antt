@@ -1,5 +1,5 @@
 -- Marker names, as they stand in the source, and the names that decide.
-use Rattle.std.specs.Prelude.{ℕ, ◌+◌, ◌-◌, Bool, false, cond, not, ◌||◌, length, drop, eqb}
+use Rattle.std.specs.Prelude.{ℕ, ◌+◌, ◌-◌, Bool, false, cond, not, ◌||◌, length, drop, eqb, None, Some}
 use mathlib.Core.List.{[], ◌∷◌, flatten}
 use Rattle.parts.specs.Bytes.{Bytes, same, begins}
 use Rattle.chars.specs.Utf8.{characters, code_of}
@@ -7,8 +7,7 @@ use Rattle.chars.specs.Space.{is_white}
 use Rattle.words.specs.Words.{take_while}
 use Rattle.tape.specs.File.{Tape, tape_in, text_at_of, text_start, info_at, entry_name}
 use Rattle.tape.specs.declared.Sections.{Sections}
-use Rattle.tape.specs.declared.Info.{Info}
-use Rattle.tape.specs.declared.Info.TheVariants.{Known, Unknown}
+use Rattle.tape.specs.Found.{Info}
 
 -- a text without a byte that it may begin with
 unfoldable pub strip : ℕ → Bytes → Bytes
@@ -52,8 +51,8 @@ marker_len t k = name_len (bare (text_at_of t k))
 
 -- whether an entry has this name; what is unknown has none
 unfoldable pub named : Tape → Bytes → Info → Bool
-named t name (Known e) = same (entry_name t e) name
-named t name Unknown = false
+named t name (Some e) = same (entry_name t e) name
+named t name None = false
 
 -- whether a node has an entry of this name
 unfoldable pub entry_is_of : Tape → ℕ → Bytes → Bool

@@ -1,8 +1,8 @@
-// The numbers of the tape file, each belonging to its type.
+// The numbers of the tape file, each belonging to its type. They are bytes and no enums: a tape may hold any byte, and refusals 4 and 5 speak of those that name nothing.
 ghost use Rattle.std.specs.Prelude.{◌≡◌};
 
 // What a node is.
-#[derive(Clone, Copy)]
+#[derive(Clone, Copy, PartialEq, Eq)]
 pub struct Kind {
     pub code: u8,
 }
@@ -34,7 +34,7 @@ impl Kind {
 }
 
 // Bits of a node.
-#[derive(Clone, Copy)]
+#[derive(Clone, Copy, PartialEq, Eq)]
 pub struct Flags {
     pub bits: u8,
 }
@@ -54,7 +54,7 @@ impl Flags {
 }
 
 // The family of a marker.
-#[derive(Clone, Copy)]
+#[derive(Clone, Copy, PartialEq, Eq)]
 pub struct Category {
     pub code: u8,
 }
@@ -84,7 +84,7 @@ impl Category {
 }
 
 // The element that a marker stands for, where its category does not say.
-#[derive(Clone, Copy)]
+#[derive(Clone, Copy, PartialEq, Eq)]
 pub struct Element {
     pub code: u8,
 }

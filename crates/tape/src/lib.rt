@@ -7,9 +7,9 @@ mod number;
 ghost use Rattle.std.specs.Prelude.{◌≡◌, ◌+◌, ◌*◌, ◌≤◌, ◌<◌, ◌^◌, length, drop};
 ghost use Rattle.parts.specs.Bytes.{part, same};
 ghost use Rattle.parts.specs.Place.{VeryPart};
-ghost use Rattle.tape.specs.File.{le32 as le32_of, node_of, entry_of, sections_of, entries_at, names_at, source_at, tape_in, node_at, entry_at, kind_at, text_at_of, text_start, entry_name, entry_start, bytes_at, entry_bytes_at, is_synthetic, is_nested, bears_marker, info_at, number_at, category_of, element_of, base_len, info_name, name_of_start};
+ghost use Rattle.tape.specs.File.{le32 as le32_of, node_of, entry_of, sections_of, contents, entries_at, names_at, source_at, node_at, entry_at, kind_at, text_at_of, text_start, entry_name, entry_start, bytes_at, entry_bytes_at, is_synthetic, is_nested, bears_marker, info_at, number_at, category_of, element_of, base_len, info_name, name_of_start};
 ghost use Rattle.tape.specs.Name.{marker_name, marker_start, marker_len, entry_is_of};
-ghost use Rattle.tape.specs.Tree.{is_close, holds, matching_close, child_before, first_child, last_held, sibling_past, next_sibling, found};
+ghost use Rattle.tape.specs.Tree.{is_close, holds, matching_close, child_before, first_child, last_held, sibling_past, next_sibling};
 
 pub use kinds::{Category, Element, Flags, Kind};
 pub use name::{bare, ends_name, name_in};
@@ -45,33 +45,17 @@ pub struct Sections {
     pub source: u32,
 }
 
+// A tape file, and the sections that are read in it.
+#[derive(Clone, Copy)]
+pub struct TapeFile<'a> {
+    pub file: &'a [u8],
+    pub sections: Sections,
+}
+
 // A node of the tape, by its index.
 #[derive(Clone, Copy)]
 pub struct Cursor {
     pub at: u32,
-}
-
-// What is known of a node's marker.
-#[derive(Clone, Copy)]
-pub enum Info {
-    Known(Entry),
-    Unknown,
-}
-
-#[derive(Clone, Copy)]
-pub enum Step {
-    At(Cursor),
-    Done,
-}
-
-// Whether a step leads to a node.
-pub fn is_at(step: Step) -> bool
-    ensures { result ≡ found step }
-{
-    match step {
-        Step::At(_) => true,
-        Step::Done => false,
-    }
 }
 
 // The number of the first four bytes, as a length.
@@ -170,110 +154,115 @@ impl Entry {
     }
 }
 
-// Where the node of an index stands.
-fn node_place(tape: Sections, at: u32) -> usize
-    ensures { result ≡ tape.head + 16 * at }
-{
-    long(tape.head) + 16 * long(at)
-}
-
-// The bytes of a node: all 16, or none.
-fn bytes_at(file: &[u8], tape: Sections, at: u32) -> &[u8]
-    ensures { result.now ≡ bytes_at tape file.now at }
-{
-    if at < tape.nodes {
-        let place = node_place(tape, at);
-        let end = place + 16;
-        if end <= file.len() {
-            return &file[place..end];
-        }
-        return &file[..0];
+impl<'a> TapeFile<'a> {
+    // Where the node of an index stands.
+    fn node_place(&self, at: u32) -> usize
+        ensures { result ≡ self.now.sections.head + 16 * at }
+    {
+        long(self.sections.head) + 16 * long(at)
     }
-    &file[..0]
-}
 
-// The node at an index.
-pub fn node_at(file: &[u8], tape: Sections, at: u32) -> Node
-    ensures { result ≡ node_at (tape_in tape file.now) at }
-{
-    Node::of(bytes_at(file, tape, at))
-}
-
-// The bytes of an entry: all 8, or none.
-fn entry_bytes(file: &[u8], tape: Sections, at: u32) -> &[u8]
-    ensures { result.now ≡ entry_bytes_at tape file.now at }
-{
-    if at < tape.entries {
-        let place = tape.entries_at() + 8 * long(at);
-        let end = place + 8;
-        if end <= file.len() {
-            return &file[place..end];
+    // The bytes of a node: all 16, or none.
+    fn bytes_at(&self, at: u32) -> &'a [u8]
+        ensures { result.now ≡ bytes_at self.now.sections self.now.file.now at }
+    {
+        if at < self.sections.nodes {
+            let place = self.node_place(at);
+            let end = place + 16;
+            if end <= self.file.len() {
+                return &self.file[place..end];
+            }
+            return &self.file[..0];
         }
-        return &file[..0];
+        &self.file[..0]
     }
-    &file[..0]
-}
 
-// The entry at an index.
-pub fn entry_at(file: &[u8], tape: Sections, at: u32) -> Entry
-    ensures { result ≡ entry_at (tape_in tape file.now) at }
-{
-    Entry::of(entry_bytes(file, tape, at))
-}
+    // The node at an index.
+    pub fn node_at(&self, at: u32) -> Node
+        ensures { result ≡ node_at (contents self.now) at }
+    {
+        Node::of(self.bytes_at(at))
+    }
 
-// The name bytes of a file.
-pub fn names(file: &[u8], tape: Sections) -> &[u8]
-    ensures bytes { result.now ≡ (tape_in tape file.now).names }
-    ensures place { VeryPart file.entry result (names_at tape) tape.names }
-{
-    parts::part(file, tape.names_at(), long(tape.names))
-}
+    // The bytes of an entry: all 8, or none.
+    fn entry_bytes(&self, at: u32) -> &'a [u8]
+        ensures { result.now ≡ entry_bytes_at self.now.sections self.now.file.now at }
+    {
+        if at < self.sections.entries {
+            let place = self.sections.entries_at() + 8 * long(at);
+            let end = place + 8;
+            if end <= self.file.len() {
+                return &self.file[place..end];
+            }
+            return &self.file[..0];
+        }
+        &self.file[..0]
+    }
 
-// The source bytes of a file.
-pub fn source(file: &[u8], tape: Sections) -> &[u8]
-    ensures bytes { result.now ≡ (tape_in tape file.now).source }
-    ensures place { VeryPart file.entry result (source_at tape) tape.source }
-{
-    parts::part(file, tape.source_at(), long(tape.source))
-}
+    // The entry at an index.
+    pub fn entry_at(&self, at: u32) -> Entry
+        ensures { result ≡ entry_at (contents self.now) at }
+    {
+        Entry::of(self.entry_bytes(at))
+    }
 
-// The name of an entry.
-pub fn entry_name(file: &[u8], tape: Sections, e: Entry) -> &[u8]
-    ensures bytes { result.now ≡ entry_name (tape_in tape file.now) e }
-    ensures place { VeryPart file.entry result (entry_start tape file.now e) (length (entry_name (tape_in tape file.now) e)) }
-{
-    parts::part(names(file, tape), long(e.start), short(e.len))
+    // The name bytes.
+    pub fn names(&self) -> &'a [u8]
+        ensures bytes { result.now ≡ (contents self.now).names }
+        ensures place { VeryPart self.now.file result (names_at self.now.sections) self.now.sections.names }
+    {
+        parts::part(
+            self.file,
+            self.sections.names_at(),
+            long(self.sections.names),
+        )
+    }
+
+    // The source bytes.
+    pub fn source(&self) -> &'a [u8]
+        ensures bytes { result.now ≡ (contents self.now).source }
+        ensures place { VeryPart self.now.file result (source_at self.now.sections) self.now.sections.source }
+        ensures upper_bound { length result.now < 2 ^ 32 }
+    {
+        parts::part(
+            self.file,
+            self.sections.source_at(),
+            long(self.sections.source),
+        )
+    }
+
+    // The name of an entry.
+    pub fn entry_name(&self, e: Entry) -> &'a [u8]
+        ensures bytes { result.now ≡ entry_name (contents self.now) e }
+        ensures place { VeryPart self.now.file result (entry_start self.now.sections self.now.file.now e) (length (entry_name (contents self.now) e)) }
+    {
+        parts::part(self.names(), long(e.start), short(e.len))
+    }
 }
 
 impl Kind {
     // Whether a node of this kind ends another.
+    #[tactic(auto, unfolding(crate::specs::Tree::is_close))]
     pub fn is_close(self) -> bool
         ensures { result ≡ is_close self.code }
     {
-        if self.code == Kind::MARKER_CLOSE {
-            return true;
-        }
-        self.code == Kind::BLOCK_END
+        self.code == Kind::MARKER_CLOSE || self.code == Kind::BLOCK_END
     }
 
     // Whether a node of this kind holds others.
+    #[tactic(auto, unfolding(crate::specs::Tree::holds))]
     pub fn holds(self) -> bool
         ensures { result ≡ holds self.code }
     {
-        if self.code == Kind::ROOT {
-            return true;
-        }
-        self.code == Kind::MARKER_OPEN
+        self.code == Kind::ROOT || self.code == Kind::MARKER_OPEN
     }
 
     // Whether a node of this kind bears a marker.
+    #[tactic(auto, unfolding(crate::specs::File::bears_marker))]
     pub fn bears_marker(self) -> bool
         ensures { result ≡ bears_marker self.code }
     {
-        if self.code < Kind::MARKER_OPEN {
-            return false;
-        }
-        self.code <= Kind::VERSE
+        Kind::MARKER_OPEN <= self.code && self.code <= Kind::VERSE
     }
 }
 
@@ -284,62 +273,62 @@ impl Cursor {
         Cursor { at }
     }
 
-    pub fn node(self, file: &[u8], tape: Sections) -> Node
-        ensures { result ≡ node_at (tape_in tape file.now) self.at }
+    pub fn node(self, tape: &TapeFile<'_>) -> Node
+        ensures { result ≡ node_at (contents tape.now) self.at }
     {
-        node_at(file, tape, self.at)
+        tape.node_at(self.at)
     }
 
-    pub fn kind(self, file: &[u8], tape: Sections) -> Kind
-        ensures { result.code ≡ kind_at (tape_in tape file.now) self.at }
+    pub fn kind(self, tape: &TapeFile<'_>) -> Kind
+        ensures { result.code ≡ kind_at (contents tape.now) self.at }
     {
-        self.node(file, tape).kind
+        self.node(tape).kind
     }
 
-    pub fn link(self, file: &[u8], tape: Sections) -> u32
-        ensures { result ≡ (node_at (tape_in tape file.now) self.at).link }
+    pub fn link(self, tape: &TapeFile<'_>) -> u32
+        ensures { result ≡ (node_at (contents tape.now) self.at).link }
     {
-        self.node(file, tape).link
+        self.node(tape).link
     }
 
     // Where the node's span starts.
-    pub fn start(self, file: &[u8], tape: Sections) -> u32
-        ensures { result ≡ (node_at (tape_in tape file.now) self.at).start }
+    pub fn start(self, tape: &TapeFile<'_>) -> u32
+        ensures { result ≡ (node_at (contents tape.now) self.at).start }
     {
-        self.node(file, tape).start
+        self.node(tape).start
     }
 
     // How long the node's span is.
-    fn len(self, file: &[u8], tape: Sections) -> u32
-        ensures { result ≡ (node_at (tape_in tape file.now) self.at).len }
+    fn len(self, tape: &TapeFile<'_>) -> u32
+        ensures { result ≡ (node_at (contents tape.now) self.at).len }
     {
-        self.node(file, tape).len
+        self.node(tape).len
     }
 
     // The index of the node's entry.
-    fn marker(self, file: &[u8], tape: Sections) -> u16
-        ensures { result ≡ (node_at (tape_in tape file.now) self.at).marker }
+    fn marker(self, tape: &TapeFile<'_>) -> u16
+        ensures { result ≡ (node_at (contents tape.now) self.at).marker }
     {
-        self.node(file, tape).marker
+        self.node(tape).marker
     }
 
-    pub fn is_synthetic(self, file: &[u8], tape: Sections) -> bool
-        ensures { result ≡ is_synthetic (tape_in tape file.now) self.at }
+    pub fn is_synthetic(self, tape: &TapeFile<'_>) -> bool
+        ensures { result ≡ is_synthetic (contents tape.now) self.at }
     {
-        self.flags(file, tape).bits / Flags::SYNTHETIC % 2 == 1
+        self.flags(tape).bits / Flags::SYNTHETIC % 2 == 1
     }
 
-    pub fn is_nested(self, file: &[u8], tape: Sections) -> bool
-        ensures { result ≡ is_nested (tape_in tape file.now) self.at }
+    pub fn is_nested(self, tape: &TapeFile<'_>) -> bool
+        ensures { result ≡ is_nested (contents tape.now) self.at }
     {
-        self.flags(file, tape).bits / Flags::NESTED % 2 == 1
+        self.flags(tape).bits / Flags::NESTED % 2 == 1
     }
 
     // The number of a Chapter or Verse; 0 for other kinds.
-    pub fn number(self, file: &[u8], tape: Sections) -> u32
-        ensures { result ≡ number_at (tape_in tape file.now) self.at }
+    pub fn number(self, tape: &TapeFile<'_>) -> u32
+        ensures { result ≡ number_at (contents tape.now) self.at }
     {
-        let n = self.node(file, tape);
+        let n = self.node(tape);
         if n.kind.code == Kind::CHAPTER {
             return n.link;
         }
@@ -350,194 +339,194 @@ impl Cursor {
     }
 
     // What the tape says of the node's marker.
-    pub fn marker_info(self, file: &[u8], tape: Sections) -> Info
-        ensures { result ≡ info_at (tape_in tape file.now) self.at }
+    pub fn marker_info(self, tape: &TapeFile<'_>) -> Option<Entry>
+        ensures { result ≡ info_at (contents tape.now) self.at }
     {
-        if self.kind(file, tape).bears_marker() {
-            let marker = number::wider(self.marker(file, tape));
-            if marker < tape.entries {
-                Info::Known(entry_at(file, tape, marker))
+        if self.kind(tape).bears_marker() {
+            let marker = u32::from(self.marker(tape));
+            if marker < tape.sections.entries {
+                Some(tape.entry_at(marker))
             } else {
-                Info::Unknown
+                None
             }
         } else {
-            Info::Unknown
+            None
         }
     }
 
-    pub fn flags(self, file: &[u8], tape: Sections) -> Flags
-        ensures { result.bits ≡ (node_at (tape_in tape file.now) self.at).flags.bits }
+    pub fn flags(self, tape: &TapeFile<'_>) -> Flags
+        ensures { result.bits ≡ (node_at (contents tape.now) self.at).flags.bits }
     {
-        self.node(file, tape).flags
+        self.node(tape).flags
     }
 
     // The category of the node's entry; Other where it is unknown.
-    pub fn category(self, file: &[u8], tape: Sections) -> Category
-        ensures { result.code ≡ category_of (info_at (tape_in tape file.now) self.at) }
+    pub fn category(self, tape: &TapeFile<'_>) -> Category
+        ensures { result.code ≡ category_of (info_at (contents tape.now) self.at) }
     {
-        match self.marker_info(file, tape) {
-            Info::Known(e) => e.category,
-            Info::Unknown => Category::new(Category::OTHER),
+        match self.marker_info(tape) {
+            Some(e) => e.category,
+            None => Category::new(Category::OTHER),
         }
     }
 
     // The element of the node's entry; other where it is unknown.
-    pub fn element(self, file: &[u8], tape: Sections) -> Element
-        ensures { result.code ≡ element_of (info_at (tape_in tape file.now) self.at) }
+    pub fn element(self, tape: &TapeFile<'_>) -> Element
+        ensures { result.code ≡ element_of (info_at (contents tape.now) self.at) }
     {
-        match self.marker_info(file, tape) {
-            Info::Known(e) => e.element,
-            Info::Unknown => Element::new(Element::OTHER),
+        match self.marker_info(tape) {
+            Some(e) => e.element,
+            None => Element::new(Element::OTHER),
         }
     }
 
     // How long the name of the node's entry is; unknown counts 0.
-    pub fn base_len(self, file: &[u8], tape: Sections) -> usize
-        ensures value { result ≡ base_len (info_at (tape_in tape file.now) self.at) }
+    pub fn base_len(self, tape: &TapeFile<'_>) -> usize
+        ensures value { result ≡ base_len (info_at (contents tape.now) self.at) }
         ensures upper_bound { result < 2 ^ 16 }
     {
-        match self.marker_info(file, tape) {
-            Info::Known(e) => short(e.len),
-            Info::Unknown => 0,
+        match self.marker_info(tape) {
+            Some(e) => short(e.len),
+            None => 0,
         }
     }
 
     // The name of the node's entry; nothing where it is unknown.
-    pub fn entry_name(self, file: &[u8], tape: Sections) -> &[u8]
-        ensures bytes { result.now ≡ info_name (tape_in tape file.now) (info_at (tape_in tape file.now) self.at) }
-        ensures place { VeryPart file.entry result (name_of_start tape file.now (info_at (tape_in tape file.now) self.at)) (length (info_name (tape_in tape file.now) (info_at (tape_in tape file.now) self.at))) }
+    pub fn entry_name<'a>(self, tape: &TapeFile<'a>) -> &'a [u8]
+        ensures bytes { result.now ≡ info_name (contents tape.now) (info_at (contents tape.now) self.at) }
+        ensures place { VeryPart tape.now.file result (name_of_start tape.now.sections tape.now.file.now (info_at (contents tape.now) self.at)) (length (info_name (contents tape.now) (info_at (contents tape.now) self.at))) }
     {
-        match self.marker_info(file, tape) {
-            Info::Known(e) => entry_name(file, tape, e),
-            Info::Unknown => parts::part(file, 0, 0),
+        match self.marker_info(tape) {
+            Some(e) => tape.entry_name(e),
+            None => parts::part(tape.file, 0, 0),
         }
     }
 
     // The node's span of the source.
-    pub fn text(self, file: &[u8], tape: Sections) -> &[u8]
-        ensures bytes { result.now ≡ text_at_of (tape_in tape file.now) self.at }
-        ensures place { VeryPart file.entry result (text_start tape file.now self.at) (length (text_at_of (tape_in tape file.now) self.at)) }
+    pub fn text<'a>(self, tape: &TapeFile<'a>) -> &'a [u8]
+        ensures bytes { result.now ≡ text_at_of (contents tape.now) self.at }
+        ensures place { VeryPart tape.now.file result (text_start tape.now.sections tape.now.file.now self.at) (length (text_at_of (contents tape.now) self.at)) }
     {
-        let start = long(self.start(file, tape));
-        parts::part(source(file, tape), start, long(self.len(file, tape)))
+        let start = long(self.start(tape));
+        parts::part(tape.source(), start, long(self.len(tape)))
     }
 
     // The source from the node's span on.
-    pub fn tail(self, file: &[u8], tape: Sections) -> &[u8]
-        ensures { result.now ≡ drop (node_at (tape_in tape file.now) self.at).start (tape_in tape file.now).source }
+    pub fn tail<'a>(self, tape: &TapeFile<'a>) -> &'a [u8]
+        ensures { result.now ≡ drop (node_at (contents tape.now) self.at).start (contents tape.now).source }
     {
-        parts::from(source(file, tape), long(self.start(file, tape)))
+        parts::from(tape.source(), long(self.start(tape)))
     }
 
     // How long the node's text is.
-    pub fn size(self, file: &[u8], tape: Sections) -> usize
-        ensures { result ≡ length (text_at_of (tape_in tape file.now) self.at) }
+    pub fn size(self, tape: &TapeFile<'_>) -> usize
+        ensures { result ≡ length (text_at_of (contents tape.now) self.at) }
     {
-        let left = self.tail(file, tape).len();
-        let n = long(self.len(file, tape));
+        let left = self.tail(tape).len();
+        let n = long(self.len(tape));
         if n < left { n } else { left }
     }
 
     // The node that a MarkerOpen links to.
-    pub fn matching_close(self, file: &[u8], tape: Sections) -> Step
-        ensures { result ≡ matching_close (tape_in tape file.now) self.at }
+    pub fn matching_close(self, tape: &TapeFile<'_>) -> Option<Cursor>
+        ensures { result ≡ matching_close (contents tape.now) self.at }
     {
-        if self.kind(file, tape).code == Kind::MARKER_OPEN {
-            Step::At(Cursor::new(self.link(file, tape)))
+        if self.kind(tape).code == Kind::MARKER_OPEN {
+            Some(Cursor::new(self.link(tape)))
         } else {
-            Step::Done
+            None
         }
     }
 
-    pub fn first_child(self, file: &[u8], tape: Sections) -> Step
-        ensures { result ≡ first_child (tape_in tape file.now) self.at }
+    pub fn first_child(self, tape: &TapeFile<'_>) -> Option<Cursor>
+        ensures { result ≡ first_child (contents tape.now) self.at }
     {
-        if self.kind(file, tape).holds() {
-            child_before(tape.nodes, self.at, self.link(file, tape))
+        if self.kind(tape).holds() {
+            child_before(tape.sections.nodes, self.at, self.link(tape))
         } else {
-            Step::Done
+            None
         }
     }
 
-    pub fn next_sibling(self, file: &[u8], tape: Sections) -> Step
-        ensures { result ≡ next_sibling (tape_in tape file.now) self.at }
+    pub fn next_sibling(self, tape: &TapeFile<'_>) -> Option<Cursor>
+        ensures { result ≡ next_sibling (contents tape.now) self.at }
     {
-        past(file, tape, self.at, self.last(file, tape))
+        past(tape, self.at, self.last(tape))
     }
 
     // The last node of what this one holds: its link, or itself.
-    fn last(self, file: &[u8], tape: Sections) -> u32
-        ensures { result ≡ last_held (tape_in tape file.now) self.at }
+    fn last(self, tape: &TapeFile<'_>) -> u32
+        ensures { result ≡ last_held (contents tape.now) self.at }
     {
-        if self.kind(file, tape).holds() {
-            self.link(file, tape)
+        if self.kind(tape).holds() {
+            self.link(tape)
         } else {
             self.at
         }
     }
 
     // The marker name: the very part of the file between an optional `\`, an optional `+`, and white space, `*`, `|`, `\` or the node's end.
-    pub fn marker_name(self, file: &[u8], tape: Sections) -> &[u8]
-        ensures bytes { result.now ≡ marker_name (tape_in tape file.now) self.at }
-        ensures place { VeryPart file.entry result (marker_start tape file.now self.at) (marker_len (tape_in tape file.now) self.at) }
+    pub fn marker_name<'a>(self, tape: &TapeFile<'a>) -> &'a [u8]
+        ensures bytes { result.now ≡ marker_name (contents tape.now) self.at }
+        ensures place { VeryPart tape.now.file result (marker_start tape.now.sections tape.now.file.now self.at) (marker_len (contents tape.now) self.at) }
     {
-        name::name_in(self.text(file, tape))
+        name::name_in(self.text(tape))
     }
 
     // Whether the marker name is this one.
-    pub fn is_named(self, file: &[u8], tape: Sections, name: &[u8]) -> bool
-        ensures { result ≡ same (marker_name (tape_in tape file.now) self.at) name.now }
+    pub fn is_named(self, tape: &TapeFile<'_>, name: &[u8]) -> bool
+        ensures { result ≡ same (marker_name (contents tape.now) self.at) name.now }
     {
-        parts::same(self.marker_name(file, tape), name)
+        parts::same(self.marker_name(tape), name)
     }
 
     // Whether the node has an entry of this name.
-    pub fn has_entry(self, file: &[u8], tape: Sections, name: &[u8]) -> bool
-        ensures { result ≡ entry_is_of (tape_in tape file.now) self.at name.now }
+    pub fn has_entry(self, tape: &TapeFile<'_>, name: &[u8]) -> bool
+        ensures { result ≡ entry_is_of (contents tape.now) self.at name.now }
     {
-        match self.marker_info(file, tape) {
-            Info::Known(e) => parts::same(entry_name(file, tape, e), name),
-            Info::Unknown => false,
+        match self.marker_info(tape) {
+            Some(e) => parts::same(tape.entry_name(e), name),
+            None => false,
         }
     }
 }
 
 // The node behind `at`, if it stands before the link and on a tape of so many nodes.
-fn child_before(nodes: u32, at: u32, link: u32) -> Step
+fn child_before(nodes: u32, at: u32, link: u32) -> Option<Cursor>
     ensures { result ≡ child_before nodes at link }
 {
     if link <= at {
-        return Step::Done;
+        return None;
     }
     let next = at + 1;
     if link <= next {
-        return Step::Done;
+        return None;
     }
     if next < nodes {
-        Step::At(Cursor::new(next))
+        Some(Cursor::new(next))
     } else {
-        Step::Done
+        None
     }
 }
 
 // The node behind `last`, if it is on the tape, stands behind `at` and closes nothing.
-fn past(file: &[u8], tape: Sections, at: u32, last: u32) -> Step
-    ensures { result ≡ sibling_past (tape_in tape file.now) at last }
+fn past(tape: &TapeFile<'_>, at: u32, last: u32) -> Option<Cursor>
+    ensures { result ≡ sibling_past (contents tape.now) at last }
 {
     if last < at {
-        return Step::Done;
+        return None;
     }
-    if tape.nodes <= last {
-        return Step::Done;
+    if tape.sections.nodes <= last {
+        return None;
     }
     let next = last + 1;
-    if tape.nodes <= next {
-        return Step::Done;
+    if tape.sections.nodes <= next {
+        return None;
     }
     let c = Cursor::new(next);
-    if c.kind(file, tape).is_close() {
-        Step::Done
+    if c.kind(tape).is_close() {
+        None
     } else {
-        Step::At(c)
+        Some(c)
     }
 }

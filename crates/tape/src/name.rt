@@ -24,19 +24,11 @@ pub fn bare(s: &[u8]) -> &[u8]
 }
 
 // Whether a code point ends a name.
+#[tactic(auto, unfolding(crate::specs::Name::ends_name_of))]
 pub fn ends_name(code: u32) -> bool
     ensures { result ≡ ends_name_of code }
 {
-    if chars::is_white(code) {
-        return true;
-    }
-    if code == 0x2A {
-        return true;
-    }
-    if code == 0x7C {
-        return true;
-    }
-    code == 0x5C
+    chars::is_white(code) || code == 0x2A || code == 0x7C || code == 0x5C
 }
 
 // Whether a byte is an ASCII character that ends no name: 30..7A but for `\`.
@@ -57,6 +49,7 @@ fn name_len(s: &[u8]) -> usize
     ensures { result ≡ name_len s.now }
 {
     let mut i = 0;
+    // A `while`: each turn passes as many bytes as the character takes.
     while i < s.len() {
         if is_name_byte(s[i]) {
             i += 1;

@@ -2,21 +2,7 @@
 ghost use Rattle.std.specs.Prelude.{◌≡◌, ◌+◌, ◌*◌, ◌<◌, ◌^◌};
 ghost use Rattle.tape.specs.File.{le32 as le32_of};
 
-fn wide(x: u8) -> u16
-    ensures value { result ≡ x }
-    ensures upper_bound { result < 256 }
-{
-    x as u16
-}
-
-pub fn wider(x: u16) -> u32
-    ensures value { result ≡ x }
-    ensures upper_bound { result < 65536 }
-{
-    x as u32
-}
-
-// A u32 as a place.
+// A u32 as a place, by `as`: the library has no `From` between them.
 pub fn long(x: u32) -> usize
     ensures value { result ≡ x }
     ensures upper_bound { result < 2 ^ 32 }
@@ -28,14 +14,14 @@ pub fn long(x: u32) -> usize
 pub fn pair(a: u8, z: u8) -> u16
     ensures { result ≡ a + 256 * z }
 {
-    wide(a) + 256 * wide(z)
+    u16::from(a) + 256 * u16::from(z)
 }
 
 // The number of four bytes, the lowest first.
 pub fn quad(a: u8, e: u8, i: u8, o: u8) -> u32
     ensures { result ≡ a + 256 * e + 65536 * (i + 256 * o) }
 {
-    wider(pair(a, e)) + 65536 * wider(pair(i, o))
+    u32::from(pair(a, e)) + 65536 * u32::from(pair(i, o))
 }
 
 // The number of the first four bytes; what is missing counts 0.
@@ -55,5 +41,5 @@ pub fn short(x: u16) -> usize
     ensures value { result ≡ x }
     ensures upper_bound { result < 2 ^ 16 }
 {
-    x as usize
+    usize::from(x)
 }

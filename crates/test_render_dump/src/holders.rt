@@ -1,101 +1,94 @@
 // What a node that holds others says.
-ghost use Rattle.tape.specs.File.{tape_in};
-ghost use Rattle.leading_white.specs.Lean.{Solids};
-
 use crate::{pairs, say};
-use attrs::Sought;
+use leading_white::Book;
 use render::Align;
 use std::io;
-use tape::{Cursor, Sections, Step};
+use tape::{Cursor, TapeFile};
 use words::Set;
 
 // Of each child whether inline content follows it; the solid sibling is kept along the way.
-fn each_follows(
-    rt: &impl Print,
-    file: &[u8],
-    t: Sections,
-    solids: &[u32],
-    c: Cursor,
-) -> io::Result<()>
-    requires { Solids (tape_in t file.now) solids.now }
-{
-    let mut step = c.first_child(file, t);
-    let mut kept = step;
-    loop {
-        let Step::At(child) = step else {
-            return Ok(());
-        };
-        kept = render::solid_behind(file, t, solids, child, kept);
-        say::digit(rt, render::inline_at(file, t, kept))?;
-        step = child.next_sibling(file, t);
+fn each_follows(rt: &impl Print, book: &Book<'_>, c: Cursor) -> io::Result<()> {
+    let tape = &book.tape;
+    let mut next = c.first_child(tape);
+    let mut kept = next;
+    while let Some(child) = next {
+        kept = render::solid_behind(book, child, kept);
+        say::digit(rt, render::inline_at(tape, kept))?;
+        next = child.next_sibling(tape);
     }
+    Ok(())
 }
 
-fn category(rt: &impl Print, file: &[u8], t: Sections, text: Step) -> io::Result<()> {
+fn category(rt: &impl Print, tape: &TapeFile<'_>, text: Option<Cursor>) -> io::Result<()> {
     match text {
-        Step::At(c) => say::quoted(rt, render::trimmed(file, t, c)),
-        Step::Done => say::run(rt, b"-"),
+        Some(c) => say::quoted(rt, render::trimmed(tape, c)),
+        None => print!(rt; "-"),
     }
 }
 
 // The caller and the category.
-fn note(rt: &impl Print, file: &[u8], t: Sections, c: Cursor) -> io::Result<()> {
-    say::head(rt, c.at, b" note ")?;
-    say::quoted(rt, render::note_caller(file, b"+", t, c))?;
-    say::run(rt, b" ")?;
-    category(rt, file, t, render::category_text(file, t, c))
+fn note<'a>(rt: &impl Print, tape: &TapeFile<'a>, c: Cursor) -> io::Result<()> {
+    print!(rt; "{} note ", c.at)?;
+    let caller: &'a [u8] = render::note_caller(b"+", tape, c);
+    say::quoted(rt, caller)?;
+    print!(rt; " ")?;
+    category(rt, tape, render::category_text(tape, c))
 }
 
-fn cell(rt: &impl Print, name: &[u8]) -> io::Result<()> {
-    match render::cell_align(name) {
-        Align::Start => say::run(rt, b" start\n"),
-        Align::Center => say::run(rt, b" center\n"),
-        Align::End => say::run(rt, b" end\n"),
+fn align_name(align: Align) -> &'static str {
+    match align {
+        Align::Start => "start",
+        Align::Center => "center",
+        Align::End => "end",
     }
 }
 
 // By its own name, as a `fig` and as a `periph`.
-fn attributes(rt: &impl Print, file: &[u8], t: Sections, c: Cursor) -> io::Result<()> {
-    say::head(rt, c.at, b" attributes")?;
-    pairs::all(rt, file, t, c, c.marker_name(file, t))?;
-    say::run(rt, b" fig")?;
-    pairs::all(rt, file, t, c, b"fig")?;
-    say::run(rt, b" periph")?;
-    pairs::all(rt, file, t, c, b"periph")
+fn attributes(rt: &impl Print, tape: &TapeFile<'_>, c: Cursor) -> io::Result<()> {
+    print!(rt; "{} attributes", c.at)?;
+    pairs::all(rt, tape, c, c.marker_name(tape))?;
+    print!(rt; " fig")?;
+    pairs::all(rt, tape, c, b"fig")?;
+    print!(rt; " periph")?;
+    pairs::all(rt, tape, c, b"periph")?;
+    println!(rt; "")
 }
 
-fn field(rt: &impl Print, key: &[u8], text: &[u8]) -> io::Result<()> {
-    if 0 < text.len() {
-        say::run(rt, key)?;
+fn field(rt: &impl Print, key: &str, text: &[u8]) -> io::Result<()> {
+    if !text.is_empty() {
+        print!(rt; " {key}=")?;
         say::quoted(rt, text)?;
     }
     Ok(())
 }
 
-fn fields(rt: &impl Print, file: &[u8], t: Sections, a: Cursor) -> io::Result<()> {
-    field(rt, b" file=", figure::field(file, t, a, 0))?;
-    field(rt, b" size=", figure::field(file, t, a, 1))?;
-    field(rt, b" loc=", figure::field(file, t, a, 2))?;
-    field(rt, b" copy=", figure::field(file, t, a, 3))?;
-    field(rt, b" ref=", figure::field(file, t, a, 5))
+fn fields(rt: &impl Print, tape: &TapeFile<'_>, a: Cursor) -> io::Result<()> {
+    field(rt, "file", figure::field(tape, a, 0))?;
+    field(rt, "size", figure::field(tape, a, 1))?;
+    field(rt, "loc", figure::field(tape, a, 2))?;
+    field(rt, "copy", figure::field(tape, a, 3))?;
+    field(rt, "ref", figure::field(tape, a, 5))
 }
 
-fn legacy(rt: &impl Print, file: &[u8], t: Sections, c: Cursor) -> io::Result<()> {
-    match figure::legacy(file, t, c) {
-        Step::At(a) => {
-            field(rt, b" alt=", figure::description(file, t, c))?;
-            fields(rt, file, t, a)?;
-            say::run(rt, b">")?;
-            say::escaped(rt, figure::field(file, t, a, 4), false)
-        }
-        Step::Done => say::run(rt, b" -"),
+// The fields of a figure of old.
+fn legacy(rt: &impl Print, tape: &TapeFile<'_>, c: Cursor) -> io::Result<()> {
+    print!(rt; "{} figure", c.at)?;
+    if let Some(a) = figure::legacy(tape, c) {
+        field(rt, "alt", figure::description(tape, c))?;
+        fields(rt, tape, a)?;
+        print!(rt; ">")?;
+        say::escaped(rt, figure::field(tape, a, 4), false)?;
+    } else {
+        print!(rt; " -")?;
     }
+    println!(rt; "")
 }
 
 // The words of a text, joined by one space.
 fn joined(rt: &impl Print, s: &[u8], attr: bool) -> io::Result<()> {
     let mut part = words::next_word(s, Set::Unicode, 0);
     let mut begun = false;
+    // A `while`: a turn for each word.
     while 0 < part.len {
         say::space_if(rt, begun)?;
         say::escaped(rt, parts::part(s, part.start, part.len), attr)?;
@@ -107,76 +100,56 @@ fn joined(rt: &impl Print, s: &[u8], attr: bool) -> io::Result<()> {
 
 fn book_rest(rt: &impl Print, rest: &[u8]) -> io::Result<()> {
     if words::is_blank(rest, Set::Unicode) {
-        say::run(rt, b"\" style=\"id\" />\n")
+        println!(rt; "\" style=\"id\" />")
     } else {
-        say::run(rt, b"\" style=\"id\">")?;
+        print!(rt; "\" style=\"id\">")?;
         joined(rt, rest, false)?;
-        say::run(rt, b"</book>\n")
+        println!(rt; "</book>")
     }
 }
 
-fn book(rt: &impl Print, file: &[u8], t: Sections, c: Cursor) -> io::Result<()> {
-    let p = render::book_code(file, t, c);
-    say::head(rt, c.at, b" <book code=\"")?;
-    say::run(rt, parts::part(tape::source(file, t), p.start, p.len))?;
-    book_rest(rt, render::book_rest(file, t, c))
+fn book(rt: &impl Print, tape: &TapeFile<'_>, c: Cursor) -> io::Result<()> {
+    let p = render::book_code(tape, c);
+    print!(rt; "{} <book code=\"", c.at)?;
+    rt.write_all(parts::part(tape.source(), p.start, p.len))?;
+    book_rest(rt, render::book_rest(tape, c))
 }
 
-fn location(rt: &impl Print, source: &[u8], loc: Sought) -> io::Result<()> {
-    match loc {
-        Sought::At(v) => {
-            say::run(rt, b" loc=")?;
-            pairs::value(rt, source, v)
-        }
-        Sought::Nowhere => Ok(()),
+fn reference(rt: &impl Print, tape: &TapeFile<'_>, c: Cursor) -> io::Result<()> {
+    print!(rt; "{} <ref", c.at)?;
+    if let Some(loc) = attrs::first_with(tape, c, b"ref", b"loc") {
+        print!(rt; " loc=")?;
+        pairs::value(rt, tape.source(), loc)?;
     }
-}
-
-fn reference(rt: &impl Print, file: &[u8], t: Sections, c: Cursor) -> io::Result<()> {
-    say::head(rt, c.at, b" <ref")?;
-    location(
-        rt,
-        tape::source(file, t),
-        attrs::first_with(file, t, c, b"ref", b"loc"),
-    )?;
-    say::run(rt, b">")
+    print!(rt; ">")
 }
 
 // The alt of a periph.
 fn alt(rt: &impl Print, text: &[u8]) -> io::Result<()> {
     if words::is_blank(text, Set::Unicode) {
-        say::run(rt, b"\n")
+        println!(rt; "")
     } else {
-        say::run(rt, b" alt=\"")?;
+        print!(rt; " alt=\"")?;
         joined(rt, text, true)?;
-        say::run(rt, b"\"\n")
+        println!(rt; "\"")
     }
 }
 
-fn own_lines(rt: &impl Print, file: &[u8], t: Sections, solids: &[u32], c: Cursor) -> io::Result<()>
-    requires { Solids (tape_in t file.now) solids.now }
-{
-    say::head(rt, c.at, b" follows ")?;
-    each_follows(rt, file, t, solids, c)?;
-    say::run(rt, b"\n")?;
-    note(rt, file, t, c)?;
-    cell(rt, c.marker_name(file, t))
+fn own_lines(rt: &impl Print, book: &Book<'_>, c: Cursor) -> io::Result<()> {
+    print!(rt; "{} follows ", c.at)?;
+    each_follows(rt, book, c)?;
+    println!(rt; "")?;
+    note(rt, &book.tape, c)?;
+    let align = render::cell_align(c.marker_name(&book.tape));
+    println!(rt; " {}", align_name(align))
 }
 
-fn lists(rt: &impl Print, file: &[u8], t: Sections, c: Cursor) -> io::Result<()> {
-    attributes(rt, file, t, c)?;
-    say::run(rt, b"\n")?;
-    say::head(rt, c.at, b" figure")?;
-    legacy(rt, file, t, c)?;
-    say::run(rt, b"\n")
-}
-
-pub fn lines(rt: &impl Print, file: &[u8], t: Sections, solids: &[u32], c: Cursor) -> io::Result<()>
-    requires { Solids (tape_in t file.now) solids.now }
-{
-    own_lines(rt, file, t, solids, c)?;
-    lists(rt, file, t, c)?;
-    book(rt, file, t, c)?;
-    reference(rt, file, t, c)?;
-    alt(rt, render::leading_text(file, t, c))
+pub fn lines(rt: &impl Print, b: &Book<'_>, c: Cursor) -> io::Result<()> {
+    let tape = &b.tape;
+    own_lines(rt, b, c)?;
+    attributes(rt, tape, c)?;
+    legacy(rt, tape, c)?;
+    book(rt, tape, c)?;
+    reference(rt, tape, c)?;
+    alt(rt, render::leading_text(tape, c))
 }

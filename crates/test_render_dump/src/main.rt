@@ -3,9 +3,6 @@
 //
 // Standard input is a stream (crate `test_stream`) of admitted tapes of at most 65,536 bytes.
 // The forms of the lines stand in oracle/README.md, under `oracle render`.
-ghost use Rattle.tape.specs.File.{tape_in};
-ghost use Rattle.leading_white.specs.Lean.{Solids};
-
 mod anchors;
 mod holders;
 mod pairs;
@@ -13,41 +10,41 @@ mod say;
 mod shapes;
 mod texts_of;
 
+use leading_white::Book;
 use std::io;
-use std::io::Input;
-use tape::{Cursor, Kind, Sections};
-use test_stream::Item;
+use tape::{Cursor, Kind, Sections, TapeFile};
 
 // The lines that a node has by its kind.
-fn by_kind(rt: &impl Print, file: &[u8], t: Sections, solids: &[u32], c: Cursor) -> io::Result<()>
-    requires { Solids (tape_in t file.now) solids.now }
-{
-    let code = c.kind(file, t).code;
-    match code {
-        Kind::ROOT | Kind::MARKER_OPEN => holders::lines(rt, file, t, solids, c),
-        Kind::TEXT => texts_of::lines(rt, file, t, solids, c),
-        Kind::CHAPTER => anchors::fold(rt, file, t, solids, c),
-        Kind::VERSE => anchors::lines(rt, file, t, solids, c),
+fn by_kind(rt: &impl Print, book: &Book<'_>, c: Cursor) -> io::Result<()> {
+    match c.kind(&book.tape).code {
+        Kind::ROOT | Kind::MARKER_OPEN => holders::lines(rt, book, c),
+        Kind::TEXT => texts_of::lines(rt, book, c),
+        Kind::CHAPTER => anchors::fold(rt, book, c),
+        Kind::VERSE => anchors::lines(rt, book, c),
         _ => Ok(()),
     }
 }
 
-fn nodes(rt: &impl Print, file: &[u8], t: Sections, solids: &[u32]) -> io::Result<()>
-    requires { Solids (tape_in t file.now) solids.now }
-{
-    for at in 0..t.nodes {
+fn nodes(rt: &impl Print, book: &Book<'_>) -> io::Result<()> {
+    for at in 0..book.tape.sections.nodes {
         let c = Cursor::new(at);
-        shapes::line(rt, file, t, solids, c)?;
-        by_kind(rt, file, t, solids, c)?;
+        shapes::line(rt, book, c)?;
+        by_kind(rt, book, c)?;
     }
-    Ok(())
+    println!(rt; "")
 }
 
 fn tabled(rt: &impl Print, file: &[u8], table: &mut [u32]) -> io::Result<()> {
-    let t = Sections::of(file);
-    leading_white::fill(table, file, t);
-    nodes(rt, file, t, table)?;
-    say::run(rt, b"\n")
+    let sections = Sections::of(file);
+    let tape = TapeFile { file, sections };
+    leading_white::fill(table, &tape);
+    nodes(
+        rt,
+        &Book {
+            tape,
+            solids: table,
+        },
+    )
 }
 
 // With a table of places for a source of 65,536 bytes.
@@ -56,25 +53,7 @@ fn dump(rt: &impl Print, file: &[u8]) -> io::Result<()> {
     tabled(rt, file, &mut table)
 }
 
-// One tape of the stream; false at its end.
-fn step(rt: &(impl Input + Print), space: &mut [u8]) -> io::Result<bool> {
-    let Item::Held(size) = test_stream::next(rt, space)? else {
-        return Ok(false);
-    };
-    dump(rt, parts::part(space, 0, size))?;
-    Ok(true)
-}
-
-fn run(rt: &(impl Input + Print), space: &mut [u8]) -> io::Result<()> {
-    for _ in 0..u32::MAX {
-        if !step(rt, space)? {
-            return Ok(());
-        }
-    }
-    Ok(())
-}
-
 fn main(rt: HostRuntime) -> io::Result<()> {
     let mut space = [0u8; 65536];
-    run(&rt, &mut space)
+    test_stream::for_each(&rt, &mut space, |file| dump(&rt, file))
 }

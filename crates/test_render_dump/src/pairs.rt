@@ -1,12 +1,13 @@
 // Attributes as they are written in a tag.
 use crate::say;
-use attrs::{Attrs, Key, Next, Value};
+use attrs::{Attrs, Key, Value};
 use std::io;
-use tape::{Cursor, Sections};
+use tape::{Cursor, TapeFile};
 
 // A quoted raw value, without the `\` of each `\"`.
 fn unquoted(rt: &impl Print, s: &[u8]) -> io::Result<()> {
     let mut at = 0;
+    // A `loop`: each turn passes as many bytes as the piece has.
     loop {
         let rest = parts::from(s, at);
         let n = attrs::piece_len(rest);
@@ -21,37 +22,28 @@ fn unquoted(rt: &impl Print, s: &[u8]) -> io::Result<()> {
 // A value between quotes.
 pub fn value(rt: &impl Print, source: &[u8], v: Value) -> io::Result<()> {
     let raw = parts::part(source, v.start, v.len);
-    say::run(rt, b"\"")?;
+    print!(rt; "\"")?;
     if v.quoted {
         unquoted(rt, raw)?;
     } else {
         say::escaped(rt, raw, true)?;
     }
-    say::run(rt, b"\"")
+    print!(rt; "\"")
 }
 
 fn pair(rt: &impl Print, source: &[u8], key: Key, v: Value) -> io::Result<()> {
-    say::run(rt, b" ")?;
-    let fixed = attrs::FIXED_KEYS;
-    say::run(rt, attrs::key_of(source, &fixed, key))?;
-    say::run(rt, b"=")?;
+    print!(rt; " ")?;
+    rt.write_all(attrs::key_of(source, &attrs::FIXED_KEYS, key))?;
+    print!(rt; "=")?;
     value(rt, source, v)
 }
 
 // The attributes of a node whose marker goes by this name.
-pub fn all(rt: &impl Print, file: &[u8], t: Sections, c: Cursor, marker: &[u8]) -> io::Result<()> {
-    let mut left = Attrs::of(file, t, c);
-    loop {
-        match left.next(file, t, marker) {
-            Next::Done => return Ok(()),
-            Next::Pair {
-                key,
-                value: v,
-                left: after,
-            } => {
-                pair(rt, tape::source(file, t), key, v)?;
-                left = after;
-            }
-        }
+pub fn all(rt: &impl Print, tape: &TapeFile<'_>, c: Cursor, marker: &[u8]) -> io::Result<()> {
+    let mut left = Attrs::of(tape, c);
+    while let Some(attribute) = left.next(tape, marker) {
+        pair(rt, tape.source(), attribute.key, attribute.value)?;
+        left = attribute.left;
     }
+    Ok(())
 }

@@ -10,30 +10,13 @@
 // the Rust's own text.
 use std::io;
 use std::io::Input;
-use test_stream::Item;
 use usx::Answer;
 
-fn wide(n: usize) -> u64 {
-    n as u64
-}
-
-fn say(rt: &impl Print, run: &[u8]) -> io::Result<()> {
-    rt.write_all(run)
-}
-
-// A word and a number behind it.
-fn say_number(rt: &impl Print, word: &[u8], n: u64) -> io::Result<()> {
-    say(rt, word)?;
-    rt.print(n)
-}
-
 // What a call gave, and how much of its buffer it left alone.
-fn line(rt: &impl Print, number: u64, length: usize, buffer: &[u8]) -> io::Result<()> {
-    say_number(rt, b"room ", wide(buffer.len()))?;
-    say_number(rt, b": number ", number)?;
-    say_number(rt, b", length ", wide(length))?;
-    say_number(rt, b", ", wide(test_marks::unchanged(buffer)))?;
-    say(rt, b" unchanged\n")
+fn line(rt: &impl Print, number: u8, length: usize, buffer: &[u8]) -> io::Result<()> {
+    let room = buffer.len();
+    let unchanged = test_marks::unchanged(buffer);
+    println!(rt; "room {room}: number {number}, length {length}, {unchanged} unchanged")
 }
 
 // One call, its line and the text that it wrote; the length given.
@@ -42,12 +25,12 @@ fn call(rt: &impl Print, file: &[u8], buffer: &mut [u8]) -> io::Result<usize> {
     match usx::serialize(file, buffer) {
         Answer::Written(n) => {
             line(rt, 0, n, buffer)?;
-            say(rt, parts::part(buffer, 0, n))?;
-            say(rt, b"\n")?;
+            rt.write_all(parts::part(buffer, 0, n))?;
+            println!(rt; "")?;
             Ok(n)
         }
-        Answer::Refused(n) => {
-            line(rt, n as u64, 0, buffer)?;
+        Answer::Refused(number) => {
+            line(rt, number, 0, buffer)?;
             Ok(0)
         }
         Answer::NoRoom(n) => {
@@ -57,17 +40,12 @@ fn call(rt: &impl Print, file: &[u8], buffer: &mut [u8]) -> io::Result<usize> {
     }
 }
 
-fn too_long(rt: &impl Print, room: usize) -> io::Result<()> {
-    say_number(rt, b"room ", wide(room))?;
-    say(rt, b": too long\n")
-}
-
 // A call with a buffer of so many bytes.
 fn call_with(rt: &impl Print, file: &[u8], out: &mut [u8], room: usize) -> io::Result<usize> {
     if room <= out.len() {
         return call(rt, file, &mut out[..room]);
     }
-    too_long(rt, room)?;
+    println!(rt; "room {room}: too long")?;
     Ok(0)
 }
 
@@ -76,31 +54,20 @@ fn replay(rt: &impl Print, file: &[u8], out: &mut [u8]) -> io::Result<()> {
     let n = call_with(rt, file, out, 0)?;
     if n == 0 {
         call_with(rt, file, out, 100)?;
-        return Ok(());
+    } else {
+        call_with(rt, file, out, n - 1)?;
+        call_with(rt, file, out, n)?;
+        call_with(rt, file, out, n.saturating_add(100))?;
     }
-    call_with(rt, file, out, n - 1)?;
-    call_with(rt, file, out, n)?;
-    call_with(rt, file, out, std::num::wrapping_add_usize(n, 100))?;
-    Ok(())
+    println!(rt; "")
 }
 
-// One tape of the stream; false at its end.
-fn step(rt: &(impl Input + Print), space: &mut [u8], out: &mut [u8]) -> io::Result<bool> {
-    let Item::Held(size) = test_stream::next(rt, space)? else {
-        return Ok(false);
-    };
-    replay(rt, parts::part(space, 0, size), out)?;
-    say(rt, b"\n")?;
-    Ok(true)
-}
-
-fn run(rt: &(impl Input + Print), space: &mut [u8], out: &mut [u8]) -> io::Result<()> {
-    for _ in 0..u32::MAX {
-        if !step(rt, space, out)? {
-            return Ok(());
-        }
-    }
-    Ok(())
+fn run(
+    rt: &(impl Input + Print),
+    space: &mut [u8; 65536],
+    out: &mut [u8; 65536],
+) -> io::Result<()> {
+    test_stream::for_each(rt, space, |file| replay(rt, file, out))
 }
 
 fn main(rt: HostRuntime) -> io::Result<()> {

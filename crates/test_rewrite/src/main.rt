@@ -4,148 +4,82 @@
 //
 // The tape and the file have room for 3 MiB each. Entries come first, the first with all name bytes, then the source in one piece, then the nodes; a tape whose Root
 // has a close of its own cannot be written so, and its last step is refused.
-use admit::Admitted;
 use std::io;
 use std::io::Input;
-use tape::{Kind, Node, Sections};
+use tape::{Kind, Node, TapeFile};
 use writer::{Answer, Writer};
 
-// Writes the number of a refusal.
-fn refused(rt: &impl Print, number: u8) -> io::Result<()> {
-    rt.write_all(b"refused ")?;
-    rt.print(number as u64)?;
-    rt.write_all(b"\n")
+// The greatest length of the tape and of the file.
+const MOST: usize = 3145728;
+
+// The state behind a step that was done, or the number of its refusal.
+fn done(a: Answer) -> Result<Writer, u8> {
+    if a.number == 0 {
+        Ok(a.writer)
+    } else {
+        Err(a.number)
+    }
 }
 
-// An entry; the first brings all name bytes.
-fn entry(file: &[u8], t: Sections, at: u32, w: Writer, buf: &mut [u8]) -> Answer {
-    let e = tape::entry_at(file, t, at);
+// The step for an entry; the first brings all name bytes.
+fn entry(tape: &TapeFile<'_>, at: u32, w: Writer, buf: &mut [u8]) -> Answer {
+    let e = tape.entry_at(at);
     if at == 0 {
-        return writer::entry(w, buf, tape::names(file, t), e);
-    }
-    writer::entry(w, buf, parts::part(file, 0, 0), e)
-}
-
-// A MarkerOpen: a leaf where it links to itself.
-fn marker(n: Node, at: u32, w: Writer, buf: &mut [u8]) -> Answer {
-    let f = n.flags;
-    if n.link == at {
-        return writer::leaf(w, buf, f.bits, n.marker, n.start, n.len);
-    }
-    writer::open(w, buf, f.bits, n.marker, n.start, n.len)
-}
-
-// A node without a marker.
-fn bare(n: Node, w: Writer, buf: &mut [u8]) -> Answer {
-    let f = n.flags;
-    let k = n.kind;
-    let code = k.code;
-    match code {
-        1 => writer::text(w, buf, f.bits, n.start, n.len),
-        2 => writer::attribute(w, buf, f.bits, n.start, n.len),
-        _ => writer::error(w, buf, f.bits, n.start, n.len),
+        writer::entry(w, buf, tape.names(), e)
+    } else {
+        writer::entry(w, buf, b"", e)
     }
 }
 
-// The step for a node.
+// The step for a node; a MarkerOpen that links to itself is a leaf.
 fn node(n: Node, at: u32, w: Writer, buf: &mut [u8]) -> Answer {
-    let f = n.flags;
-    let k = n.kind;
-    let code = k.code;
-    match code {
-        3 => marker(n, at, w, buf),
-        4 | 5 => writer::close(
-            w,
-            buf,
-            code == Kind::BLOCK_END,
-            f.bits,
-            n.marker,
-            n.start,
-            n.len,
-        ),
-        6 => writer::chapter(w, buf, f.bits, n.marker, n.link, n.start, n.len),
-        7 => writer::verse(w, buf, f.bits, n.marker, n.link, n.start, n.len),
-        _ => bare(n, w, buf),
-    }
-}
-
-// All entries; the answer of the last, or of the first that was not done.
-fn entries(file: &[u8], t: Sections, first: Answer, buf: &mut [u8]) -> Answer {
-    let mut a = first;
-    let mut i: u32 = 0;
-    while i < t.entries {
-        if a.number != 0 {
-            return a;
+    let flags = n.flags.bits;
+    match n.kind.code {
+        Kind::TEXT => writer::text(w, buf, flags, n.start, n.len),
+        Kind::ATTRIBUTE => writer::attribute(w, buf, flags, n.start, n.len),
+        Kind::MARKER_OPEN if n.link == at => {
+            writer::leaf(w, buf, flags, n.marker, n.start, n.len)
         }
-        a = entry(file, t, i, a.writer, buf);
-        i += 1;
+        Kind::MARKER_OPEN => writer::open(w, buf, flags, n.marker, n.start, n.len),
+        Kind::MARKER_CLOSE => writer::close(w, buf, false, flags, n.marker, n.start, n.len),
+        Kind::BLOCK_END => writer::close(w, buf, true, flags, n.marker, n.start, n.len),
+        Kind::CHAPTER => writer::chapter(w, buf, flags, n.marker, n.link, n.start, n.len),
+        Kind::VERSE => writer::verse(w, buf, flags, n.marker, n.link, n.start, n.len),
+        _ => writer::error(w, buf, flags, n.start, n.len),
     }
-    a
 }
 
-// All nodes behind Root, in the same way.
-fn nodes(file: &[u8], t: Sections, first: Answer, buf: &mut [u8]) -> Answer {
-    let mut a = first;
-    let mut i: u32 = 1;
-    while i < t.nodes {
-        if a.number != 0 {
-            return a;
-        }
-        a = node(tape::node_at(file, t, i), i, a.writer, buf);
-        i += 1;
+// All steps; the length of the file, or the number of the first step that was not done.
+fn steps(tape: &TapeFile<'_>, buf: &mut [u8]) -> Result<usize, u8> {
+    let mut w = done(writer::start(writer::new(), buf))?;
+    for at in 0..tape.sections.entries {
+        w = done(entry(tape, at, w, buf))?;
     }
-    a
-}
-
-// The source, in one piece, behind steps that were done.
-fn source(file: &[u8], t: Sections, a: Answer, buf: &mut [u8]) -> Answer {
-    if a.number != 0 {
-        return a;
+    w = done(writer::source(w, buf, tape.source()))?;
+    for at in 1..tape.sections.nodes {
+        w = done(node(tape.node_at(at), at, w, buf))?;
     }
-    writer::source(a.writer, buf, tape::source(file, t))
+    let last = writer::finish(w, buf);
+    done(last)?;
+    Ok(last.length)
 }
 
-// Start, entries and source.
-fn begun(file: &[u8], t: Sections, buf: &mut [u8]) -> Answer {
-    let first = writer::start(writer::new(), buf);
-    let listed = entries(file, t, first, buf);
-    source(file, t, listed, buf)
+// A tape anew, at the front of a buffer.
+fn rewrite(file: &[u8], buf: &mut [u8]) -> Result<usize, u8> {
+    let tape = admit::admit(file).map_err(|reason| reason.number())?;
+    steps(&tape, buf)
 }
 
-// All steps; the answer of the last, or of the first that was not done.
-fn steps(file: &[u8], t: Sections, buf: &mut [u8]) -> Answer {
-    let before = begun(file, t, buf);
-    let added = nodes(file, t, before, buf);
-    if added.number != 0 {
-        return added;
-    }
-    writer::finish(added.writer, buf)
-}
-
-// A tape anew.
-fn rewrite(rt: &impl Print, file: &[u8], t: Sections, buf: &mut [u8]) -> io::Result<()> {
-    let a = steps(file, t, buf);
-    if a.number != 0 {
-        return refused(rt, a.number);
-    }
-    rt.write_all(parts::part(buf, 0, a.length))
-}
-
-fn run(
-    rt: &(impl Input + Print),
-    space: &mut [u8; 3145728],
-    buf: &mut [u8; 3145728],
-) -> io::Result<()> {
+fn run(rt: &(impl Input + Print), space: &mut [u8; MOST], buf: &mut [u8; MOST]) -> io::Result<()> {
     let n = streams::read_full(&mut rt.reader(), space)?;
-    let file = parts::part(space, 0, n);
-    match admit::admit(file) {
-        Admitted::Tape(t) => rewrite(rt, file, t, buf),
-        Admitted::Refused(k) => refused(rt, k),
+    match rewrite(&space[..n], buf) {
+        Ok(length) => rt.write_all(parts::part(buf, 0, length)),
+        Err(number) => println!(rt; "refused {number}"),
     }
 }
 
 fn main(rt: HostRuntime) -> io::Result<()> {
-    let mut space = [0u8; 3145728];
-    let mut buf = [0u8; 3145728];
+    let mut space = [0u8; MOST];
+    let mut buf = [0u8; MOST];
     run(&rt, &mut space, &mut buf)
 }

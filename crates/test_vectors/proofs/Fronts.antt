@@ -12,9 +12,6 @@ still p = by [] refl
 pub onward : {p r : Page} (q : Page) → Written p q → Written q r → Written p r
 onward {p} q (by x e) (by y f) = by (x ++ y) (f ∙ ap (λ (z : Page). paint z y) e ∙ paint-append p x y)
 
-pub third : {p s : Page} (q r : Page) (x y : Bytes) → q ≡ paint p x → r ≡ paint q y → Written r s → Written p s
-third q r x y e f w = onward q (by x e) (onward r (by y f) w)
-
 pub from_front : {buf : Bytes} {q : Page} → Written (record { at = 0; from = 0; buf = buf }) q
     → Written (record { at = 0; from = 0; buf = buf }) (record { at = q.at; from = 0; buf = q.buf })
 from_front {buf} {q} (by x e) =

@@ -1,169 +1,158 @@
-// The answer to each operation, written at the front of a buffer.
+// The operations, and the answer to each, written at the front of a buffer.
 ghost use Rattle.window.specs.Page.{page_of};
 ghost use Rattle.test_vectors.specs.Front.{Written};
 
-use std::io;
 use window::Window;
 use words::{Part, Set};
 
-fn yes_or_no(w: Window, out: &mut [u8], yes: bool) -> Window
-    ensures { Written (page_of w out.old) (page_of result out.new) }
+// What a record asks of the crates.
+#[derive(Clone, Copy)]
+pub enum Op {
+    IsUtf8,
+    FirstChar,
+    IsBoundary,
+    IsWhite,
+    IsAsciiWhite,
+    TrimStart,
+    TrimEnd,
+    Trim,
+    IsBlank,
+    FirstWord,
+    AfterWord,
+    NthWord,
+    LastWord,
+    EscapeXml,
+    EscapeXmlAttr,
+    PutNumber,
+    FindByte,
+    FindPair,
+    BeginsWith,
+    Same,
+    Part,
+    NextWord,
+}
+
+// The operations by their codes, with their names.
+pub const OPS: [(Op, &str); 22] = [
+    (Op::IsUtf8, "is_utf8"),
+    (Op::FirstChar, "first_char"),
+    (Op::IsBoundary, "is_boundary"),
+    (Op::IsWhite, "is_white"),
+    (Op::IsAsciiWhite, "is_ascii_white"),
+    (Op::TrimStart, "trim_start"),
+    (Op::TrimEnd, "trim_end"),
+    (Op::Trim, "trim"),
+    (Op::IsBlank, "is_blank"),
+    (Op::FirstWord, "first_word"),
+    (Op::AfterWord, "after_word"),
+    (Op::NthWord, "nth_word"),
+    (Op::LastWord, "last_word"),
+    (Op::EscapeXml, "escape_xml"),
+    (Op::EscapeXmlAttr, "escape_xml_attr"),
+    (Op::PutNumber, "put_number"),
+    (Op::FindByte, "find_byte"),
+    (Op::FindPair, "find_pair"),
+    (Op::BeginsWith, "begins_with"),
+    (Op::Same, "same"),
+    (Op::Part, "part"),
+    (Op::NextWord, "next_word"),
+];
+
+fn low(n: usize) -> u32 {
+    (n % 4294967296) as u32
+}
+
+fn low_byte(n: usize) -> u8 {
+    (n % 256) as u8
+}
+
+fn yes_or_no(w: &mut Window, out: &mut [u8], yes: bool)
+    ensures { Written (page_of w.old out.old) (page_of w.new out.new) }
 {
-    if yes {
-        window::put_run(w, out, b"1")
-    } else {
-        window::put_run(w, out, b"0")
-    }
+    w.put_number(out, u32::from(yes));
 }
 
-fn pair(w: Window, out: &mut [u8], a: usize, b: usize) -> Window
-    ensures { Written (page_of w out.old) (page_of result out.new) }
+fn count(w: &mut Window, out: &mut [u8], n: usize)
+    ensures { Written (page_of w.old out.old) (page_of w.new out.new) }
 {
-    let w1 = count(w, out, a);
-    let w2 = window::put_run(w1, out, b" ");
-    count(w2, out, b)
+    w.put_number(out, low(n));
 }
 
-fn count(w: Window, out: &mut [u8], n: usize) -> Window
-    ensures { Written (page_of w out.old) (page_of result out.new) }
+fn pair(w: &mut Window, out: &mut [u8], a: usize, z: usize)
+    ensures { Written (page_of w.old out.old) (page_of w.new out.new) }
 {
-    window::put_number(w, out, (n % 4294967296) as u32)
+    count(w, out, a);
+    w.put_run(out, b" ");
+    count(w, out, z);
 }
 
-fn place(w: Window, out: &mut [u8], p: Part) -> Window
-    ensures { Written (page_of w out.old) (page_of result out.new) }
+fn place(w: &mut Window, out: &mut [u8], p: Part)
+    ensures { Written (page_of w.old out.old) (page_of w.new out.new) }
 {
-    pair(w, out, p.start, p.len)
+    pair(w, out, p.start, p.len);
 }
 
-// The number of four bytes, little-endian.
-fn le(s: &[u8]) -> u32 {
-    (tape::length_of(s) % 4294967296) as u32
-}
-
-fn boundaries(w: Window, out: &mut [u8], s: &[u8], places: usize) -> Window
-    ensures { Written (page_of w out.old) (page_of result out.new) }
-{
-    let mut next = w;
-    let mut i = 0;
-    while i < places {
-        next = yes_or_no(next, out, chars::is_boundary(s, i));
-        i += 1;
-    }
-    next
-}
-
-// Whether each of so many code points is white space.
-fn white(w: Window, out: &mut [u8], start: u32, many: u32) -> Window
-    ensures { Written (page_of w out.old) (page_of result out.new) }
-{
-    let mut next = w;
-    let mut i: u32 = 0;
-    while i < many {
-        next = yes_or_no(
-            next,
-            out,
-            chars::is_white(std::num::wrapping_add_u32(start, i)),
-        );
-        i += 1;
-    }
-    next
-}
-
-fn ascii_white(w: Window, out: &mut [u8], start: u32, many: u32) -> Window
-    ensures { Written (page_of w out.old) (page_of result out.new) }
-{
-    let mut next = w;
-    let mut i: u32 = 0;
-    while i < many {
-        let x = (std::num::wrapping_add_u32(start, i) % 256) as u8;
-        next = yes_or_no(next, out, chars::is_ascii_white(x));
-        i += 1;
-    }
-    next
-}
-
-fn first(w: Window, out: &mut [u8], s: &[u8]) -> Window
-    ensures { Written (page_of w out.old) (page_of result out.new) }
+fn first(w: &mut Window, out: &mut [u8], s: &[u8])
+    ensures { Written (page_of w.old out.old) (page_of w.new out.new) }
 {
     let c = chars::first_char(s);
-    let w1 = window::put_number(w, out, c.code);
-    let w2 = window::put_run(w1, out, b" ");
-    count(w2, out, c.width)
+    pair(w, out, c.code as usize, c.width);
 }
 
-fn of_chars(op: u8, n: usize, s: &[u8], w: Window, out: &mut [u8]) -> Window
-    ensures { Written (page_of w out.old) (page_of result out.new) }
+// Whether a test passes, at each of so many numbers.
+fn each<F: Fn(usize) -> bool>(w: &mut Window, out: &mut [u8], many: usize, test: F)
+    requires { F.IsAlwaysCallable test }
+    ensures { Written (page_of w.old out.old) (page_of w.new out.new) }
 {
-    let many = (n % 65536) as u32;
-    match op {
-        0 => yes_or_no(w, out, chars::is_utf8(s)),
-        1 => first(w, out, s),
-        2 => boundaries(w, out, s, n),
-        3 => white(w, out, le(s), many),
-        _ => ascii_white(w, out, le(s), many),
+    for i in 0..many {
+        yes_or_no(w, out, test(i));
     }
 }
 
-fn of_words(op: u8, set: Set, n: usize, s: &[u8], w: Window, out: &mut [u8]) -> Window
-    ensures { Written (page_of w out.old) (page_of result out.new) }
+fn put_answer(w: &mut Window, out: &mut [u8], op: Op, set: Set, n: usize, s: &[u8])
+    ensures { Written (page_of w.old out.old) (page_of w.new out.new) }
 {
+    let code = tape::length_of(s);
     match op {
-        5 => window::put_run(w, out, words::trim_start(s, set)),
-        6 => window::put_run(w, out, words::trim_end(s, set)),
-        7 => window::put_run(w, out, words::trim(s, set)),
-        8 => yes_or_no(w, out, words::is_blank(s, set)),
-        9 => window::put_run(w, out, words::first_word(s, set)),
-        10 => window::put_run(w, out, words::after_word(s, set)),
-        11 => place(w, out, words::nth_word(s, set, n)),
-        12 => window::put_run(w, out, words::last_word(s, set)),
-        _ => place(w, out, words::next_word(s, set, n)),
-    }
-}
-
-fn of_parts(op: u8, n: usize, s: &[u8], w: Window, out: &mut [u8]) -> Window
-    ensures { Written (page_of w out.old) (page_of result out.new) }
-{
-    match op {
-        13 => window::escape_xml(w, out, s),
-        14 => window::escape_xml_attr(w, out, s),
-        15 => window::put_number(w, out, le(s)),
-        16 => count(w, out, parts::find_byte(s, (n % 256) as u8)),
-        17 => count(w, out, parts::find_pair(s, (n % 256) as u8)),
-        18 => yes_or_no(
+        Op::IsUtf8 => yes_or_no(w, out, chars::is_utf8(s)),
+        Op::FirstChar => first(w, out, s),
+        Op::IsBoundary => each(w, out, n, |i| chars::is_boundary(s, i)),
+        Op::IsWhite => each(w, out, n, |i| chars::is_white(low(code.wrapping_add(i)))),
+        Op::IsAsciiWhite => each(
+            w,
+            out,
+            n,
+            |i| chars::is_ascii_white(low_byte(code.wrapping_add(i))),
+        ),
+        Op::TrimStart => w.put_run(out, words::trim_start(s, set)),
+        Op::TrimEnd => w.put_run(out, words::trim_end(s, set)),
+        Op::Trim => w.put_run(out, words::trim(s, set)),
+        Op::IsBlank => yes_or_no(w, out, words::is_blank(s, set)),
+        Op::FirstWord => w.put_run(out, words::first_word(s, set)),
+        Op::AfterWord => w.put_run(out, words::after_word(s, set)),
+        Op::NthWord => place(w, out, words::nth_word(s, set, n)),
+        Op::LastWord => w.put_run(out, words::last_word(s, set)),
+        Op::EscapeXml => w.escape_xml(out, s),
+        Op::EscapeXmlAttr => w.escape_xml_attr(out, s),
+        Op::PutNumber => w.put_number(out, low(code)),
+        Op::FindByte => count(w, out, parts::find_byte(s, low_byte(n))),
+        Op::FindPair => count(w, out, parts::find_pair(s, low_byte(n))),
+        Op::BeginsWith => yes_or_no(
             w,
             out,
             parts::begins_with(parts::from(s, n), parts::part(s, 0, n)),
         ),
-        19 => yes_or_no(w, out, parts::same(parts::from(s, n), parts::part(s, 0, n))),
-        _ => window::put_run(w, out, parts::part(s, n, 3)),
+        Op::Same => yes_or_no(w, out, parts::same(parts::from(s, n), parts::part(s, 0, n))),
+        Op::Part => w.put_run(out, parts::part(s, n, 3)),
+        Op::NextWord => place(w, out, words::next_word(s, set, n)),
     }
 }
 
 // The answer to an operation, and its length.
-pub fn answer(code: usize, set: Set, n: usize, s: &[u8], out: &mut [u8]) -> usize
+pub fn answer(op: Op, set: Set, n: usize, s: &[u8], out: &mut [u8]) -> usize
     ensures { Written (record { at = 0; from = 0; buf = out.old }) (record { at = result; from = 0; buf = out.new }) }
 {
-    let w = Window { at: 0, from: 0 };
-    let op = (code % 256) as u8;
-    if op < 5 {
-        return of_chars(op, n, s, w, out).at;
-    }
-    if op < 13 || op == 21 {
-        return of_words(op, set, n, s, w, out).at;
-    }
-    of_parts(op, n, s, w, out).at
-}
-
-// The name of an operation, and a space.
-pub fn print_name(rt: &impl Print, op: usize) -> io::Result<()> {
-    let row =
-        b"is_utf8 first_char is_boundary is_white is_ascii_white trim_start trim_end trim is_blank first_word after_word nth_word last_word escape_xml escape_xml_attr put_number find_byte find_pair begins_with same part next_word";
-    let word = words::nth_word(row, Set::Ascii, op);
-    line(rt, parts::part(row, word.start, word.len))?;
-    line(rt, b" ")
-}
-
-fn line(rt: &impl Print, text: &[u8]) -> io::Result<()> {
-    rt.write_all(text)
+    let mut w = Window { at: 0, from: 0 };
+    put_answer(&mut w, out, op, set, n, s);
+    w.at
 }

@@ -5,17 +5,27 @@
 // little-endian), input, answer. How the list is made: oracle/src/bin/vectors.rs.
 mod answers;
 
+use answers::OPS;
 use std::io;
 use std::io::Input;
 use test_stream::read_some;
 use words::Set;
 
-// How many answers agree, by operation, how many differ, and whether the list is at its end.
-#[derive(Clone, Copy)]
+// How many answers agree, by operation, and how many differ.
+#[derive(Drop)]
 struct Tally {
     agree: [u64; 22],
     differ: u64,
-    done: bool,
+}
+
+impl Tally {
+    fn count(&mut self, code: usize, agrees: bool) {
+        if agrees && code < 22 {
+            self.agree[code] = self.agree[code].saturating_add(1);
+        } else {
+            self.differ = self.differ.saturating_add(1);
+        }
+    }
 }
 
 // The number of two bytes at a place, little-endian.
@@ -23,99 +33,71 @@ fn number(head: &[u8], at: usize) -> usize {
     tape::length_of(parts::part(head, at, 2))
 }
 
-fn set_of(x: usize) -> Set {
+fn set_of(x: u8) -> Set {
     if x == 0 { Set::Ascii } else { Set::Unicode }
 }
 
-// The tally with one answer more.
-fn counted(t: Tally, op: usize, agrees: bool) -> Tally {
-    let mut next = t;
-    if agrees && op < 22 {
-        let n = next.agree[op];
-        next.agree[op] = std::num::wrapping_add_u64(n, 1);
-    } else {
-        let n = next.differ;
-        next.differ = std::num::wrapping_add_u64(n, 1);
-    }
-    next
-}
-
-fn ended(t: Tally) -> Tally {
-    let mut next = t;
-    next.done = true;
-    next
-}
-
-// One record, answered and compared.
-fn compared(t: Tally, head: &[u8], body: &[u8], out: &mut [u8]) -> Tally {
-    let op = tape::length_of(parts::part(head, 0, 1));
-    let set = set_of(tape::length_of(parts::part(head, 1, 1)));
+// Whether a record's answer is what the crates answer.
+fn agrees(head: &[u8; 8], body: &[u8], out: &mut [u8]) -> bool {
+    let Some((op, _)) = OPS.get(usize::from(head[0])) else {
+        return false;
+    };
     let size = number(head, 4);
     let input = parts::part(body, 0, size);
-    let n = answers::answer(op, set, number(head, 2), input, out);
-    let expected = parts::part(body, size, number(head, 6));
-    counted(t, op, parts::same(parts::part(out, 0, n), expected))
+    let n = answers::answer(*op, set_of(head[1]), number(head, 2), input, out);
+    parts::part(out, 0, n) == parts::part(body, size, number(head, 6))
 }
 
-// One record: its head, its input and answer behind one another, what the crates answer.
+// One record: its head, its input and answer behind one another; false at the end.
 fn step(
     rt: &impl Input,
-    t: Tally,
-    head: &mut [u8],
+    tally: &mut Tally,
+    head: &mut [u8; 8],
     body: &mut [u8],
     out: &mut [u8],
-) -> io::Result<Tally> {
+) -> io::Result<bool> {
     if !read_some(rt, head, 8)? {
-        return Ok(ended(t));
+        return Ok(false);
     }
-    let size = std::num::wrapping_add_usize(number(head, 4), number(head, 6));
-    if read_some(rt, body, size)? {
-        Ok(compared(t, head, body, out))
-    } else {
-        Ok(ended(counted(t, 0, false)))
+    let code = usize::from(head[0]);
+    if !read_some(rt, body, number(head, 4).saturating_add(number(head, 6)))? {
+        tally.count(code, false);
+        return Ok(false);
     }
+    tally.count(code, agrees(head, body, out));
+    Ok(true)
 }
 
 fn run(
     rt: &impl Input,
-    t: Tally,
-    head: &mut [u8],
+    tally: &mut Tally,
+    head: &mut [u8; 8],
     body: &mut [u8],
     out: &mut [u8],
-) -> io::Result<Tally> {
-    let mut next = t;
+) -> io::Result<()> {
     for _ in 0..u32::MAX {
-        next = step(rt, next, head, body, out)?;
-        if next.done {
-            return Ok(next);
+        if !step(rt, tally, head, body, out)? {
+            return Ok(());
         }
     }
-    Ok(next)
+    Ok(())
 }
 
-fn print_count(rt: &impl Print, n: u64) -> io::Result<()> {
-    rt.print(n)?;
-    rt.write_all(b"\n")
-}
-
-fn report(rt: &impl Print, t: Tally) -> io::Result<()> {
-    for i in 0..22 {
-        answers::print_name(rt, i)?;
-        print_count(rt, t.agree[i])?;
+fn report(rt: &impl Print, tally: &Tally) -> io::Result<()> {
+    for ((_, name), n) in OPS.iter().zip(&tally.agree) {
+        println!(rt; "{name} {n}")?;
     }
-    rt.write_all(b"differ ")?;
-    print_count(rt, t.differ)
+    println!(rt; "differ {}", tally.differ)
 }
 
 fn main(rt: HostRuntime) -> io::Result<()> {
     let mut head = [0u8; 8];
     let mut body = [0u8; 4096];
     let mut out = [0u8; 4096];
-    let t = Tally {
+    let mut tally = Tally {
         agree: [0u64; 22],
         differ: 0,
-        done: false,
     };
-    let counts = run(&rt, t, &mut head, &mut body, &mut out)?;
-    report(&rt, counts)
+    run(&rt, &mut tally, &mut head, &mut body, &mut out)?;
+    report(&rt, &tally)
 }

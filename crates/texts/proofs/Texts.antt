@@ -53,10 +53,10 @@ module _ (s : Bytes) where
   ends_some er = er
 
 module _ (s : Bytes) (keepLead keepTrail : Bool) {y : Bool} (ey : y ≡ blank Ascii s) where
-  pub normalized_blank : {z r : Bool} → y ≡ true → z ≡ keepLead && keepTrail → r ≡ ltb 0 (length s) && z
+  pub normalized_blank : {r : Bool} → y ≡ true → r ≡ blank_lead s keepLead keepTrail
       → ◌≡◌ {A = Normalized} (record { lead = r; trail = false; shows = r }) (normalize_text s keepLead keepTrail)
-  unfolding normalize_text blank_lead
-  normalized_blank h ez er = rw (← ey, h, er, ez)
+  unfolding normalize_text
+  normalized_blank h er = rw (← ey, h, er)
 
   pub normalized-text : {a z l r : Bool} → y ≡ false → a ≡ starts_white s → l ≡ a && keepLead → z ≡ ends_white s → r ≡ z && keepTrail
       → ◌≡◌ {A = Normalized} (record { lead = l; trail = r; shows = true }) (normalize_text s keepLead keepTrail)

@@ -1,46 +1,44 @@
 #![tactic(auto)]
 // Normalized text.
-ghost use Rattle.std.specs.Prelude.{◌≡◌, ◌&&◌};
-ghost use Rattle.texts.specs.Text.{body_of, starts_white, ends_white, normalize_text, has_break};
+ghost use Rattle.std.specs.Prelude.{◌≡◌};
+ghost use Rattle.texts.specs.Text.{body_of, starts_white, ends_white, blank_lead, normalize_text, has_break};
 
 use words::Set;
 
 // One space before a body, one behind it, and whether anything is written.
-#[derive(Clone, Copy)]
+#[derive(Clone, Copy, PartialEq, Eq)]
 pub struct Normalized {
     pub lead: bool,
     pub trail: bool,
     pub shows: bool,
 }
 
-fn both(a: bool, z: bool) -> bool
-    ensures { result ≡ a && z }
-{
-    if a {
-        return z;
-    }
-    false
-}
-
 // Whether a text begins with ASCII white space.
 pub fn starts_white(s: &[u8]) -> bool
     ensures { result ≡ starts_white s.now }
 {
-    if s.len() == 0 {
-        return false;
+    match s.first() {
+        Some(x) => chars::is_ascii_white(*x),
+        None => false,
     }
-    chars::is_ascii_white(s[0])
 }
 
 // Whether a text ends with ASCII white space.
 pub fn ends_white(s: &[u8]) -> bool
     ensures { result ≡ ends_white s.now }
 {
-    let n = s.len();
-    if n == 0 {
-        return false;
+    match s.last() {
+        Some(x) => chars::is_ascii_white(*x),
+        None => false,
     }
-    chars::is_ascii_white(s[n - 1])
+}
+
+// Whether an all-blank text is written, as one space.
+#[tactic(auto, unfolding(crate::specs::Text::blank_lead))]
+fn blank_lead(s: &[u8], before: bool, behind: bool) -> bool
+    ensures { result ≡ blank_lead s.now before behind }
+{
+    0 < s.len() && before && behind
 }
 
 // The edges of a normalized text, by whether what stands before it and behind it keeps a space.
@@ -48,7 +46,7 @@ pub fn normalize_text(s: &[u8], before: bool, behind: bool) -> Normalized
     ensures { result ≡ normalize_text s.now before behind }
 {
     if words::is_blank(s, Set::Ascii) {
-        let lead = both(0 < s.len(), both(before, behind));
+        let lead = blank_lead(s, before, behind);
         return Normalized {
             lead,
             trail: false,
@@ -56,8 +54,8 @@ pub fn normalize_text(s: &[u8], before: bool, behind: bool) -> Normalized
         };
     }
     Normalized {
-        lead: both(starts_white(s), before),
-        trail: both(ends_white(s), behind),
+        lead: starts_white(s) && before,
+        trail: ends_white(s) && behind,
         shows: true,
     }
 }

@@ -8,42 +8,27 @@ ghost use Rattle.told.specs.Told.{place_told, line_told, Checked, what_number, n
 
 use checker::Verdict;
 use names::{Found, What};
-use tape::{Sections, long};
+use tape::{Sections, TapeFile, long};
 use words::Part;
-
-// A number of document 01 as the functions for C give it.
-pub fn wide(x: u8) -> u32
-    ensures { result ≡ x }
-{
-    x as u32
-}
-
-fn from_count(x: usize) -> u64
-    ensures { result ≡ x }
-{
-    x as u64
-}
 
 // Stores a number at a place, where there is one.
 pub fn tell(numbers: &mut [u64], at: usize, n: usize)
     ensures { numbers.new ≡ set numbers.old at n }
 {
     if at < numbers.len() {
-        numbers[at] = from_count(n);
+        numbers[at] = n as u64;
     }
 }
 
 // ---- a finished text
 
 // Document 01's number.
+#[tactic(auto, unfolding(checker::specs::Answer::answer_of))]
 fn number_of(v: Verdict) -> u32
     ensures { result ≡ (answer_of v).number }
 {
     match v {
-        Verdict::Accepted {
-            chapters: _,
-            verses: _,
-        } => 0,
+        Verdict::Accepted { .. } => 0,
         Verdict::NotTags => 11,
         Verdict::TooHigh => 12,
         Verdict::NoTree => 13,
@@ -51,54 +36,42 @@ fn number_of(v: Verdict) -> u32
     }
 }
 
-fn chapters_of(v: Verdict) -> usize
-    ensures { result ≡ (answer_of v).chapters }
+// How many chapters and verses start in an accepted text.
+#[tactic(auto, unfolding(checker::specs::Answer::answer_of))]
+fn counts_of(v: Verdict) -> (usize, usize)
+    ensures chapters { result.0 ≡ (answer_of v).chapters }
+    ensures verses { result.1 ≡ (answer_of v).verses }
 {
     match v {
-        Verdict::Accepted {
-            chapters,
-            verses: _,
-        } => chapters,
-        Verdict::NotTags => 0,
-        Verdict::TooHigh => 0,
-        Verdict::NoTree => 0,
-        Verdict::BadMarks => 0,
+        Verdict::Accepted { chapters, verses } => (chapters, verses),
+        Verdict::NotTags | Verdict::TooHigh | Verdict::NoTree | Verdict::BadMarks => (0, 0),
     }
 }
 
-fn verses_of(v: Verdict) -> usize
-    ensures { result ≡ (answer_of v).verses }
-{
-    match v {
-        Verdict::Accepted {
-            chapters: _,
-            verses,
-        } => verses,
-        Verdict::NotTags => 0,
-        Verdict::TooHigh => 0,
-        Verdict::NoTree => 0,
-        Verdict::BadMarks => 0,
-    }
-}
-
-// How many bytes stand before the place where the rule broke.
+// How many bytes stand before the place where a refused text broke its rule.
+#[tactic(auto, unfolding(crate::specs::Told::place_told, crate::specs::Told::of_refused_of))]
 fn place_of(text: &[u8], v: Verdict) -> usize
     ensures { result ≡ place_told v text.now }
 {
-    if number_of(v) == 0 {
-        return 0;
+    match v {
+        Verdict::Accepted { .. } => 0,
+        Verdict::NotTags | Verdict::TooHigh | Verdict::NoTree | Verdict::BadMarks => {
+            checker::place(text, v)
+        }
     }
-    checker::place(text, v)
 }
 
 // The line of that place.
+#[tactic(auto, unfolding(crate::specs::Told::line_told, crate::specs::Told::of_refused_of))]
 fn line_of(text: &[u8], v: Verdict, at: usize) -> usize
     ensures { result ≡ line_told v text.now at }
 {
-    if number_of(v) == 0 {
-        return 0;
+    match v {
+        Verdict::Accepted { .. } => 0,
+        Verdict::NotTags | Verdict::TooHigh | Verdict::NoTree | Verdict::BadMarks => {
+            checker::line_of(text, at)
+        }
     }
-    checker::line_of(text, at)
 }
 
 // The answer to a finished text; its counts become numbers 0 and 1, the place where the rule broke 2 and its line 3.
@@ -106,9 +79,10 @@ pub fn check(text: &[u8], numbers: &mut [u64]) -> u32
     ensures { Checked text.now numbers.old result numbers.new }
 {
     let v = checker::check(text);
+    let (chapters, verses) = counts_of(v);
     let at = place_of(text, v);
-    tell(numbers, 0, chapters_of(v));
-    tell(numbers, 1, verses_of(v));
+    tell(numbers, 0, chapters);
+    tell(numbers, 1, verses);
     tell(numbers, 2, at);
     tell(numbers, 3, line_of(text, v, at));
     number_of(v)
@@ -117,6 +91,7 @@ pub fn check(text: &[u8], numbers: &mut [u64]) -> u32
 // ---- the names of a tape
 
 // What a name is, as a number.
+#[tactic(auto, unfolding(crate::specs::Told::what_number))]
 fn what_number(what: What) -> usize
     ensures { result ≡ what_number what }
 {
@@ -129,6 +104,7 @@ fn what_number(what: What) -> usize
 }
 
 // Tells what a name is, its node, its part of the source and the line of that.
+#[tactic(auto, unfolding(crate::specs::Told::name_in_of))]
 fn tell_name(numbers: &mut [u64], what: usize, node: usize, place: Part, line: usize)
     ensures { numbers.new ≡ name_in_of numbers.old what node place line }
 {
@@ -140,10 +116,15 @@ fn tell_name(numbers: &mut [u64], what: usize, node: usize, place: Part, line: u
 }
 
 // The line of a place of a tape's source.
+#[tactic(auto, unfolding(tape::specs::File::tape_of))]
 fn source_line(file: &[u8], at: usize) -> usize
     ensures { result ≡ line_of (tape_of file.now).source at }
 {
-    checker::line_of(tape::source(file, Sections::of(file)), at)
+    let tape = TapeFile {
+        file,
+        sections: Sections::of(file),
+    };
+    checker::line_of(tape.source(), at)
 }
 
 // The first name of a tape file that breaks the proviso, told by `tell_name`; all numbers become 0 where there is none.
@@ -154,7 +135,7 @@ pub fn find_names(file: &[u8], numbers: &mut [u64]) -> u32
     match names::find_names(file) {
         Found::Refused(n) => {
             tell_name(numbers, 0, 0, none, 0);
-            wide(n)
+            u32::from(n)
         }
         Found::Kept => {
             tell_name(numbers, 0, 0, none, 0);

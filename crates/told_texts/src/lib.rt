@@ -4,7 +4,7 @@ ghost use Rattle.events.specs.Text.{outcome};
 ghost use Rattle.usx.specs.Shown.{view};
 ghost use Rattle.told_texts.specs.Told.{Wrote, Showed};
 
-use told::{tell, wide};
+use told::tell;
 use usx::{Answer, Shown};
 
 // Document 01's number where the buffer is shorter than the text.
@@ -21,7 +21,7 @@ pub fn serialize(file: &[u8], out: &mut [u8], numbers: &mut [u64]) -> u32
         }
         Answer::Refused(n) => {
             tell(numbers, 0, 0);
-            wide(n)
+            u32::from(n)
         }
         Answer::NoRoom(n) => {
             tell(numbers, 0, n);
@@ -43,7 +43,7 @@ pub fn window(file: &[u8], from: usize, out: &mut [u8], numbers: &mut [u64]) -> 
         Shown::Refused(n) => {
             tell(numbers, 0, 0);
             tell(numbers, 1, 0);
-            wide(n)
+            u32::from(n)
         }
     }
 }

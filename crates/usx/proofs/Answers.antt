@@ -1,20 +1,21 @@
 -- What the walk leaves is what is promised of every file: refused, written, without room, shown.
-use mathlib.Core.Path.{◌≡◌, refl, sym, ap, ◌∙◌, subst}
+use mathlib.Core.Path.{◌≡◌, refl, ap, ◌∙◌}
 use mathlib.Core.Bool.{Bool, true, false, cond}
 use mathlib.Core.List.{◌++◌}
 use Prim.Native.Nat.{ℕ, zero, suc, ◌-◌, ◌^◌, ◌≤◌, ◌<◌, min}
 use native.Mathlib.Omega.{arith}
 use lib.ListN.{length, drop, length-take, length-drop, length-append}
-use lib.Dec.{eqb, leb}
+use lib.Dec.{leb}
 use borrow.Author.Tests.{leb-true, le-leb, lt-leb}
 use Rattle.parts.specs.Bytes.{Bytes}
-use Rattle.tape.specs.File.{tape_in, tape_of, sections_of}
-use Rattle.tape.specs.declared.Sections.{Sections}
-use Rattle.admit.specs.Refusal.{Refusal, refusal_number, answer_with}
+use Rattle.std.specs.Borrow.{Bor}
+use Rattle.std.specs.Prelude.{Result, Ok, Err, IfOk}
+use Rattle.tape.specs.File.{contents, tape_of, sections_of}
+use Rattle.tape.specs.declared.TapeFile.{TapeFile}
+use Rattle.admit.specs.Refusal.{Refusal, refusal_number, reason_number}
 use Rattle.admit.specs.Decide.{refusal}
-use Rattle.admit.specs.declared.Admitted.{Admitted}
-use Rattle.admit.specs.declared.Admitted.TheVariants.{Tape as Admitted-tape, Refused as Admitted-refused}
-use Rattle.admit.proofs.Decide.{kept_all, refusal_right, refusal_unique}
+use Rattle.admit.specs.declared.reason.Reason.{Reason}
+use Rattle.admit.proofs.Decide.{kept_all, refusal_right, refusal_unique, reason_some}
 use Rattle.bounds.proofs.Whole.{text-small}
 use Rattle.events.specs.Text.{text_of, Outcome, fitting, outcome_by, outcome}
 use Rattle.walk.specs.Shows.{window_of, showing}
@@ -60,73 +61,69 @@ over text out h = rw (lt-leb (length text) (length out) h)
 
 -- ---- every file
 
-module _ (file : Bytes) {a : Admitted} (en : Refusal file (refusal_number a)) (ea : a ≡ answer_with file (refusal_number a)) where
-  -- a refused file has that number, which is not 0
-  refused-by : {A : Type 0} (x f : ℕ → A) → ((k : ℕ) → x (suc k) ≡ f (suc k)) → {n : ℕ} → a ≡ Admitted-refused n → x n ≡ f (refusal file)
-  unfolding refusal_number answer_with
-  refused-by {A} x f same {n} e = go n (subst (λ (y : Admitted). Refusal file (refusal_number y)) e en) (sym e ∙ ea ∙ ap (λ (y : Admitted). answer_with file (refusal_number y)) e)
+module _ (file : Bor Bytes) {a : Result TapeFile Reason} (en : Refusal file.now (refusal_number a)) where
+  -- a refused file has the number of its reason, which is not 0
+  refused-by : {A : Type 0} (x f : ℕ → A) → ((k : ℕ) → x (suc k) ≡ f (suc k)) → {e : Reason} → a ≡ Err e → {n : ℕ} → n ≡ reason_number e → x n ≡ f (refusal file.now)
+  unfolding refusal_number
+  refused-by {A} x f same {e} ea {n} i = go n (rw i (rw ea at en)) (rw i (reason_some e))
     where
-      go : (n : ℕ) → Refusal file n → Admitted-refused n ≡ cond (eqb n 0) (Admitted-tape (sections_of file)) (Admitted-refused n) → x n ≡ f (refusal file)
-      go zero r e = absurd (let no_way : ◌≡◌ {A = ℕ} 0 1 = cc in omega arith)
-      go (suc n) r e = same n ∙ ap f (refusal_unique r (refusal_right file))
+      go : (n : ℕ) → Refusal file.now n → 0 < n → x n ≡ f (refusal file.now)
+      go zero r h = absurd (omega arith)
+      go (suc n) r h = same n ∙ ap f (refusal_unique r (refusal_right file.now))
 
-  pub refused : (out : Bytes) {n : ℕ} → a ≡ Admitted-refused n → outcome_of (Refused n) out ≡ outcome file out
+  pub refused : (out : Bytes) {e : Reason} → a ≡ Err e → {n : ℕ} → n ≡ reason_number e → outcome_of (Refused n) out ≡ outcome file.now out
   unfolding outcome outcome_by outcome_of answer_number answer_length
-  refused out = refused-by (λ n. outcome_of (Refused n) out) (λ n. outcome_by n (text_of (tape_of file)) out) (λ k. refl)
+  refused out = refused-by (λ n. outcome_of (Refused n) out) (λ n. outcome_by n (text_of (tape_of file.now)) out) (λ k. refl)
 
-  pub shown-refused : (from : ℕ) (out : Bytes) {n : ℕ} → a ≡ Admitted-refused n → view_of (Shown-refused n) out ≡ view file from out
+  pub shown-refused : (from : ℕ) (out : Bytes) {e : Reason} → a ≡ Err e → {n : ℕ} → n ≡ reason_number e → view_of (Shown-refused n) out ≡ view file.now from out
   unfolding view view_by view_of shown_number shown_bytes shown_whole
-  shown-refused from out = refused-by (λ n. view_of (Shown-refused n) out) (λ n. view_by n (text_of (tape_of file)) from out) (λ k. refl)
+  shown-refused from out = refused-by (λ n. view_of (Shown-refused n) out) (λ n. view_by n (text_of (tape_of file.now)) from out) (λ k. refl)
 
-  module _ {c : Sections} (e : a ≡ Admitted-tape c) where
-    admitted : Refusal file 0
+  module _ (ef : IfOk a (λ t. t.file ≡ file)) (es : IfOk a (λ t. t.sections ≡ sections_of file.now)) {t : TapeFile} (e : a ≡ Ok t) where
+    admitted : Refusal file.now 0
     unfolding refusal_number
-    admitted = subst (λ (x : Admitted). Refusal file (refusal_number x)) e en
+    admitted = rw e at en
 
-    number-none : 0 ≡ refusal file
-    number-none = refusal_unique admitted (refusal_right file)
+    number-none : 0 ≡ refusal file.now
+    number-none = refusal_unique admitted (refusal_right file.now)
 
-    the_sections : c ≡ sections_of file
-    unfolding refusal_number answer_with
-    the_sections = let same : Admitted-tape c ≡ Admitted-tape (sections_of file) = sym e ∙ ea ∙ ap (λ (x : Admitted). answer_with file (refusal_number x)) e in cc
-
-    the_text : text_of (tape_in c file) ≡ text_of (tape_of file)
+    the_text : text_of (contents t) ≡ text_of (tape_of file.now)
     unfolding tape_of
-    the_text = ap (λ (k : Sections). text_of (tape_in k file)) the_sections
+    the_text = ap text_of (rw (rw e at ef, rw e at es) refl)
 
-    small : length (text_of (tape_in c file)) < 2 ^ 60
-    small = rw the_text (text-small file (kept_all admitted))
+    small : length (text_of (contents t)) < 2 ^ 60
+    small = rw the_text (text-small file.now (kept_all admitted))
 
-    module _ (out : Bytes) {n : ℕ} {last : Bytes} (w : Walked (tape_in c file) Whole out n last) where
-      the_length : n ≡ length (text_of (tape_of file))
+    module _ (out : Bytes) {n : ℕ} {last : Bytes} (w : Walked (contents t) Whole out n last) where
+      the_length : n ≡ length (text_of (tape_of file.now))
       the_length = w.counts small ∙ ap length the_text
 
-      the_buffer : last ≡ (fitting (text_of (tape_of file)) out).buffer
+      the_buffer : last ≡ (fitting (text_of (tape_of file.now)) out).buffer
       unfolding left
       the_buffer = w.leaves small ∙ ap (λ (z : Bytes). (fitting z out).buffer) the_text
 
       same-room : length last ≡ length out
-      same-room = ap length the_buffer ∙ fitting-length (text_of (tape_of file)) out
+      same-room = ap length the_buffer ∙ fitting-length (text_of (tape_of file.now)) out
 
-      pub written : n ≤ length last → outcome_of (Written n) last ≡ outcome file out
+      pub written : n ≤ length last → outcome_of (Written n) last ≡ outcome file.now out
       unfolding outcome outcome_by outcome_of answer_number answer_length
       written h =
           rw (the_length, the_buffer)
-          (room (text_of (tape_of file)) out (omega (arith, h, the_length, same-room)) ∙ ap (λ (k : ℕ). outcome_by k (text_of (tape_of file)) out) number-none)
+          (room (text_of (tape_of file.now)) out (omega (arith, h, the_length, same-room)) ∙ ap (λ (k : ℕ). outcome_by k (text_of (tape_of file.now)) out) number-none)
 
-      pub no_room : length last < n → outcome_of (NoRoom n) last ≡ outcome file out
+      pub no_room : length last < n → outcome_of (NoRoom n) last ≡ outcome file.now out
       unfolding outcome outcome_by outcome_of answer_number answer_length
       no_room h =
           rw (the_length, the_buffer)
-          (over (text_of (tape_of file)) out (omega (arith, h, the_length, same-room)) ∙ ap (λ (k : ℕ). outcome_by k (text_of (tape_of file)) out) number-none)
+          (over (text_of (tape_of file.now)) out (omega (arith, h, the_length, same-room)) ∙ ap (λ (k : ℕ). outcome_by k (text_of (tape_of file.now)) out) number-none)
 
-    pub shown : (from : ℕ) (out : Bytes) {n : ℕ} {last : Bytes} → Walked (tape_in c file) (From from) out n last → {k : ℕ} → k ≡ min (length last) (n - from)
-        → view_of (Given k n) last ≡ view file from out
+    pub shown : (from : ℕ) (out : Bytes) {n : ℕ} {last : Bytes} → Walked (contents t) (From from) out n last → {r : ℕ} → r ≡ n - from → {k : ℕ} → k ≡ min r (length last)
+        → view_of (Given k n) last ≡ view file.now from out
     unfolding left view view_by view_of shown_number shown_bytes shown_whole
-    shown from out {n} {last} w {k} ek =
-        let text : Bytes = text_of (tape_of file) in
+    shown from out {n} {last} w {r} er {k} ek =
+        let text : Bytes = text_of (tape_of file.now) in
         let whole : n ≡ length text = w.counts small ∙ ap length the_text in
         let window : last ≡ showing text from out = w.leaves small ∙ ap (λ (z : Bytes). showing z from out) the_text in
         let bytes : k ≡ length (window_of text from (length out)) =
-        ek ∙ ap (λ (m : ℕ). min m (n - from)) (ap length window ∙ showing-length text from out) ∙ ap (λ (m : ℕ). min (length out) (m - from)) whole ∙ sym (window_length text from (length out)) in
+        omega (arith, er, ek, whole, ap length window, showing-length text from out, window_length text from (length out)) in
         rw (bytes, whole, window) (ap (λ (m : ℕ). view_by m text from out) number-none)

@@ -1,11 +1,10 @@
 #![tactic(auto)]
 // The USX text of a tape file: admission, then walks that write it whole, or one that shows a window of it.
-ghost use Rattle.std.specs.Prelude.{◌≡◌, ◌-◌, min};
+ghost use Rattle.std.specs.Prelude.{◌≡◌};
 ghost use Rattle.events.specs.Text.{outcome};
 ghost use Rattle.usx.specs.Answer.{outcome_of};
 ghost use Rattle.usx.specs.Shown.{view, view_of};
 
-use admit::Admitted;
 use walk::{Asked, write_tape};
 
 // Written with its length; refused by document 01's number; no room for a text of this length.
@@ -28,9 +27,9 @@ pub fn serialize(file: &[u8], out: &mut [u8]) -> Answer
     ensures { outcome_of result out.new ≡ outcome file.now out.old }
 {
     match admit::admit(file) {
-        Admitted::Refused(n) => Answer::Refused(n),
-        Admitted::Tape(tape) => {
-            let n = write_tape(file, tape, Asked::Whole, out);
+        Err(reason) => Answer::Refused(reason.number()),
+        Ok(tape) => {
+            let n = write_tape(&tape, Asked::Whole, out);
             if n <= out.len() {
                 Answer::Written(n)
             } else {
@@ -40,27 +39,16 @@ pub fn serialize(file: &[u8], out: &mut [u8]) -> Answer
     }
 }
 
-// How many bytes a text has from one of its bytes on, up to so many.
-fn bytes_from(whole: usize, from: usize, room: usize) -> usize
-    ensures { result ≡ min room (whole - from) }
-{
-    if whole <= from {
-        return 0;
-    }
-    let n = whole - from;
-    if n < room { n } else { room }
-}
-
 // Shows the bytes of a tape file's text from one on, as many as the buffer has room for, or says why not.
 pub fn window(file: &[u8], from: usize, out: &mut [u8]) -> Shown
     ensures { view_of result out.new ≡ view file.now from out.old }
 {
     match admit::admit(file) {
-        Admitted::Refused(n) => Shown::Refused(n),
-        Admitted::Tape(tape) => {
-            let whole = write_tape(file, tape, Asked::From(from), out);
+        Err(reason) => Shown::Refused(reason.number()),
+        Ok(tape) => {
+            let whole = write_tape(&tape, Asked::From(from), out);
             Shown::Given {
-                bytes: bytes_from(whole, from, out.len()),
+                bytes: whole.saturating_sub(from).min(out.len()),
                 whole,
             }
         }

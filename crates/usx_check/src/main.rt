@@ -4,16 +4,19 @@
 use std::io;
 use std::io::Input;
 
-// The text has room for 4 MiB, and for one byte more, which shows that there is more than that.
-fn run(rt: &(impl Input + Print), space: &mut [u8; 4194305]) -> io::Result<()> {
+// The greatest length of a text.
+const MOST: usize = 4194304;
+
+// The buffer has room for one byte more, which shows that a text is longer.
+fn run(rt: &(impl Input + Print), space: &mut [u8; MOST + 1]) -> io::Result<()> {
     let n = streams::read_full(&mut rt.reader(), space)?;
-    if n > 4194304 {
-        return rt.write_all(b"too long: a text has at most 4194304 bytes\n");
+    if n > MOST {
+        return println!(rt; "too long: a text has at most {MOST} bytes");
     }
-    report::report(rt, parts::part(space, 0, n))
+    report::report(rt, &space[..n])
 }
 
 fn main(rt: HostRuntime) -> io::Result<()> {
-    let mut space = [0u8; 4194305];
+    let mut space = [0u8; MOST + 1];
     run(&rt, &mut space)
 }

@@ -4,16 +4,19 @@
 use std::io;
 use std::io::Input;
 
-// The tape has room for 6 MiB, and for one byte more, which shows that there is more than that.
-fn run(rt: &(impl Input + Print), space: &mut [u8; 6291457]) -> io::Result<()> {
+// The greatest length of a tape.
+const MOST: usize = 6291456;
+
+// The buffer has room for one byte more, which shows that a tape is longer.
+fn run(rt: &(impl Input + Print), space: &mut [u8; MOST + 1]) -> io::Result<()> {
     let n = streams::read_full(&mut rt.reader(), space)?;
-    if n > 6291456 {
-        return rt.write_all(b"too long: a tape has at most 6291456 bytes\n");
+    if n > MOST {
+        return println!(rt; "too long: a tape has at most {MOST} bytes");
     }
-    report_names::report(rt, parts::part(space, 0, n))
+    report_names::report(rt, &space[..n])
 }
 
 fn main(rt: HostRuntime) -> io::Result<()> {
-    let mut space = [0u8; 6291457];
+    let mut space = [0u8; MOST + 1];
     run(&rt, &mut space)
 }

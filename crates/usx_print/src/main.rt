@@ -4,41 +4,32 @@ use std::io;
 use std::io::Input;
 use usx::Answer;
 
-fn wide(n: usize) -> u64 {
-    n as u64
-}
-
-fn refused(rt: &impl Print, number: u64, length: usize) -> io::Result<()> {
-    rt.write_all(b"refused ")?;
-    rt.print(number)?;
-    rt.write_all(b" ")?;
-    rt.print(wide(length))?;
-    rt.write_all(b"\n")
-}
+// The greatest length of a tape, and of a text.
+const MOST: usize = 65536;
 
 fn print(rt: &impl Print, file: &[u8], out: &mut [u8]) -> io::Result<()> {
     match usx::serialize(file, out) {
         Answer::Written(n) => rt.write_all(parts::part(out, 0, n)),
-        Answer::Refused(n) => refused(rt, n as u64, 0),
-        Answer::NoRoom(n) => refused(rt, 8, n),
+        Answer::Refused(n) => println!(rt; "refused {n} 0"),
+        Answer::NoRoom(n) => println!(rt; "refused 8 {n}"),
     }
 }
 
-// A tape has at most 65,536 bytes; one byte more shows that there is more than that.
+// The buffer has room for one byte more, which shows that a tape is longer.
 fn run(
     rt: &(impl Input + Print),
-    space: &mut [u8; 65537],
-    out: &mut [u8; 65536],
+    space: &mut [u8; MOST + 1],
+    out: &mut [u8; MOST],
 ) -> io::Result<()> {
     let n = streams::read_full(&mut rt.reader(), space)?;
-    if n > 65536 {
-        return refused(rt, 2, 0);
+    if n > MOST {
+        return println!(rt; "refused 2 0");
     }
-    print(rt, parts::part(space, 0, n), out)
+    print(rt, &space[..n], out)
 }
 
 fn main(rt: HostRuntime) -> io::Result<()> {
-    let mut space = [0u8; 65537];
-    let mut out = [0u8; 65536];
+    let mut space = [0u8; MOST + 1];
+    let mut out = [0u8; MOST];
     run(&rt, &mut space, &mut out)
 }

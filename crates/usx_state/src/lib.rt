@@ -1,33 +1,34 @@
 #![tactic(auto)]
-// The record of the open chapter and verse: steps by value, the same steps on a record that is lent, and what callers use.
+// The record of the open chapter and verse, and the steps that it takes.
 ghost use Rattle.std.specs.Prelude.{◌≡◌};
 ghost use Rattle.usx_state.specs.Mark.{new_marks, named_book, opened_chapter, closed_chapter, opened_verse, closed_verse, next_verse, next_chapter, all_closed};
 
 use words::Part;
 
-// A chapter that awaits its end, by its book and number.
+// A chapter that awaits its end.
 #[derive(Clone, Copy)]
-pub enum OpenChapter {
-    NoChapter,
-    Chapter(Part, u32),
+pub struct OpenChapter {
+    pub book: Part,
+    pub number: u32,
 }
 
-// A verse that awaits its end, by its book, chapter and label.
+// A verse that awaits its end.
 #[derive(Clone, Copy)]
-pub enum OpenVerse {
-    NoVerse,
-    Verse(Part, u32, Part),
+pub struct OpenVerse {
+    pub book: Part,
+    pub number: u32,
+    pub label: Part,
 }
 
+// The book and chapter of the moment, and what is open of them.
 #[derive(Clone, Copy)]
 pub struct Marks {
     pub book: Part,
     pub number: u32,
-    pub chapter: OpenChapter,
-    pub verse: OpenVerse,
+    pub chapter: Option<OpenChapter>,
+    pub verse: Option<OpenVerse>,
 }
 
-// The steps by value.
 impl Marks {
     // Nothing is open; the book has no code yet.
     pub fn new(number: u32) -> Self
@@ -36,132 +37,75 @@ impl Marks {
         Marks {
             book: Part { start: 0, len: 0 },
             number,
-            chapter: OpenChapter::NoChapter,
-            verse: OpenVerse::NoVerse,
+            chapter: None,
+            verse: None,
         }
     }
 
     // The book of what opens from here on.
-    pub fn named_book(self, book: Part) -> Marks
-        ensures { result ≡ named_book self book }
+    pub fn name_book(&mut self, book: Part)
+        ensures { self.new ≡ named_book self.old book }
     {
-        let chapter = self.chapter;
-        let verse = self.verse;
-        Marks {
-            book,
-            number: self.number,
-            chapter,
-            verse,
-        }
+        self.book = book;
     }
 
-    pub fn opened_chapter(self, n: u32) -> Marks
-        ensures { result ≡ opened_chapter self n }
+    pub fn open_chapter(&mut self, n: u32)
+        ensures { self.new ≡ opened_chapter self.old n }
     {
-        let book = self.book;
-        let chapter = OpenChapter::Chapter(book, n);
-        let verse = self.verse;
-        Marks {
-            book,
+        self.number = n;
+        self.chapter = Some(OpenChapter {
+            book: self.book,
             number: n,
-            chapter,
-            verse,
-        }
+        });
     }
 
-    pub fn closed_chapter(self) -> Marks
-        ensures { result ≡ closed_chapter self }
+    pub fn close_chapter(&mut self)
+        ensures { self.new ≡ closed_chapter self.old }
     {
-        let book = self.book;
-        let chapter = OpenChapter::NoChapter;
-        let verse = self.verse;
-        Marks {
-            book,
-            number: self.number,
-            chapter,
-            verse,
-        }
+        self.chapter = None;
     }
 
-    pub fn opened_verse(self, label: Part) -> Marks
-        ensures { result ≡ opened_verse self label }
+    pub fn open_verse(&mut self, label: Part)
+        ensures { self.new ≡ opened_verse self.old label }
     {
-        let book = self.book;
-        let chapter = self.chapter;
-        let verse = OpenVerse::Verse(book, self.number, label);
-        Marks {
-            book,
+        self.verse = Some(OpenVerse {
+            book: self.book,
             number: self.number,
-            chapter,
-            verse,
-        }
+            label,
+        });
     }
 
-    pub fn closed_verse(self) -> Marks
-        ensures { result ≡ closed_verse self }
+    pub fn close_verse(&mut self)
+        ensures { self.new ≡ closed_verse self.old }
     {
-        let book = self.book;
-        let chapter = self.chapter;
-        let verse = OpenVerse::NoVerse;
-        Marks {
-            book,
-            number: self.number,
-            chapter,
-            verse,
-        }
+        self.verse = None;
     }
-}
 
-// The steps on a record that is lent: each hands it over and stores what comes back.
-pub fn open_chapter(m: &mut Marks, n: u32)
-    ensures { m.new ≡ opened_chapter m.old n }
-{
-    *m = m.opened_chapter(n);
-}
+    // A verse starts: the open one ends first.
+    #[tactic(auto, unfolding(crate::specs::Mark::next_verse))]
+    pub fn next_verse(&mut self, label: Part)
+        ensures { self.new ≡ next_verse self.old label }
+    {
+        self.close_verse();
+        self.open_verse(label);
+    }
 
-pub fn close_chapter(m: &mut Marks)
-    ensures { m.new ≡ closed_chapter m.old }
-{
-    *m = m.closed_chapter();
-}
+    // A chapter starts: the open verse and chapter end first.
+    #[tactic(auto, unfolding(crate::specs::Mark::next_chapter))]
+    pub fn next_chapter(&mut self, n: u32)
+        ensures { self.new ≡ next_chapter self.old n }
+    {
+        self.close_verse();
+        self.close_chapter();
+        self.open_chapter(n);
+    }
 
-pub fn open_verse(m: &mut Marks, label: Part)
-    ensures { m.new ≡ opened_verse m.old label }
-{
-    *m = m.opened_verse(label);
-}
-
-pub fn close_verse(m: &mut Marks)
-    ensures { m.new ≡ closed_verse m.old }
-{
-    *m = m.closed_verse();
-}
-
-// What callers use: the record is lent to the steps in turn, and goes in and out by value, as callers hold it.
-#[tactic(auto, unfolding(crate::specs::Mark::next_verse))]
-pub fn next_verse(mut m: Marks, label: Part) -> Marks
-    ensures { result ≡ next_verse m label }
-{
-    close_verse(&mut m);
-    open_verse(&mut m, label);
-    m
-}
-
-#[tactic(auto, unfolding(crate::specs::Mark::next_chapter))]
-pub fn next_chapter(mut m: Marks, n: u32) -> Marks
-    ensures { result ≡ next_chapter m n }
-{
-    close_verse(&mut m);
-    close_chapter(&mut m);
-    open_chapter(&mut m, n);
-    m
-}
-
-#[tactic(auto, unfolding(crate::specs::Mark::all_closed))]
-pub fn all_closed(mut m: Marks) -> Marks
-    ensures { result ≡ all_closed m }
-{
-    close_verse(&mut m);
-    close_chapter(&mut m);
-    m
+    // The text ends, and the open verse and chapter with it.
+    #[tactic(auto, unfolding(crate::specs::Mark::all_closed))]
+    pub fn close_all(&mut self)
+        ensures { self.new ≡ all_closed self.old }
+    {
+        self.close_verse();
+        self.close_chapter();
+    }
 }

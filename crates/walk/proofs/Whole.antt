@@ -19,7 +19,7 @@ use Rattle.tape.specs.declared.Node.{Node}
 use Rattle.tape.specs.declared.Sections.{Sections}
 use Rattle.tape.specs.declared.kinds.Kind.{Kind}
 use Rattle.tape.specs.declared.Cursor.{Cursor}
-use Rattle.tape.specs.declared.Step.{Step}
+use Rattle.tape.specs.Found.{Step}
 use Rattle.tape.proofs.Walk.{children_walk}
 use Rattle.tape.proofs.Laws.{node-count}
 use Rattle.tags.specs.Items.{Item, start, close, line, bytes_of, attrs_bytes, attr_bytes, value_of, new_line, render, framed}
@@ -36,12 +36,13 @@ use Rattle.events.specs.Emit.{Desk, lay, emit_all, emitted, after_all}
 use Rattle.events.proofs.Emits.{one_profile, paired-emitted, emit_page, emit_state, emit_profile}
 use Rattle.usx_state.specs.Mark.{new_marks}
 use Rattle.usx_state.specs.declared.Marks.{Marks}
-use Rattle.desk.specs.Desk.{chapter_in, verse_in, state_in, marks_of_of, profile_of, desk_of, put_on, ended}
+use Rattle.desk.specs.Desk.{chapter_in, verse_in, state_in, profile_of, desk_of, put_on, ended}
 use Rattle.desk.specs.Stroke.{strokes_of, strokes_of_attrs, strokes_of_attr, ink, ink_all, strokes, Drew}
 use Rattle.walk.specs.Asked.{whole_in, left, Walked}
 use Rattle.walk.specs.Shows.{window_of, showing}
 use Rattle.walk.specs.declared.Asked.{Asked}
 use Rattle.walk.specs.declared.Asked.TheVariants.{Whole, From}
+use Rattle.desk.specs.declared.Desk.{Desk as Held}
 
 -- ---- the first number
 
@@ -154,35 +155,28 @@ first_state : (t : Tape) {m : Marks} → m ≡ new_marks (first_state_of t).numb
 unfolding state_in chapter_in verse_in first_state_of
 first_state t em = rw em
 
-module _ (t : Tape) (n : List ℕ) (out : Bytes) {k : Cursor} (ek : k.at ≡ 0) {s : Step} (es : s ≡ first_child t k.at)
-    (a d e z : ℕ) (da dd de dz : List ℕ) (o₁ o₂ o₃ o₄ : Bytes)
-    (ea : Drew 0 n out (strokes_of (start 1 (escaped (b "version") (b "3.0") ∷ []))) a da o₁)
-    (ed : desk_of t.source d dd o₂ ≡ emit_all (desk_of t.source a da o₁) (blocks_e t 64 1 (nodes_in t all s)))
-    (ee : desk_of t.source e de o₃ ≡ ended (desk_of t.source d dd o₂))
-    (ez : (source : Bytes) → desk_of source z dz o₄ ≡ lay (desk_of source e de o₃) (line 0 ∷ close 1 ∷ [])) where
-  whole_page : marks_of_of n ≡ new_marks (first_state_of t).number → (desk_of t.source z dz o₄).page ≡ whole_in t (get_or n 0 0) out
-  whole_page en =
-      parts_page t (get_or n 0 0) out (desk_of t.source a da o₁) (desk_of t.source d dd o₂) (desk_of t.source e de o₃) (desk_of t.source z dz o₄)
-      (ea.on t.source ∙ opened_bytes (desk_of t.source 0 n out)
-      ∙ ap (λ (u : State). put_on (record { page = record { at = 0; from = get_or n 0 0; buf = out }; state = u; profile = profile_of (get_or n 14 0) }) opens) (first_state t en)
-      ∙ ap (λ (p : Profile). put_on (record { page = record { at = 0; from = get_or n 0 0; buf = out }; state = first_state_of t; profile = p }) opens) (one_profile (profile_of (get_or n 14 0))))
-      (ed ∙ ap (emit_all (desk_of t.source a da o₁)) (events_all t (es ∙ ap (first_child t) ek)))
+module _ (t : Tape) (n : Held) (from m : ℕ) (out : Bytes) (ew : n.window ≡ record { at = 0; from = from }) (en : n.marks ≡ new_marks m) {k : Cursor} (ek : k.at ≡ 0) {s : Step} (es : s ≡ first_child t k.at)
+    (da dd de dz : Held) (o₁ o₂ o₃ o₄ : Bytes)
+    (ea : Drew n out (strokes_of (start 1 (escaped (b "version") (b "3.0") ∷ []))) da o₁)
+    (ed : desk_of t.source dd o₂ ≡ emit_all (desk_of t.source da o₁) (blocks_e t 64 1 (nodes_in t all s)))
+    (ee : desk_of t.source de o₃ ≡ ended (desk_of t.source dd o₂))
+    (ez : (source : Bytes) → desk_of source dz o₄ ≡ lay (desk_of source de o₃) (line 0 ∷ close 1 ∷ [])) (em : m ≡ (first_state_of t).number) where
+  whole_page : (desk_of t.source dz o₄).page ≡ whole_in t from out
+  whole_page =
+      parts_page t from out (desk_of t.source da o₁) (desk_of t.source dd o₂) (desk_of t.source de o₃) (desk_of t.source dz o₄)
+      (ea.on t.source ∙ opened_bytes (desk_of t.source n out)
+      ∙ ap (λ (w : Window). put_on (record { page = page_of w out; state = state_in t.source n.marks; profile = profile_of n.profile }) opens) ew
+      ∙ ap (λ (u : State). put_on (record { page = record { at = 0; from = from; buf = out }; state = u; profile = profile_of n.profile }) opens) (first_state t (en ∙ ap new_marks em))
+      ∙ ap (λ (p : Profile). put_on (record { page = record { at = 0; from = from; buf = out }; state = first_state_of t; profile = p }) opens) (one_profile (profile_of n.profile)))
+      (ed ∙ ap (emit_all (desk_of t.source da o₁)) (events_all t (es ∙ ap (first_child t) ek)))
       ee
-      (ez t.source ∙ closed_bytes (desk_of t.source e de o₃))
+      (ez t.source ∙ closed_bytes (desk_of t.source de o₃))
 
-  pub whole_length : marks_of_of n ≡ new_marks (first_state_of t).number → z ≡ (whole_in t (get_or n 0 0) out).at
-  whole_length en = ap (λ (p : Page). p.at) (whole_page en)
+  pub whole_length : dz.window.at ≡ (whole_in t from out).at
+  whole_length = ap (λ (p : Page). p.at) whole_page
 
-  pub whole_buffer : marks_of_of n ≡ new_marks (first_state_of t).number → o₄ ≡ (whole_in t (get_or n 0 0) out).buf
-  whole_buffer en = ap (λ (p : Page). p.buf) (whole_page en)
-
--- a new desk
-module _ (t : Tape) (from m : ℕ) (out : Bytes) (n : List ℕ) (ef : get_or n 0 0 ≡ from) (em : marks_of_of n ≡ new_marks m) where
-  pub new_length : {r : ℕ} → (marks_of_of n ≡ new_marks (first_state_of t).number → r ≡ (whole_in t (get_or n 0 0) out).at) → m ≡ (first_state_of t).number → r ≡ (whole_in t from out).at
-  new_length h e = h (em ∙ ap new_marks e) ∙ ap (λ (f : ℕ). (whole_in t f out).at) ef
-
-  pub new_buffer : {last : Bytes} → (marks_of_of n ≡ new_marks (first_state_of t).number → last ≡ (whole_in t (get_or n 0 0) out).buf) → m ≡ (first_state_of t).number → last ≡ (whole_in t from out).buf
-  new_buffer h e = h (em ∙ ap new_marks e) ∙ ap (λ (f : ℕ). (whole_in t f out).buf) ef
+  pub whole_buffer : o₄ ≡ (whole_in t from out).buf
+  whole_buffer = ap (λ (p : Page). p.buf) whole_page
 
 -- ---- room or not
 

@@ -1,7 +1,7 @@
 -- What the code that writes a run leaves on the page.
 use mathlib.Core.Path.{◌≡◌, sym, ap, ◌∙◌}
 use mathlib.Core.List.{[], ◌∷◌}
-use Prim.Native.Nat.{ℕ, ◌+◌, ◌-◌, ◌≤◌, ◌<◌, ◌^◌}
+use Prim.Native.Nat.{ℕ, ◌+◌, ◌≤◌, ◌<◌, ◌^◌}
 use native.Mathlib.Omega.{arith}
 use lib.ListN.{length, get_or, drop, drop_of_length-le}
 use Rattle.parts.specs.Bytes.{Bytes}
@@ -24,6 +24,6 @@ paint_end {p} s i h inv = sym (ap (paint p) (drop_of_length-le s h)) ∙ inv
 -- ---- a run
 
 -- a run that was laid over the buffer, and the count that goes on by its length
-pub laid : (at from : ℕ) (buf s : Bytes) {last : Bytes} → length s ≤ 2 ^ 64 - 1 - at → at < 2 ^ 64 → last ≡ lay buf from at s
-    → ◌≡◌ {A = Page} (record { at = at + length s; from = from; buf = last }) (paint (record { at = at; from = from; buf = buf }) s)
-laid at from buf s h l e = rw e (sym (paint-lay (record { at = at; from = from; buf = buf }) s (omega arith)))
+pub laid : (at from : ℕ) (buf s : Bytes) {last : Bytes} {end : ℕ} → end ≡ at + length s → at + length s < 2 ^ 64 → last ≡ lay buf from at s
+    → ◌≡◌ {A = Page} (record { at = end; from = from; buf = last }) (paint (record { at = at; from = from; buf = buf }) s)
+laid at from buf s en h e = rw (en, e) (sym (paint-lay (record { at = at; from = from; buf = buf }) s (omega arith)))

@@ -1,5 +1,5 @@
 -- The bytes that an escape leaves as they are.
-use Rattle.std.specs.Prelude.{ℕ, ◌+◌, ◌≤◌, max, ◌≡◌, Bool, false, cond, ◌||◌, [], ◌∷◌, length, get_or, drop, eqb}
+use Rattle.std.specs.Prelude.{ℕ, ◌+◌, ◌≤◌, ◌≡◌, Bool, false, cond, ◌||◌, [], ◌∷◌, length, get_or, drop, eqb}
 use Rattle.parts.specs.Bytes.{Bytes, b, first_at}
 use Rattle.chars.specs.Escape.{special}
 
@@ -17,20 +17,6 @@ pub record PlainTo (attr : Bool) (s : Bytes) (i : ℕ) : Type 0 where
   pub within : i ≤ length s
   pub rest : i + plain_len attr (drop i s) ≡ plain_len attr s
 
--- where the run of such bytes ends that starts at a place
-pub record RunTo (attr : Bool) (s : Bytes) (start i : ℕ) : Type 0 where
-  pub after : start ≤ i
-  pub within : i ≤ max start (length s)
-  pub is : i ≡ start + plain_len attr (drop start s)
-
 -- the name of a byte that has one
 unfoldable pub entity_of : ℕ → Bytes
 entity_of x = cond (eqb x 60) (b "&lt;") (cond (eqb x 62) (b "&gt;") (cond (eqb x 38) (b "&amp;") (b "&quot;")))
-
--- where it starts in the row of all names
-unfoldable pub entity_start : ℕ → ℕ
-entity_start x = cond (eqb x 60) 0 (cond (eqb x 62) 4 (cond (eqb x 38) 8 13))
-
--- where it ends there
-unfoldable pub entity_end : ℕ → ℕ
-entity_end x = cond (eqb x 60) 4 (cond (eqb x 62) 8 (cond (eqb x 38) 13 19))

@@ -1,10 +1,10 @@
 #![tactic(auto)]
 // Text written through a window: runs of bytes, XML escapes, decimal numbers.
-ghost use Rattle.std.specs.Prelude.{◌≡◌, true, false, cond, [], ◌∷◌, ◌+◌, ◌-◌, ◌^◌, ◌<◌, min, take, drop};
+ghost use Rattle.std.specs.Prelude.{◌≡◌, true, false, [], ◌∷◌, take, drop};
 ghost use Rattle.chars.specs.Escape.{special as is_special, escape};
 ghost use Rattle.chars.specs.Decimal.{decimal};
 ghost use Rattle.window.specs.Page.{page_of, paint, stamp as stamp_of};
-ghost use Rattle.window.specs.Plain.{any_special, plain_len, PlainTo, RunTo, entity_start, entity_end, entity_of};
+ghost use Rattle.window.specs.Plain.{any_special, plain_len, PlainTo, entity_of};
 
 // How many bytes of the text are written, and which byte of it the buffer starts with.
 #[derive(Clone, Copy)]
@@ -20,77 +20,110 @@ pub struct Digits {
     pub start: usize,
 }
 
-// One further, and never past the largest number.
-fn up(at: usize) -> usize
-    ensures { result ≡ min (at + 1) (2 ^ 64 - 1) }
-{
-    if at < usize::MAX { at + 1 } else { usize::MAX }
+impl Window {
+    // A run of bytes.
+    pub fn put_run(&mut self, out: &mut [u8], run: &[u8])
+        ensures { page_of self.new out.new ≡ paint (page_of self.old out.old) run.now }
+    {
+        match self.at.checked_add(run.len()) {
+            Some(end) => {
+                lay::lay_run(out, self.from, self.at, run);
+                self.at = end;
+            }
+            None => self.put_each(out, run),
+        }
+    }
+
+    // The first bytes of a text, by blocks of 16.
+    pub fn put_front(&mut self, out: &mut [u8], s: &[u8], n: usize)
+        ensures { page_of self.new out.new ≡ paint (page_of self.old out.old) (take n s.now) }
+    {
+        if self.from <= self.at && n <= s.len() && n <= usize::MAX - self.at {
+            lay::lay_front(out, self.at - self.from, s, n);
+            self.at += n;
+        } else {
+            self.put_run(out, parts::part(s, 0, n));
+        }
+    }
+
+    // A text with its escapes; in an attribute's value the double quote too. Most short texts have none and are one run.
+    pub fn escape_xml_with(&mut self, out: &mut [u8], s: &[u8], attr: bool)
+        ensures { page_of self.new out.new ≡ paint (page_of self.old out.old) (escape attr s.now) }
+    {
+        if s.len() < 8 && plain_each(s, attr) == s.len() {
+            self.put_run(out, s);
+        } else {
+            self.escape_runs(out, s, attr);
+        }
+    }
+
+    pub fn escape_xml(&mut self, out: &mut [u8], s: &[u8])
+        ensures { page_of self.new out.new ≡ paint (page_of self.old out.old) (escape false s.now) }
+    {
+        self.escape_xml_with(out, s, false);
+    }
+
+    pub fn escape_xml_attr(&mut self, out: &mut [u8], s: &[u8])
+        ensures { page_of self.new out.new ≡ paint (page_of self.old out.old) (escape true s.now) }
+    {
+        self.escape_xml_with(out, s, true);
+    }
+
+    // A number in decimal digits.
+    pub fn put_number(&mut self, out: &mut [u8], n: u32)
+        ensures { page_of self.new out.new ≡ paint (page_of self.old out.old) (decimal n) }
+    {
+        self.put_run(out, digits_of(n).as_slice());
+    }
+
+    // One byte; the count stays at the largest number once it is reached.
+    fn put(&mut self, out: &mut [u8], x: u8)
+        ensures { page_of self.new out.new ≡ paint (page_of self.old out.old) (x ∷ []) }
+    {
+        stamp(out, self.from, self.at, x);
+        self.at = self.at.saturating_add(1);
+    }
+
+    // A run at whose end the count may stay at the largest number.
+    fn put_each(&mut self, out: &mut [u8], run: &[u8])
+        ensures { page_of self.new out.new ≡ paint (page_of self.old out.old) run.now }
+    {
+        for x in run {
+            self.put(out, *x);
+        }
+    }
+
+    // A text with its escapes, run by run.
+    fn escape_runs(&mut self, out: &mut [u8], s: &[u8], attr: bool)
+        ensures { page_of self.new out.new ≡ paint (page_of self.old out.old) (escape attr s.now) }
+    {
+        let mut rest = s;
+        loop {
+            let (run, behind) = rest.split_at(plain_len(rest, attr));
+            self.put_run(out, run);
+            let Some((x, last)) = behind.split_first() else {
+                return;
+            };
+            self.put_run(out, entity(*x));
+            rest = last;
+        }
+    }
+}
+
+impl Digits {
+    pub fn as_slice(&self) -> &[u8]
+        ensures { result.now ≡ drop self.now.start self.now.bytes }
+    {
+        parts::from(&self.bytes, self.start)
+    }
 }
 
 // Byte number `at` of the text, if the window has a place for it.
 fn stamp(out: &mut [u8], from: usize, at: usize, x: u8)
     ensures { out.new ≡ stamp_of out.old from at x }
 {
-    if at < from {
-        return;
-    }
-    let i = at - from;
-    if i < out.len() {
-        out[i] = x;
-    }
-}
-
-fn put(w: Window, out: &mut [u8], x: u8) -> Window
-    ensures { page_of result out.new ≡ paint (page_of w out.old) (x ∷ []) }
-{
-    stamp(out, w.from, w.at, x);
-    Window {
-        at: up(w.at),
-        from: w.from,
-    }
-}
-
-// A run at whose end the count may stay at the largest number.
-fn put_each(w: Window, out: &mut [u8], run: &[u8]) -> Window
-    ensures { page_of result out.new ≡ paint (page_of w out.old) run.now }
-{
-    let mut v = w;
-    let mut i = 0;
-    while i < run.len() {
-        v = put(v, out, run[i]);
-        i += 1;
-    }
-    v
-}
-
-// A run of bytes.
-pub fn put_run(w: Window, out: &mut [u8], run: &[u8]) -> Window
-    ensures { page_of result out.new ≡ paint (page_of w out.old) run.now }
-{
-    let at = w.at;
-    let n = run.len();
-    if usize::MAX - at < n {
-        return put_each(w, out, run);
-    }
-    lay::lay_run(out, w.from, at, run);
-    Window {
-        at: at + n,
-        from: w.from,
-    }
-}
-
-// The first bytes of a text, by blocks of 16.
-pub fn put_front(w: Window, out: &mut [u8], s: &[u8], n: usize) -> Window
-    ensures { page_of result out.new ≡ paint (page_of w out.old) (take n s.now) }
-{
-    let at = w.at;
-    if (usize::MAX - at < n) | ((s.len() < n) | (at < w.from)) {
-        return put_run(w, out, parts::part(s, 0, n));
-    }
-    lay::lay_front(out, at - w.from, s, n);
-    Window {
-        at: at + n,
-        from: w.from,
+    if from <= at && at - from < out.len() {
+        out[at - from] = x;
     }
 }
 
@@ -98,80 +131,35 @@ pub fn put_front(w: Window, out: &mut [u8], s: &[u8], n: usize) -> Window
 fn special(x: u8, attr: bool) -> bool
     ensures { result ≡ is_special attr x }
 {
-    (x == b'<') | ((x == b'>') | ((x == b'&') | (attr & (x == b'"'))))
+    (x == b'<') | (x == b'>') | (x == b'&') | (attr & (x == b'"'))
 }
 
 // The same with branches: letters and spaces fall out by the first two.
 fn is_named(x: u8, attr: bool) -> bool
     ensures { result ≡ is_special attr x }
 {
-    if x < b'"' {
-        return false;
-    }
-    if b'>' < x {
-        return false;
-    }
-    special(x, attr)
+    matches!(x, b'"'..=b'>') && special(x, attr)
 }
 
 // Whether a text has such a byte.
 fn any_special(s: &[u8], attr: bool) -> bool
     ensures { result ≡ any_special attr s.now }
 {
-    let mut found = false;
-    let mut i = 0;
-    while i < s.len() {
-        found = found | special(s[i], attr);
-        i += 1;
-    }
-    found
+    parts::any_byte(s, |x| special(x, attr))
 }
 
 // Where the whole blocks end that are written as they are.
 fn plain_blocks(s: &[u8], attr: bool) -> usize
     ensures { PlainTo attr s.now result }
 {
-    let mut i = 0;
-    while 16 <= s.len() - i {
-        let e = i + 16;
-        if any_special(&s[i..e], attr) {
-            return i;
-        }
-        i = e;
-    }
-    i
-}
-
-// Where the first few bytes end that are written as they are.
-fn plain_few(s: &[u8], attr: bool) -> usize
-    ensures plain_to { PlainTo attr s.now result }
-    ensures value { result < 8 → result ≡ plain_len attr s.now }
-{
-    let mut i = 0;
-    while i < s.len() {
-        if 7 < i {
-            return i;
-        }
-        if is_named(s[i], attr) {
-            return i;
-        }
-        i += 1;
-    }
-    i
+    parts::blocks_without(s, 16, 16, |b| any_special(b, attr))
 }
 
 // How many bytes from the front on are written as they are, one by one.
 fn plain_each(s: &[u8], attr: bool) -> usize
     ensures { result ≡ plain_len attr s.now }
 {
-    let mut i = 0;
-    while i < s.len() {
-        if is_named(s[i], attr) {
-            return i;
-        }
-        i += 1;
-    }
-    i
+    s.iter().position(|x| is_named(*x, attr)).unwrap_or(s.len())
 }
 
 // The same by blocks, and the last ones singly.
@@ -186,114 +174,39 @@ fn plain_long(s: &[u8], attr: bool) -> usize
 fn plain_len(s: &[u8], attr: bool) -> usize
     ensures { result ≡ plain_len attr s.now }
 {
-    let i = plain_few(s, attr);
+    let i = plain_each(parts::part(s, 0, 8), attr);
     if i < 8 {
         return i;
     }
     i + plain_long(&s[i..], attr)
 }
 
-// Where the run that starts at a place ends.
-fn run_end(s: &[u8], start: usize, attr: bool) -> usize
-    ensures { RunTo attr s.now start result }
-{
-    start + plain_len(parts::from(s, start), attr)
-}
-
-// One of two numbers, by a test.
-fn pick(t: bool, yes: usize, no: usize) -> usize
-    ensures { result ≡ cond t yes no }
-{
-    if t { yes } else { no }
-}
-
-// Where a byte's name starts and ends in the row of names.
-fn name_start(x: u8) -> usize
-    ensures { result ≡ entity_start x }
-{
-    pick(x == b'<', 0, pick(x == b'>', 4, pick(x == b'&', 8, 13)))
-}
-
-fn name_end(x: u8) -> usize
-    ensures { result ≡ entity_end x }
-{
-    pick(x == b'<', 4, pick(x == b'>', 8, pick(x == b'&', 13, 19)))
-}
-
 // The name of a byte that has one.
-fn put_escape(w: Window, out: &mut [u8], x: u8) -> Window
-    ensures { page_of result out.new ≡ paint (page_of w out.old) (entity_of x) }
+#[tactic(auto, unfolding(crate::specs::Plain::entity_of))]
+fn entity(x: u8) -> &'static [u8]
+    ensures { result.now ≡ entity_of x }
 {
-    let names = *b"&lt;&gt;&amp;&quot;";
-    let a = name_start(x);
-    let e = name_end(x);
-    put_run(w, out, &names[a..e])
-}
-
-// A text with its escapes, run by run.
-fn escape_runs(w: Window, out: &mut [u8], s: &[u8], attr: bool) -> Window
-    ensures { page_of result out.new ≡ paint (page_of w out.old) (escape attr s.now) }
-{
-    let mut v = w;
-    let mut start = 0;
-    while start < s.len() {
-        let i = run_end(s, start, attr);
-        v = put_run(v, out, &s[start..i]);
-        if i == s.len() {
-            return v;
-        }
-        v = put_escape(v, out, s[i]);
-        start = i + 1;
+    match x {
+        b'<' => b"&lt;",
+        b'>' => b"&gt;",
+        b'&' => b"&amp;",
+        _ => b"&quot;",
     }
-    v
-}
-
-// A text with its escapes; in an attribute's value the double quote too. Most short texts have none and are one run.
-pub fn escape_xml_with(w: Window, out: &mut [u8], s: &[u8], attr: bool) -> Window
-    ensures { page_of result out.new ≡ paint (page_of w out.old) (escape attr s.now) }
-{
-    if s.len() < 8 {
-        if plain_few(s, attr) == s.len() {
-            return put_run(w, out, s);
-        }
-    }
-    escape_runs(w, out, s, attr)
-}
-
-pub fn escape_xml(w: Window, out: &mut [u8], s: &[u8]) -> Window
-    ensures { page_of result out.new ≡ paint (page_of w out.old) (escape false s.now) }
-{
-    escape_xml_with(w, out, s, false)
-}
-
-pub fn escape_xml_attr(w: Window, out: &mut [u8], s: &[u8]) -> Window
-    ensures { page_of result out.new ≡ paint (page_of w out.old) (escape true s.now) }
-{
-    escape_xml_with(w, out, s, true)
 }
 
 // The decimal digits of a number.
 pub fn digits_of(n: u32) -> Digits
     ensures { drop result.start result.bytes ≡ decimal n }
 {
-    let mut bytes = [48u8; 10];
-    let mut i: usize = 9;
+    let mut bytes = [b'0'; 10];
+    let mut start = 9;
     let mut m = n;
+    // A `while`: a turn for each digit but the first.
     while 10 <= m {
-        bytes[i] = 48 + (m % 10) as u8;
-        i -= 1;
-        m = m / 10;
+        bytes[start] = b'0' + (m % 10) as u8;
+        start -= 1;
+        m /= 10;
     }
-    bytes[i] = 48 + m as u8;
-    Digits { bytes, start: i }
-}
-
-// A number in decimal digits.
-pub fn put_number(w: Window, out: &mut [u8], n: u32) -> Window
-    ensures { page_of result out.new ≡ paint (page_of w out.old) (decimal n) }
-{
-    let d = digits_of(n);
-    let start = d.start;
-    let bytes = d.bytes;
-    put_run(w, out, parts::from(&bytes, start))
+    bytes[start] = b'0' + m as u8;
+    Digits { bytes, start }
 }

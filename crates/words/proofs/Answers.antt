@@ -68,9 +68,6 @@ module _ (set : Set) (s : Bytes) where
   nth_zero at zero h = refl
   nth_zero at (suc k) h = absurd (omega arith)
 
-  pub nth_starts : (n : ℕ) {p : Part} → p ≡ next_word set s 0 → Passing n p n
-  nth_starts n e = record { at = 0; here = e; inside = omega arith; same = refl }
-
   module _ {n left : ℕ} {p : Part} (h : Passing n p left) where
     pub nth_missing : p.len ≡ 0 → p ≡ nth_word set s 0 n
     nth_missing e = h.here ∙ sym (nth_none set s left h.at (ap (λ (p : Part). p.len) (sym h.here) ∙ e)) ∙ h.same

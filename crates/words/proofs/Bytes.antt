@@ -1,14 +1,13 @@
 -- By ASCII each byte of a text is a character: white space at the front and at the end, byte by byte.
 use mathlib.Core.Path.{◌≡◌, refl, sym, ap, ◌∙◌}
-use mathlib.Core.Bool.{Bool, true, false, not}
-use mathlib.Core.List.{[], ◌∷◌, ◌++◌, flatten}
-use Prim.Native.Nat.{ℕ, suc, ◌+◌, ◌-◌, ◌≤◌, ◌<◌}
+use mathlib.Core.Bool.{Bool, true, false}
+use mathlib.Core.List.{[], ◌∷◌, ◌++◌, flatten, reverse}
+use Rattle.std.proofs.lemmas.List.{reverse-append}
+use Prim.Native.Nat.{ℕ, zero, suc, ◌+◌, ◌≤◌}
 use native.Mathlib.Omega.{arith}
-use lib.ListN.{length, get_or, take, drop}
+use lib.ListN.{length, get_or, take, length-append}
 use lib.Seq.{take_all, take-suc, length-take-le}
-use borrow.Author.Tests.{not-true, not-false}
 use Rattle.parts.specs.Bytes.{Bytes}
-use Rattle.parts.proofs.Laws.{drop_at}
 use Rattle.chars.specs.Utf8.{cut_at}
 use Rattle.chars.specs.Space.{is_ascii_white}
 use Rattle.chars.proofs.Characters.{cut-first}
@@ -19,7 +18,6 @@ use Rattle.words.specs.declared.Set.TheVariants.{Ascii, Unicode}
 use Rattle.words.proofs.Runs.{end_solid, end_passes}
 use Rattle.words.proofs.Steps.{size_some}
 use Rattle.words.proofs.Texts.{chars_flatten}
-use Rattle.words.proofs.Turns.{run_end}
 
 -- ---- characters
 
@@ -49,19 +47,9 @@ pub white-ends : (x : ℕ) (s : Bytes) → is_ascii_white x ≡ false → white_
 unfolding white_len take_while white flatten
 white-ends x s e = rw (ascii_chars x s, e)
 
-module _ (s : Bytes) (at : ℕ) (h : at < length s) {t : Bool} (et : t ≡ is_ascii_white (get_or s at 0)) where
-  here : white_len Ascii (drop at s) ≡ white_len Ascii (get_or s at 0 ∷ drop (at + 1) s)
-  here = ap (white_len Ascii) (drop_at s at h)
-
-  pub front_turn : {n : ℕ} → not t ≡ false → at + white_len Ascii (drop at s) ≡ n → at + 1 + white_len Ascii (drop (at + 1) s) ≡ n
-  front_turn e inv = omega (arith, here, white-more (get_or s at 0) (drop (at + 1) s) (sym et ∙ not-false t e))
-
-  pub front_stop : {n : ℕ} → not t ≡ true → at + white_len Ascii (drop at s) ≡ n → at ≡ n
-  front_stop e inv = omega (arith, here, white-ends (get_or s at 0) (drop (at + 1) s) (sym et ∙ not-true t e))
-
-pub front_end : (s : Bytes) (at : ℕ) {n : ℕ} → length s ≤ at → at + white_len Ascii (drop at s) ≡ n → at ≡ n
-unfolding run_of
-front_end s at h inv = run_end Ascii s at true h inv
+pub white-none : white_len Ascii [] ≡ 0
+unfolding white_len take_while flatten
+white-none = rw ascii_none
 
 -- ---- the end
 
@@ -76,26 +64,28 @@ module _ (w : Bytes) (x : ℕ) where
       rw (ascii_last w x, end_solid (white Ascii) (chars_of Ascii w) (x ∷ []) e)
       (ap flatten (sym (ascii_last w x)) ∙ chars_flatten Ascii (w ++ (x ∷ [])))
 
-module _ (s : Bytes) (end : ℕ) (some : 0 < end) (h : end ≤ length s) {t : Bool} (et : t ≡ is_ascii_white (get_or s (end - 1) 0)) where
-  last : take end s ≡ take (end - 1) s ++ (get_or s (end - 1) 0 ∷ [])
-  last = let e : end ≡ suc (end - 1) = omega arith in ap (λ (n : ℕ). take n s) e ∙ take-suc s (end - 1) 0 (omega arith)
+end_nil : length (trim_end Ascii []) ≡ 0
+unfolding trim_end drop_end chars_of cut_at flatten
+end_nil = refl
 
-  pub end_turn : {n : ℕ} → not t ≡ false → length (trim_end Ascii (take end s)) ≡ n → length (trim_end Ascii (take (end - 1) s)) ≡ n
-  end_turn e inv = sym (ap length (ap (trim_end Ascii) last ∙ end_white (take (end - 1) s) (get_or s (end - 1) 0) (sym et ∙ not-false t e))) ∙ inv
+-- what is trimmed at the end is the white space that the bytes begin with the other way round
+back_step : (w : Bytes) (x n : ℕ) → length w ≡ n → length (trim_end Ascii w) + white_len Ascii (reverse w) ≡ n
+    → length (trim_end Ascii (w ++ (x ∷ []))) + white_len Ascii (reverse (w ++ (x ∷ []))) ≡ suc n
+back_step w x n l h = rw (reverse-append w (x ∷ [])) (go (is_ascii_white x) refl)
+  where
+    go : (t : Bool) → is_ascii_white x ≡ t → length (trim_end Ascii (w ++ (x ∷ []))) + white_len Ascii (x ∷ reverse w) ≡ suc n
+    go true e = omega (arith, ap length (end_white w x e), white-more x (reverse w) e)
+    go false e = omega (arith, ap length (end_whole w x e), white-ends x (reverse w) e, length-append w (x ∷ []))
 
-  pub end_stop : {n : ℕ} → not t ≡ true → length (trim_end Ascii (take end s)) ≡ n → end ≡ n
-  end_stop e inv =
-      let whole = ap (trim_end Ascii) last ∙ end_whole (take (end - 1) s) (get_or s (end - 1) 0) (sym et ∙ not-true t e) ∙ sym last in
-      sym (length-take-le end s h) ∙ sym (ap length whole) ∙ inv
+pub trimmed-back : (s : Bytes) → length (trim_end Ascii s) + white_len Ascii (reverse s) ≡ length s
+trimmed-back s = rw (take_all (length s) s (omega arith)) at (go (length s) (omega arith))
+  where
+    go : (n : ℕ) → n ≤ length s → length (trim_end Ascii (take n s)) + white_len Ascii (reverse (take n s)) ≡ n
+    go zero h = omega (arith, end_nil, white-none)
+    go (suc n) h =
+        rw (take-suc s n 0 (omega arith)) (back_step (take n s) (get_or s n 0) n (length-take-le n s (omega arith)) (go n (omega arith)))
 
 module _ (s : Bytes) where
-  pub end_start : length (trim_end Ascii (take (length s) s)) ≡ length (trim_end Ascii s)
-  end_start = ap (λ (r : Bytes). length (trim_end Ascii r)) (take_all (length s) s (omega arith))
-
-  pub end_none : (end : ℕ) {n : ℕ} → end ≤ 0 → length (trim_end Ascii (take end s)) ≡ n → end ≡ n
-  unfolding trim_end drop_end chars_of cut_at flatten
-  end_none end h inv = let e : end ≡ 0 = omega arith in e ∙ sym (ap (λ (i : ℕ). length (trim_end Ascii (take i s))) e) ∙ inv
-
   -- ---- by either set
 
   pub white-by : {set v : Set} {r : ℕ} → set ≡ v → r ≡ white_len v s → r ≡ white_len set s

@@ -15,7 +15,7 @@ use Rattle.chars.specs.Utf8.{cut_at, seq_len, first_char}
 use Rattle.chars.specs.Space.{is_white, is_ascii_white, white_space}
 use Rattle.chars.specs.declared.Char.{Char}
 use Rattle.chars.proofs.Characters.{cut_at_lem}
-use Rattle.chars.proofs.Laws.{beyond, lies_low, lies_high, len_one, first_one}
+use Rattle.chars.proofs.Laws.{below, beyond, len_one, first_one}
 use Rattle.chars.proofs.White.{between_white}
 use Rattle.words.specs.Words.{step_of, chars_of, white, solid, take_while, keep, drop_end, trim_end, white_len, word_len}
 use Rattle.words.specs.First.{front_of_of, run_of, visible}
@@ -62,11 +62,7 @@ front_visible s some l h = front_ascii s some h (between_white (get_or s 0 0) l 
 module _ (x : ℕ) where
   pub visible_low : x < 33 → false ≡ visible x
   unfolding visible
-  visible_low h = lies_low 33 126 x h
-
-  pub visible_high : 33 ≤ x → leb x 126 ≡ visible x
-  unfolding visible
-  visible_high h = lies_high 33 126 x h
+  visible_low h = sym (below 33 126 x h)
 
   pub visible-ends : visible x ≡ true → (32 < x) × (x < 127)
   unfolding visible within

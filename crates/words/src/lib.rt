@@ -5,7 +5,7 @@ ghost use Rattle.words.specs.Words.{words, trim_start, trim_end, trim as trim_of
 ghost use Rattle.words.specs.First.{front_of_of, run_of, visible, ends_visible};
 
 // Which white space: the 5 bytes of ASCII, or Unicode's 25 code points.
-#[derive(Clone, Copy)]
+#[derive(Clone, Copy, PartialEq, Eq)]
 pub enum Set {
     Ascii,
     Unicode,
@@ -25,70 +25,53 @@ struct FirstChar {
     white: bool,
 }
 
-fn front_byte(s: &[u8]) -> FirstChar
-    ensures { result ≡ front_of_of Set.Ascii s.now }
-{
-    if s.len() == 0 {
-        FirstChar {
-            width: 0,
-            white: false,
-        }
-    } else {
-        FirstChar {
-            width: 1,
-            white: chars::is_ascii_white(s[0]),
-        }
-    }
-}
-
-fn front_char(s: &[u8]) -> FirstChar
-    ensures { result ≡ front_of_of Set.Unicode s.now }
-{
-    let c = chars::first_char(s);
-    FirstChar {
-        width: c.width,
-        white: chars::is_white(c.code),
-    }
-}
-
 fn front(s: &[u8], set: Set) -> FirstChar
     ensures { result ≡ front_of_of set s.now }
 {
     match set {
-        Set::Ascii => front_byte(s),
-        Set::Unicode => front_char(s),
+        Set::Ascii => match s.first() {
+            Some(x) => FirstChar {
+                width: 1,
+                white: chars::is_ascii_white(*x),
+            },
+            None => FirstChar {
+                width: 0,
+                white: false,
+            },
+        },
+        Set::Unicode => {
+            let c = chars::first_char(s);
+            FirstChar {
+                width: c.width,
+                white: chars::is_white(c.code),
+            }
+        }
     }
 }
 
 // Whether a byte is visible ASCII, 21..7E.
+#[tactic(auto, unfolding(crate::specs::First::visible, chars::specs::Range::within))]
 fn is_visible(x: u8) -> bool
     ensures { result ≡ visible x }
 {
-    if x < 0x21 {
-        return false;
-    }
-    x <= 0x7E
+    x.is_ascii_graphic()
 }
 
 // The character at a place: most are visible ASCII, which no set has as white space, or a space, which each has.
 fn front_at(s: &[u8], at: usize, set: Set) -> FirstChar
     ensures { result ≡ front_of_of set (drop at s.now) }
 {
-    if at < s.len() {
-        if is_visible(s[at]) {
-            return FirstChar {
-                width: 1,
-                white: false,
-            };
-        }
-        if s[at] == b' ' {
-            return FirstChar {
-                width: 1,
-                white: true,
-            };
-        }
+    match s.get(at) {
+        Some(x) if is_visible(*x) => FirstChar {
+            width: 1,
+            white: false,
+        },
+        Some(b' ') => FirstChar {
+            width: 1,
+            white: true,
+        },
+        _ => front(parts::from(s, at), set),
     }
-    front(parts::from(s, at), set)
 }
 
 // The bytes of the characters at the front that are white space, or that are not; visible ASCII by its byte alone.
@@ -96,6 +79,7 @@ fn run_len(s: &[u8], set: Set, white: bool) -> usize
     ensures { result ≡ run_of set white s.now }
 {
     let mut at = 0;
+    // A `while`: each turn passes as many bytes as the character takes.
     while at < s.len() {
         if is_visible(s[at]) {
             if white {
@@ -113,26 +97,15 @@ fn run_len(s: &[u8], set: Set, white: bool) -> usize
     at
 }
 
-// The bytes of ASCII white space that a text begins with, one by one.
-fn white_bytes(s: &[u8]) -> usize
-    ensures { result ≡ white_len Set.Ascii s.now }
-{
-    let mut at = 0;
-    while at < s.len() {
-        if !chars::is_ascii_white(s[at]) {
-            return at;
-        }
-        at += 1;
-    }
-    at
-}
-
 // The bytes of white space that a text begins with.
 pub fn white_len(s: &[u8], set: Set) -> usize
     ensures { result ≡ white_len set s.now }
 {
     match set {
-        Set::Ascii => white_bytes(s),
+        Set::Ascii => s
+            .iter()
+            .position(|x| !chars::is_ascii_white(*x))
+            .unwrap_or(s.len()),
         Set::Unicode => run_len(s, Set::Unicode, true),
     }
 }
@@ -148,24 +121,10 @@ pub fn word_len(s: &[u8], set: Set) -> usize
 fn ends_visible(s: &[u8]) -> bool
     ensures { result ≡ ends_visible s.now }
 {
-    if s.len() == 0 {
-        return false;
+    match s.last() {
+        Some(x) => is_visible(*x),
+        None => false,
     }
-    is_visible(s[s.len() - 1])
-}
-
-// Where the last byte that is not ASCII white space ends, one by one from the end.
-fn solid_bytes(s: &[u8]) -> usize
-    ensures { result ≡ length (trim_end Set.Ascii s.now) }
-{
-    let mut end = s.len();
-    while 0 < end {
-        if !chars::is_ascii_white(s[end - 1]) {
-            return end;
-        }
-        end -= 1;
-    }
-    end
 }
 
 // Where the last character that is not white space ends, one by one from the front.
@@ -178,6 +137,7 @@ fn solid_chars(s: &[u8]) -> usize
     }
     let mut at = 0;
     let mut end = 0;
+    // A `while`: each turn passes as many bytes as the character takes.
     while at < s.len() {
         let c = front_at(s, at, Set::Unicode);
         let next = at + c.width;
@@ -194,7 +154,10 @@ pub fn solid_len(s: &[u8], set: Set) -> usize
     ensures { result ≡ length (trim_end set s.now) }
 {
     match set {
-        Set::Ascii => solid_bytes(s),
+        Set::Ascii => {
+            let white = s.iter().rev().position(|x| !chars::is_ascii_white(*x));
+            s.len() - white.unwrap_or(s.len())
+        }
         Set::Unicode => solid_chars(s),
     }
 }
@@ -221,8 +184,7 @@ pub fn trim(s: &[u8], set: Set) -> &[u8]
 pub fn is_blank(s: &[u8], set: Set) -> bool
     ensures { result ≡ is_blank_of set s.now }
 {
-    let left = trim_start(s, set);
-    left.len() == 0
+    trim_start(s, set).is_empty()
 }
 
 // The first word at or after a place; of length 0 where there is none.
@@ -241,13 +203,11 @@ pub fn nth_word(s: &[u8], set: Set, n: usize) -> Part
     ensures { result ≡ nth_word set s.now zero n }
 {
     let mut word = next_word(s, set, 0);
-    let mut left = n;
-    while 0 < left {
+    for _passed in 0..n {
         if word.len == 0 {
             return word;
         }
         word = next_word(s, set, word.start + word.len);
-        left -= 1;
     }
     word
 }
@@ -274,6 +234,7 @@ pub fn last_word(s: &[u8], set: Set) -> &[u8]
 {
     let mut last = next_word(s, set, 0);
     let mut next = last;
+    // A `while`: each turn passes as many bytes as the word takes.
     while 0 < next.len {
         last = next;
         next = next_word(s, set, next.start + next.len);

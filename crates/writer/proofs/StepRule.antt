@@ -328,9 +328,9 @@ module _ (w : Writer) (buf : Bytes) where
     pub start_done : k ≡ 0 → Started w buf (answer k 52 (state_of 1 empty)) buf
     start_done h = started (answer_done w (state_of 1 empty) h refl refl)
 
-    pub start_short : (k ≡ 0 → ⊥) → k ≡ 8 → Started w buf (answer k 52 w) buf
+    pub start_short : k ≡ 8 → Started w buf (answer k 52 w) buf
     unfolding length_given
-    start_short n h = started (rw h)
+    start_short h = started (rw h)
 
     pub start_kept : (k ≡ 0 → ⊥) → (k ≡ 8 → ⊥) → Started w buf (answer k 0 w) buf
     unfolding length_given

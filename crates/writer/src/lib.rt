@@ -1,6 +1,6 @@
 #![tactic(auto)]
 // A tape written step by step into a lent buffer.
-ghost use Rattle.std.specs.Prelude.{◌≡◌, ◌&&◌, ◌+◌, ◌-◌, ◌^◌, ◌<◌, min as least, length, take, ltb};
+ghost use Rattle.std.specs.Prelude.{◌≡◌, ◌&&◌, ◌+◌, ◌-◌, ◌^◌, ◌<◌, length, take, ltb};
 ghost use Rattle.draft.specs.Draft.{empty, piece as piece_act, entry as entry_act, plain, leaf as leaf_act, opens, closes};
 ghost use Rattle.draft.specs.Fault.{first as first_of};
 ghost use Rattle.layout.specs.Layout.{file_len, held_in, head_of, free_of, laid, state_of};
@@ -11,8 +11,8 @@ ghost use Rattle.judge.specs.Numbers.{node_number_of};
 ghost use Rattle.writer.specs.States.{refused_with, ended as ended_of};
 
 use judge::{
-    MOST_NAMES, MOST_OPEN, MOST_SOURCE, entry_number, finish_number, first, is_limited,
-    node_number, piece_number, size, start_number,
+    DEPTH, DONE, MOST_NAMES, MOST_OPEN, MOST_SOURCE, NESTING, ORDER, ROOM, entry_number,
+    finish_number, is_limited, node_number, piece_number, size, start_number,
 };
 pub use layout::Writer;
 use tape::{Entry, Flags, Kind, Node};
@@ -33,18 +33,14 @@ fn refused(number: u8, w: Writer, more: usize) -> Answer
     requires { more < 2 ^ 32 }
     ensures { result ≡ refused_with number w more }
 {
-    if number == 8 {
-        if is_limited(w) {
-            return Answer {
-                number,
-                length: size(w) + more,
-                writer: w,
-            };
-        }
-    }
+    let length = if number == ROOM && is_limited(w) {
+        size(w) + more
+    } else {
+        0
+    };
     Answer {
         number,
-        length: 0,
+        length,
         writer: w,
     }
 }
@@ -57,11 +53,9 @@ fn with_node(w: Writer, inner: usize, depth: usize) -> Writer
     Writer {
         phase: Writer::AT_WORK,
         nodes: w.nodes + 1,
-        entries: w.entries,
-        names: w.names,
-        source: w.source,
         inner,
         depth,
+        ..w
     }
 }
 
@@ -72,7 +66,7 @@ fn put(w: Writer, buf: &mut [u8], node: Node, nest: u8, inner: usize, depth: usi
         (laid (head_of buf.old) (push (held_in w buf.old) node) (take (length (free_of w buf.old) - 16) (free_of w buf.old))) buf.old }
 {
     let number = node_number(w, buf, node, nest);
-    if number != 0 {
+    if number != DONE {
         return refused(number, w, 16);
     }
     let length = size(w) + 16;
@@ -89,14 +83,18 @@ fn put(w: Writer, buf: &mut [u8], node: Node, nest: u8, inner: usize, depth: usi
 fn open_nest(w: Writer) -> u8
     ensures { result ≡ first_of (ltb w.depth 64) 6 0 }
 {
-    first(w.depth < MOST_OPEN, 6, 0)
+    if w.depth < MOST_OPEN { DONE } else { DEPTH }
 }
 
 // Whether a container is open: 7 where none is.
 fn close_nest(w: Writer) -> u8
     ensures { result ≡ first_of (ltb 0 w.inner && ltb 0 w.depth) 7 0 }
 {
-    first((0 < w.inner) & (0 < w.depth), 7, 0)
+    if 0 < w.inner && 0 < w.depth {
+        DONE
+    } else {
+        NESTING
+    }
 }
 
 // A node that closes the innermost open container.
@@ -108,7 +106,7 @@ fn end(w: Writer, buf: &mut [u8], node: Node) -> Answer
         buf.old }
 {
     let number = node_number(w, buf, node, close_nest(w));
-    if number != 0 {
+    if number != DONE {
         return refused(number, w, 16);
     }
     let length = size(w) + 16;
@@ -147,13 +145,6 @@ fn close_kind(block: bool) -> u8
     }
 }
 
-// A count that is over the most is the most.
-fn at_most(n: usize, most: usize) -> usize
-    ensures { result ≡ least n most }
-{
-    if n <= most { n } else { most }
-}
-
 // The state with more source bytes.
 fn with_source(w: Writer, more: usize) -> Writer
     requires { w.source + more < 2 ^ 32 }
@@ -161,12 +152,8 @@ fn with_source(w: Writer, more: usize) -> Writer
 {
     Writer {
         phase: Writer::AT_WORK,
-        nodes: w.nodes,
-        entries: w.entries,
-        names: w.names,
         source: w.source + more,
-        inner: w.inner,
-        depth: w.depth,
+        ..w
     }
 }
 
@@ -177,12 +164,9 @@ fn with_entry(w: Writer, more: usize) -> Writer
 {
     Writer {
         phase: Writer::AT_WORK,
-        nodes: w.nodes,
         entries: w.entries + 1,
         names: w.names + more,
-        source: w.source,
-        inner: w.inner,
-        depth: w.depth,
+        ..w
     }
 }
 
@@ -192,12 +176,7 @@ fn ended(w: Writer) -> Writer
 {
     Writer {
         phase: Writer::FINISHED,
-        nodes: w.nodes,
-        entries: w.entries,
-        names: w.names,
-        source: w.source,
-        inner: w.inner,
-        depth: w.depth,
+        ..w
     }
 }
 
@@ -223,32 +202,25 @@ pub fn start(w: Writer, buf: &mut [u8]) -> Answer
     ensures { Started w buf.old result buf.new }
 {
     let number = start_number(w, buf.len());
-    if number == 0 {
-        return Answer {
+    match number {
+        DONE => Answer {
             number,
             length: 52,
             writer: Writer {
                 phase: Writer::AT_WORK,
-                nodes: 0,
-                entries: 0,
-                names: 0,
-                source: 0,
-                inner: 0,
-                depth: 0,
+                ..new()
             },
-        };
-    }
-    if number == 8 {
-        return Answer {
+        },
+        ROOM => Answer {
             number,
             length: 52,
             writer: w,
-        };
-    }
-    Answer {
-        number,
-        length: 0,
-        writer: w,
+        },
+        _ => Answer {
+            number,
+            length: 0,
+            writer: w,
+        },
     }
 }
 
@@ -257,8 +229,8 @@ pub fn entry(w: Writer, buf: &mut [u8], names: &[u8], e: Entry) -> Answer
     ensures { Took w buf.old (entry_act names.now e) result buf.new }
 {
     let number = entry_number(w, buf.len(), names, e);
-    let more = at_most(names.len(), MOST_NAMES);
-    if number != 0 {
+    let more = names.len().min(MOST_NAMES);
+    if number != DONE {
         return refused(number, w, 8 + more);
     }
     let length = size(w) + (8 + more);
@@ -276,8 +248,8 @@ pub fn source(w: Writer, buf: &mut [u8], piece: &[u8]) -> Answer
     ensures { Took w buf.old (piece_act piece.now) result buf.new }
 {
     let number = piece_number(w, buf.len(), piece);
-    let more = at_most(piece.len(), MOST_SOURCE);
-    if number != 0 {
+    let more = piece.len().min(MOST_SOURCE);
+    if number != DONE {
         return refused(number, w, more);
     }
     let length = size(w) + more;
@@ -295,7 +267,7 @@ pub fn text(w: Writer, buf: &mut [u8], flags: u8, start: u32, len: u32) -> Answe
     ensures { Took w buf.old (plain (node_with kinds.text flags 65535 0 start len)) result buf.new }
 {
     let node = node_of(Kind::TEXT, flags, NO_MARKER, 0, start, len);
-    put(w, buf, node, 0, w.inner, w.depth)
+    put(w, buf, node, DONE, w.inner, w.depth)
 }
 
 // Adds an Attribute.
@@ -303,7 +275,7 @@ pub fn attribute(w: Writer, buf: &mut [u8], flags: u8, start: u32, len: u32) -> 
     ensures { Took w buf.old (plain (node_with kinds.attribute flags 65535 0 start len)) result buf.new }
 {
     let node = node_of(Kind::ATTRIBUTE, flags, NO_MARKER, 0, start, len);
-    put(w, buf, node, 0, w.inner, w.depth)
+    put(w, buf, node, DONE, w.inner, w.depth)
 }
 
 // Adds an Error.
@@ -311,7 +283,7 @@ pub fn error(w: Writer, buf: &mut [u8], flags: u8, start: u32, len: u32) -> Answ
     ensures { Took w buf.old (plain (node_with kinds.error flags 65535 0 start len)) result buf.new }
 {
     let node = node_of(Kind::ERROR, flags, NO_MARKER, 0, start, len);
-    put(w, buf, node, 0, w.inner, w.depth)
+    put(w, buf, node, DONE, w.inner, w.depth)
 }
 
 // Adds a Chapter.
@@ -327,7 +299,7 @@ pub fn chapter(
     ensures { Took w buf.old (plain (node_with kinds.chapter flags marker number start len)) result buf.new }
 {
     let node = node_of(Kind::CHAPTER, flags, marker, number, start, len);
-    put(w, buf, node, 0, w.inner, w.depth)
+    put(w, buf, node, DONE, w.inner, w.depth)
 }
 
 // Adds a Verse.
@@ -343,7 +315,7 @@ pub fn verse(
     ensures { Took w buf.old (plain (node_with kinds.verse flags marker number start len)) result buf.new }
 {
     let node = node_of(Kind::VERSE, flags, marker, number, start, len);
-    put(w, buf, node, 0, w.inner, w.depth)
+    put(w, buf, node, DONE, w.inner, w.depth)
 }
 
 // Adds a MarkerOpen that links to itself.
@@ -351,11 +323,11 @@ pub fn leaf(w: Writer, buf: &mut [u8], flags: u8, marker: u16, start: u32, len: 
     ensures { Took w buf.old (leaf_act (node_with kinds.marker_open flags marker 0 start len)) result buf.new }
 {
     if !is_limited(w) {
-        return refused(16, w, 0);
+        return refused(ORDER, w, 0);
     }
     let next = (w.nodes + 1) as u32;
     let node = node_of(Kind::MARKER_OPEN, flags, marker, next, start, len);
-    put(w, buf, node, 0, w.inner, w.depth)
+    put(w, buf, node, DONE, w.inner, w.depth)
 }
 
 // Opens a container; it links to the one around it until it is closed.
@@ -363,7 +335,7 @@ pub fn open(w: Writer, buf: &mut [u8], flags: u8, marker: u16, start: u32, len: 
     ensures { Took w buf.old (opens (node_with kinds.marker_open flags marker 0 start len)) result buf.new }
 {
     if !is_limited(w) {
-        return refused(16, w, 0);
+        return refused(ORDER, w, 0);
     }
     let around = w.inner as u32;
     let node = node_of(Kind::MARKER_OPEN, flags, marker, around, start, len);
@@ -391,7 +363,7 @@ pub fn finish(w: Writer, buf: &mut [u8]) -> Answer
     ensures { Finished w buf.old result buf.new }
 {
     let number = finish_number(w, buf.len());
-    if number != 0 {
+    if number != DONE {
         return refused(number, w, 0);
     }
     let length = size(w);

@@ -6,8 +6,8 @@ use Rattle.attrs.proofs.along.Goals as goal
 pub loop-step-init : goal.loop-step-init
 loop-step-init c = refl
 
-pub returns-in_default : goal.returns-in_default
-returns-in_default c = search along_end
+pub returns : goal.returns
+returns c = search along_end
 
 pub loop-step-smaller : goal.loop-step-smaller
 loop-step-smaller c = search left-turn
@@ -15,5 +15,5 @@ loop-step-smaller c = search left-turn
 pub loop-step-preserved : goal.loop-step-preserved
 loop-step-preserved c = search along_on
 
-pub returns-in-Pair : goal.returns-in-Pair
-returns-in-Pair c = search along-found
+pub returns-in-Some-pair_at : goal.returns-in-Some-pair_at
+returns-in-Some-pair_at c = search along-found

@@ -22,5 +22,5 @@ returns-then-same-5 c = search key_id
 pub returns-then-begins_with : goal.returns-then-begins_with
 returns-then-begins_with c = search key_who
 
-pub returns : goal.returns
-returns c = search key_default
+pub returns-else-begins_with : goal.returns-else-begins_with
+returns-else-begins_with c = search key_default

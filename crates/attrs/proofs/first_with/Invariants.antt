@@ -1,11 +1,11 @@
 use mathlib.Core.Path.{◌≡◌}
 use lib.ListN.{length}
-use Rattle.tape.specs.File.{tape_in}
+use Rattle.tape.specs.File.{contents}
 use Rattle.attrs.specs.Walk.{remaining, first_of}
 use Rattle.attrs.proofs.first_with.Given as goal
 
-abbrev pub invariant-loop-k : goal.invariant-loop-k
-invariant-loop-k l = first_of l.key (remaining (tape_in l.tape l.file) l.marker l.left) ≡ first_of l.key (remaining (tape_in l.tape l.file) l.marker l.initial.left)
+abbrev pub invariant-loop-attribute : goal.invariant-loop-attribute
+invariant-loop-attribute l = first_of l.key (remaining (contents l.tape) l.marker l.attrs) ≡ first_of l.key (remaining (contents l.tape) l.marker l.initial.attrs)
 
-abbrev pub decreases-loop-k : goal.decreases-loop-k
-decreases-loop-k l = length (remaining (tape_in l.tape l.file) l.marker l.left)
+abbrev pub decreases-loop-attribute : goal.decreases-loop-attribute
+decreases-loop-attribute l = length (remaining (contents l.tape) l.marker l.attrs)

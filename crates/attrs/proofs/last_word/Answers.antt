@@ -1,5 +1,4 @@
 use mathlib.Core.Path.{refl}
-use Prim.Native.Nat.{◌-◌}
 use Rattle.words.proofs.Answers.{last_starts, next-ends, last_turn, last_less, last_found}
 use native.Mathlib.Omega.{arith}
 use Rattle.attrs.proofs.last_word.Goals as goal

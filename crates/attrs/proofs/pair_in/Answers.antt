@@ -1,8 +1,8 @@
 use Rattle.attrs.proofs.Walks.{in_none, in_pair}
 use Rattle.attrs.proofs.pair_in.Goals as goal
 
-pub returns-in-Nothing : goal.returns-in-Nothing
-returns-in-Nothing c = search in_none
+pub returns-in_err-item : goal.returns-in_err-item
+returns-in_err-item c = let a = c.args in rw c.from_residual.ensures (in_none a.source.now a.marker.now a.part c.next_pair.ensures (c.in_err-item.was))
 
-pub returns-in-Pair : goal.returns-in-Pair
-returns-in-Pair c = search in_pair
+pub returns : goal.returns
+returns c = let a = c.args in in_pair a.source.now a.marker.now a.part c.next_pair.ensures c.key_for.result (c.in_ok-item.was) c.key_for.ensures

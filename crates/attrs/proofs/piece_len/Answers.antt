@@ -1,5 +1,6 @@
-use Prim.Native.Nat.{◌-◌}
+use Rattle.parts.specs.Bytes.{b, begins}
 use Rattle.parts.proofs.Laws.{first-turn, first_stop, first_end}
+use Rattle.attrs.proofs.Scan.{rest_is}
 use Rattle.attrs.specs.Attr.{piece_len}
 use native.Mathlib.Omega.{arith}
 use Rattle.attrs.proofs.piece_len.Goals as goal
@@ -9,16 +10,10 @@ unfolding piece_len
 loop-i-init c = omega arith
 
 pub returns-then-begins_with : goal.returns-then-begins_with
-returns-then-begins_with c = search first_stop
-
-pub overflow_add-i : goal.overflow_add-i
-overflow_add-i c = omega arith
-
-pub loop-i-smaller : goal.loop-i-smaller
-loop-i-smaller c = omega arith
+returns-then-begins_with c = first_stop (begins (b "\\\"")) c.args.s.now c.loop-i.i _ (omega arith) (rest_is c.args.s.now c.loop-i.i) c.begins_with.ensures c.if-begins_with.true c.loop-i.invariant
 
 pub loop-i-preserved : goal.loop-i-preserved
-loop-i-preserved c = (omega arith, search first-turn)
+loop-i-preserved c = first-turn (begins (b "\\\"")) c.args.s.now c.loop-i.i _ (omega arith) (rest_is c.args.s.now c.loop-i.i) c.begins_with.ensures c.if-begins_with.false c.loop-i.invariant
 
 pub returns : goal.returns
-returns c = search first_end
+returns c = omega (arith, first_end (begins (b "\\\"")) c.args.s.now c.loop-i.i _ (omega arith) c.loop-i.invariant)

@@ -13,6 +13,9 @@ overflow_add-start c = let a = c.args in omega (arith, quote_in a.s.now a.from c
 pub overflow_add-start-then-begins_with : goal.overflow_add-start-then-begins_with
 overflow_add-start-then-begins_with c = let a = c.args in omega (arith, quote_ends a.s.now a.from c.from.ensures.bytes c.white_len.ensures c.from-v.ensures.bytes c.begins_with.ensures c.if-begins_with.true c.from-then-begins_with.ensures.bytes c.quoted_len-len.ensures)
 
+pub overflow_add-start-then-begins_with-2 : goal.overflow_add-start-then-begins_with-2
+overflow_add-start-then-begins_with-2 c = let a = c.args in omega (arith, quote_ends a.s.now a.from c.from.ensures.bytes c.white_len.ensures c.from-v.ensures.bytes c.begins_with.ensures c.if-begins_with.true c.from-then-begins_with.ensures.bytes c.quoted_len-len.ensures)
+
 pub overflow_add-result : goal.overflow_add-result
 overflow_add-result c = let a = c.args in omega (arith, start_fits Unicode a.s.now a.from c.from.ensures.bytes c.white_len.ensures, bare_ends a.s.now a.from c.from.ensures.bytes c.white_len.ensures c.from-v.ensures.bytes c.begins_with.ensures c.word_len-len.ensures)
 

@@ -8,8 +8,8 @@ use Rattle.blocks.proofs.+blocks_full_holder_held_inner.Goals as goal
 pub blocks-loop-step-init : goal.blocks-loop-step-init
 blocks-loop-step-init t c = (refl, refl)
 
-pub blocks-returns-in-Done : goal.blocks-returns-in-Done
-blocks-returns-in-Done t c = search blocks_done
+pub blocks-returns : goal.blocks-returns
+blocks-returns t c = search blocks_done
 
 pub blocks-returns-in-End : goal.blocks-returns-in-End
 blocks-returns-in-End t c = search blocks_ended
@@ -36,10 +36,10 @@ pub blocks-loop-step-smaller : goal.blocks-loop-step-smaller
 blocks-loop-step-smaller t c = search left_behind
 
 pub blocks-loop-step-preserved : goal.blocks-loop-step-preserved
-blocks-loop-step-preserved t c = (blocks_turned _ _ _ _ _ _ _ _ c.loop-step.invariant.0 (search rules) c.member_of.ensures (search rules) c.holder_of.ensures (search rules) _ _ c.block_turn-g.ensures.next_after, search rules)
+blocks-loop-step-preserved t c = (blocks_turned _ _ _ _ _ _ _ _ c.loop-step.invariant.0 (search rules) c.member_of.ensures (search rules) c.holder_of.ensures (search rules) _ _ c.block_turn-step.ensures.next_after, search rules)
 
 pub full_holder-returns : goal.full_holder-returns
-full_holder-returns t c = held_whole _ _ _ _ _ _ _ _ _ _ _ _ c.open_holder-d.ensures c.first_child.ensures c.inner-e.ensures c.close_holder.ensures
+full_holder-returns t c = held_whole _ _ _ _ _ _ _ _ _ _ c.open_holder.ensures c.first_child.ensures c.inner.ensures c.close_holder.ensures
 
 pub held-returns-then-has_block : goal.held-returns-then-has_block
 held-returns-then-has_block t c = search held_full

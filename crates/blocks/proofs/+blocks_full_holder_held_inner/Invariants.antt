@@ -1,7 +1,7 @@
 use mathlib.Core.Path.{◌≡◌}
 use Prim.Native.Nat.{◌+◌, ◌*◌, ◌-◌}
 use lib.ListN.{length}
-use Rattle.tape.specs.File.{tape_in}
+use Rattle.tape.specs.File.{contents}
 use Rattle.tape.specs.Tree.{left}
 use Rattle.lists.specs.Span.{nodes_in}
 use Rattle.events.specs.Emit.{emit_all}
@@ -24,7 +24,7 @@ abbrev pub decreases-inner : goal.decreases-inner
 decreases-inner l = 4 * (65 - l.level) + 0
 
 abbrev pub invariant-blocks-loop-step : goal.invariant-blocks-loop-step
-invariant-blocks-loop-step l = (emit_all (desk_of (tape_in l.tape l.file).source l.s l.desk l.out) (blocks_all_of (below (tape_in l.tape l.file) (depth_at l.level) l.level) (tape_in l.tape l.file) (depth_at l.level) l.level (nodes_in (tape_in l.tape l.file) (uncut l.sifted) l.step)) ≡ emit_all (desk_of (tape_in l.tape l.file).source l.initial.s l.initial.desk l.initial.out) (blocks_all_of (below (tape_in l.tape l.file) (depth_at l.level) l.level) (tape_in l.tape l.file) (depth_at l.level) l.level (nodes_in (tape_in l.tape l.file) (uncut l.sifted) l.initial.step))) × (length l.out ≡ length l.initial.out)
+invariant-blocks-loop-step l = (emit_all (desk_of (contents l.book.tape).source l.desk l.out) (blocks_all_of (below (contents l.book.tape) (depth_at l.level) l.level) (contents l.book.tape) (depth_at l.level) l.level (nodes_in (contents l.book.tape) (uncut l.sifted) l.step)) ≡ emit_all (desk_of (contents l.book.tape).source l.initial.desk l.initial.out) (blocks_all_of (below (contents l.book.tape) (depth_at l.level) l.level) (contents l.book.tape) (depth_at l.level) l.level (nodes_in (contents l.book.tape) (uncut l.sifted) l.initial.step))) × (length l.out ≡ length l.initial.out)
 
 abbrev pub decreases-blocks-loop-step : goal.decreases-blocks-loop-step
-decreases-blocks-loop-step l = left (tape_in l.tape l.file) l.step
+decreases-blocks-loop-step l = left (contents l.book.tape) l.step

@@ -1,23 +1,7 @@
-use Prim.Native.Nat.{◌-◌}
-use mathlib.Core.Path.{refl}
-use native.Mathlib.Omega.{arith}
-use Rattle.chars.proofs.Passes.{high_turn, high_end}
+use Rattle.std.proofs.Common.{rules, tests, sym, ◌∙◌}
+use lib.Dec.{leb}
+use Rattle.chars.proofs.Passes.{any-high}
 use Rattle.chars.proofs.any_high.Goals as goal
 
-pub loop-i-init : goal.loop-i-init
-loop-i-init c = (omega arith, refl)
-
-pub bounds-s-i : goal.bounds-s-i
-bounds-s-i c = omega arith
-
-pub overflow_add-i : goal.overflow_add-i
-overflow_add-i c = omega arith
-
-pub loop-i-smaller : goal.loop-i-smaller
-loop-i-smaller c = omega arith
-
-pub loop-i-preserved : goal.loop-i-preserved
-loop-i-preserved c = (omega arith, search high_turn)
-
 pub returns : goal.returns
-returns c = search high_end
+returns c = c.any_byte.ensures (leb 128) (λ x r k. search (rules, tests)) ∙ sym (any-high c.args.s.now)

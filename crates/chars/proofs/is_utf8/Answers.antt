@@ -1,4 +1,3 @@
-use Prim.Native.Nat.{◌-◌}
 use native.Mathlib.Omega.{arith}
 use Rattle.chars.proofs.Passes.{pass_start, pass_on, pass_end, pass_none}
 use Rattle.chars.proofs.is_utf8.Goals as goal

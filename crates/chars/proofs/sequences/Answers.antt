@@ -1,4 +1,3 @@
-use Prim.Native.Nat.{◌-◌}
 use native.Mathlib.Omega.{arith}
 use borrow.Author.Rules.{rules}
 use Rattle.chars.proofs.Passes.{pass_start, pass_fits, pass_sequence, pass_stuck}

@@ -1,20 +1,20 @@
-use Rattle.checker.proofs.Places.{line_turn, line_done, line_one}
-use Prim.Native.Nat.{◌-◌}
-use native.Mathlib.Omega.{arith}
+use Rattle.checker.specs.Place.{line_end, line_ends}
+use Rattle.std.proofs.Common.{rules, refl, cond, true, false, ◌+◌, ◌≡◌, ℕ, List, [], ◌∷◌, Bool, zero-add}
+use Rattle.std.proofs.lemmas.List.Recursion.{is_count_by}
+use lib.Dec.{eqb}
 use Rattle.checker.proofs.line_ends.Goals as goal
 
-pub loop-i-init : goal.loop-i-init
-loop-i-init c = (omega arith, omega arith, omega arith)
+line_ends-cons : (c : ℕ) (s : List ℕ) → line_ends (c ∷ s) ≡ cond (eqb c 10) (1 + line_ends s) (line_ends s)
+unfolding line_ends line_end
+line_ends-cons c s = go (eqb c 10)
+  where
+    go : (t : Bool) → cond t 1 0 + line_ends s ≡ cond t (1 + line_ends s) (line_ends s)
+    go true = refl
+    go false = zero-add _
 
-pub overflow_add-n : goal.overflow_add-n
-overflow_add-n c = omega (arith, line_one _ c.line_end-n.ensures)
+line_ends-nil : line_ends [] ≡ 0
+unfolding line_ends
+line_ends-nil = refl
 
-pub loop-i-preserved : goal.loop-i-preserved
-loop-i-preserved c =
-    let inv = c.loop-i.invariant in
-    let one = line_one _ c.line_end-n.ensures in
-    (line_turn _ _ _ _ _ c.loop-i-test.true c.line_end-n.ensures inv.0, omega arith, omega arith)
-
-pub returns : goal.returns
-returns c =
-    let inv = c.loop-i.invariant in record { count = line_done _ _ _ _ c.loop-i-test.false inv.0; fits = omega arith }
+pub returns-clause-count : goal.returns-clause-count
+returns-clause-count c = search (rules, is_count_by line_ends (λ c. eqb c 10) line_ends-nil line_ends-cons)

@@ -1,28 +1,27 @@
-use mathlib.Core.Path.{refl}
-use Rattle.figure.proofs.Figures.{field_here, field_short, field_in, field_on}
+use mathlib.Core.Path.{◌≡◌, ap}
+use Prim.Native.Nat.{◌+◌, ◌-◌}
 use native.Mathlib.Omega.{arith}
+use lib.ListN.{length, length-drop}
+use Rattle.figure.proofs.Figures.{field_here, field_short, field_on}
 use Rattle.figure.proofs.field_in.Goals as goal
 
-pub loop-left-init : goal.loop-left-init
-loop-left-init c = (omega arith, refl)
-
-pub returns-then-left-eq0 : goal.returns-then-left-eq0
-returns-then-left-eq0 c = search field_here
+pub loop-init : goal.loop-init
+loop-init c = (omega arith, let left : c.args.n - 0 ≡ c.args.n = omega arith in rw left)
 
 pub returns-then-rest-bar : goal.returns-then-rest-bar
-returns-then-rest-bar c = search field_short
+returns-then-rest-bar c = field_short c.loop.rest.now _ c.find_byte-bar.ensures c.loop.invariant.1 (λ h. omega arith) c.if-rest-bar.true c.part.ensures.bytes
 
-pub overflow_add-at : goal.overflow_add-at
-overflow_add-at c = let l = c.loop-left in omega (arith, field_in c.args.s.now l.at l.left c.from-rest.ensures.bytes c.find_byte-bar.ensures l.invariant.1 c.if-rest-bar.false)
+pub overflow_add-bar : goal.overflow_add-bar
+overflow_add-bar c = let i = c.loop.invariant in omega (arith, i.0)
 
-pub overflow_add-at-in-loop-left : goal.overflow_add-at-in-loop-left
-overflow_add-at-in-loop-left c = let l = c.loop-left in omega (arith, field_in c.args.s.now l.at l.left c.from-rest.ensures.bytes c.find_byte-bar.ensures l.invariant.1 c.if-rest-bar.false)
+pub loop-preserved : goal.loop-preserved
+loop-preserved c =
+    let i = c.loop.invariant in
+    let r = c.loop.rest.now in
+    let left : c.args.n - (c.loop.counter + 1) ≡ c.args.n - c.loop.counter - 1 = omega arith in (
+      omega (arith, i.0, ap length c.from-rest.ensures.bytes, length-drop (c.find_byte-bar.result + 1) r),
+      rw left (field_on r _ c.find_byte-bar.ensures i.1 (λ h. omega arith) c.if-rest-bar.false c.from-rest.ensures.bytes),
+    )
 
-pub overflow_sub-left : goal.overflow_sub-left
-overflow_sub-left c = omega arith
-
-pub loop-left-smaller : goal.loop-left-smaller
-loop-left-smaller c = omega arith
-
-pub loop-left-preserved : goal.loop-left-preserved
-loop-left-preserved c = (search field_in, search field_on)
+pub returns : goal.returns
+returns c = field_here c.loop.rest.now _ c.find_byte.ensures c.loop.invariant.1 (omega arith) c.part-2.ensures.bytes

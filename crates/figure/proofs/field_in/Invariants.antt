@@ -1,12 +1,9 @@
 use mathlib.Core.Path.{◌≡◌}
 use mathlib.Core.List.{[]}
-use Prim.Native.Nat.{◌≤◌}
-use lib.ListN.{length, get_or, drop}
+use Prim.Native.Nat.{◌-◌, ◌≤◌}
+use lib.ListN.{length, get_or}
 use Rattle.figure.specs.Figure.{split}
 use Rattle.figure.proofs.field_in.Given as goal
 
-abbrev pub invariant-loop-left : goal.invariant-loop-left
-invariant-loop-left l = (l.at ≤ length l.s) × (get_or (split 124 (drop l.at l.s)) l.left [] ≡ get_or (split 124 l.s) l.initial.left [])
-
-abbrev pub decreases-loop-left : goal.decreases-loop-left
-decreases-loop-left l = l.left
+abbrev pub invariant-loop : goal.invariant-loop
+invariant-loop l = (length l.rest ≤ length l.s) × (get_or (split 124 l.rest) (l.n - l.counter) [] ≡ get_or (split 124 l.s) l.n [])

@@ -1,11 +1,11 @@
 use Rattle.figure.proofs.Figures.{legacy_none, legacy_today, legacy_found}
 use Rattle.figure.proofs.legacy.Goals as goal
 
-pub returns-in-Done : goal.returns-in-Done
-returns-in-Done c = search legacy_none
+pub returns-in_err-a : goal.returns-in_err-a
+returns-in_err-a c = rw c.from_residual.ensures (search (legacy_none, c.in_err-a.was))
 
 pub returns-then-find_byte-body : goal.returns-then-find_byte-body
-returns-then-find_byte-body c = search legacy_today
+returns-then-find_byte-body c = search (legacy_today, c.in_ok-a.was)
 
 pub returns-else-find_byte-body : goal.returns-else-find_byte-body
-returns-else-find_byte-body c = search legacy_found
+returns-else-find_byte-body c = search (legacy_found, c.in_ok-a.was)

@@ -7,5 +7,5 @@ returns-then-same c = search slot_alt
 pub returns-then-same-2 : goal.returns-then-same-2
 returns-then-same-2 c = search slot_pub
 
-pub returns : goal.returns
-returns c = search slot_none
+pub returns-else-same-2 : goal.returns-else-same-2
+returns-else-same-2 c = search slot_none

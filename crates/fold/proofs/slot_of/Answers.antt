@@ -1,11 +1,11 @@
 use Rattle.fold.proofs.Folding.{slot_chapter, slot_verse, slot_wrong}
 use Rattle.fold.proofs.slot_of.Goals as goal
 
-pub returns-then-anchor-eq-CHAPTER : goal.returns-then-anchor-eq-CHAPTER
-returns-then-anchor-eq-CHAPTER c = search slot_chapter
+pub returns-in-6 : goal.returns-in-6
+returns-in-6 c = search slot_chapter
 
-pub returns-then-anchor-eq-VERSE : goal.returns-then-anchor-eq-VERSE
-returns-then-anchor-eq-VERSE c = search slot_verse
+pub returns-in-7 : goal.returns-in-7
+returns-in-7 c = search slot_verse
 
-pub returns : goal.returns
-returns c = search slot_wrong
+pub returns-in_default : goal.returns-in_default
+returns-in_default c = search slot_wrong

@@ -6,8 +6,8 @@ use Rattle.holders.proofs.has_block.Goals as goal
 pub loop-step-init : goal.loop-step-init
 loop-step-init c = refl
 
-pub returns-in-Done : goal.returns-in-Done
-returns-in-Done c = search has_ended
+pub returns : goal.returns
+returns c = search has_ended
 
 pub returns-in-End : goal.returns-in-End
 returns-in-End c = search has_cut

@@ -3,7 +3,7 @@ use mathlib.Core.Path.{◌≡◌, refl}
 use mathlib.Core.List.{List}
 use Prim.Native.Nat.{ℕ, ◌+◌}
 use native.Mathlib.Omega.{arith}
-use Rattle.tape.specs.File.{Tape, tape_in}
+use Rattle.tape.specs.File.{Tape, contents}
 use Rattle.events.specs.Event.{Event}
 use Rattle.events.specs.Walk.{node_in_of, inside as inside_of}
 use Rattle.events.specs.Emit.{Desk}
@@ -18,40 +18,40 @@ use Rattle.inline.proofs.+inline_inside_marker_node_note_inline.Goals as goal
 pub inline-loop-step-init : goal.inline-loop-step-init
 inline-loop-step-init t c = (refl, (search kept_here, refl))
 
-pub inline-returns-in-Done : goal.inline-returns-in-Done
-inline-returns-in-Done t c = search inline_done
+pub inline-returns : goal.inline-returns
+inline-returns t c = search inline_done
 
 pub inline-returns-in-End : goal.inline-returns-in-End
 inline-returns-in-End t c = search inline-ended
 
-pub inline-loop-step-smaller-in-Written : goal.inline-loop-step-smaller-in-Written
-inline-loop-step-smaller-in-Written t c = search left-turn
+pub inline-loop-step-smaller-then-lone : goal.inline-loop-step-smaller-then-lone
+inline-loop-step-smaller-then-lone t c = search left-turn
 
-pub inline-loop-step-preserved-in-Written : goal.inline-loop-step-preserved-in-Written
-inline-loop-step-preserved-in-Written t c =
-    let u : Tape = tape_in c.args.tape c.args.file.now in
+pub inline-loop-step-preserved-then-lone : goal.inline-loop-step-preserved-then-lone
+inline-loop-step-preserved-then-lone t c =
+    let u : Tape = contents c.args.book.now.tape in
     let m : ℕ → Bool → List Event = node_in_of (inside_of u c.args.depth) u in
     let l = c.loop-step in
-    let s : Desk = desk_of u.source l.s l.desk l.out in (
-      inline_lone m u c.args.span c.args.parent c.args.outer l.known l.trim s l.invariant.0 c.in-At.c u.source l.s l.desk l.out c.lone.new.desk c.lone.new.out c.lone.result refl c.lone.ensures.put_as c.lone.ensures.keeps_behind
-          c.in-Written.is c.in-At.is c.sort_in.ensures c.in-Enter.is c.next_sibling-step.ensures,
+    let s : Desk = desk_of u.source l.desk l.out in (
+      inline_lone m u c.args.span c.args.parent c.args.outer l.known l.trim s l.invariant.0 c.in-Some.c u.source l.desk l.out c.lone.new.desk c.lone.new.out c.lone.result refl c.lone.ensures.put_as c.lone.ensures.keeps_behind
+          c.if-lone.true c.in-Some.is c.sort_in.ensures c.in-Enter.is c.next_sibling-step.ensures,
       (search kept_here, omega (arith, l.invariant.1.1, c.lone.auto.out)),
     )
 
-pub inline-loop-step-smaller-in-Nothing : goal.inline-loop-step-smaller-in-Nothing
-inline-loop-step-smaller-in-Nothing t c = left-turn _ _ c.in-At.is c.next_sibling-step-in-Nothing.ensures
+pub inline-loop-step-smaller-else-lone : goal.inline-loop-step-smaller-else-lone
+inline-loop-step-smaller-else-lone t c = left-turn _ _ c.in-Some.is c.next_sibling-step-else-lone.ensures
 
-pub inline-loop-step-preserved-in-Nothing : goal.inline-loop-step-preserved-in-Nothing
-inline-loop-step-preserved-in-Nothing t c =
-    let u : Tape = tape_in c.args.tape c.args.file.now in
+pub inline-loop-step-preserved-else-lone : goal.inline-loop-step-preserved-else-lone
+inline-loop-step-preserved-else-lone t c =
+    let u : Tape = contents c.args.book.now.tape in
     let m : ℕ → Bool → List Event = node_in_of (inside_of u c.args.depth) u in
     let l = c.loop-step in
-    let s : Desk = desk_of u.source l.s c.lone.new.desk c.lone.new.out in
-    let same : s ≡ desk_of u.source l.s l.desk l.out =
-    put_nothing u.source l.s l.desk l.out (m c.in-At.c.at true) c.lone.new.desk c.lone.new.out {r = c.lone.result} (c.lone.ensures.put_as true) c.in-Nothing.is in (
-      inline-entered m u c.args.span c.args.parent c.args.outer l.known l.trim s (from_same same _ l.invariant.0) c.in-At.is c.sort_in.ensures c.in-Enter.is c.ask-known.ensures c.follows.ensures c.node-s.ensures c.trims_after-trim.ensures
-          c.next_sibling-step-in-Nothing.ensures,
-      (search kept_here, omega (arith, l.invariant.1.1, c.lone.auto.out, c.node-s.auto.out)),
+    let s : Desk = desk_of u.source c.lone.new.desk c.lone.new.out in
+    let same : s ≡ desk_of u.source l.desk l.out =
+    put_nothing u.source l.desk l.out (m c.in-Some.c.at true) c.lone.new.desk c.lone.new.out {r = c.lone.result} (c.lone.ensures.put_as true) c.if-lone.false in (
+      inline-entered m u c.args.span c.args.parent c.args.outer l.known l.trim s (from_same same _ l.invariant.0) c.in-Some.is c.sort_in.ensures c.in-Enter.is c.ask-known.ensures c.follows.ensures c.node.ensures c.trims_after-trim.ensures
+          c.next_sibling-step-else-lone.ensures,
+      (search kept_here, omega (arith, l.invariant.1.1, c.lone.auto.out, c.node.auto.out)),
     )
 
 pub inline-loop-step-smaller : goal.inline-loop-step-smaller
@@ -69,11 +69,8 @@ inside-returns-then-note t c = search inside-note
 pub inside-returns-else-note : goal.inside-returns-else-note
 inside-returns-else-note t c = search inside-inline
 
-pub marker-close_marker-requires : goal.marker-close_marker-requires
-marker-close_marker-requires t c = c.requires
-
 pub marker-returns-then-is_whole : goal.marker-returns-then-is_whole
-marker-returns-then-is_whole t c = marker_whole _ _ _ _ _ c.role_of-role.ensures c.is_whole.ensures c.if-is_whole.true _ c.open_marker-a.ensures c.is_note.ensures c.inside-z.ensures c.close_marker.ensures
+marker-returns-then-is_whole t c = marker_whole _ _ _ _ _ c.role_of-role.ensures c.is_whole.ensures c.if-is_whole.true _ c.open_marker.ensures c.is_note.ensures c.inside.ensures c.close_marker.ensures
 
 pub marker-returns-else-is_whole : goal.marker-returns-else-is_whole
 marker-returns-else-is_whole t c = search marker-leaf
@@ -87,46 +84,46 @@ node-returns-then-kind-eq-VERSE t c = search node-verse
 pub node-returns-then-kind-eq-MARKER_OPEN : goal.node-returns-then-kind-eq-MARKER_OPEN
 node-returns-then-kind-eq-MARKER_OPEN t c = search node-marker
 
-pub node-returns : goal.node-returns
-node-returns t c = search node-other
+pub node-returns-else-kind-eq-MARKER_OPEN : goal.node-returns-else-kind-eq-MARKER_OPEN
+node-returns-else-kind-eq-MARKER_OPEN t c = search node-other
 
 pub note_inline-loop-step-init : goal.note_inline-loop-step-init
 note_inline-loop-step-init t c = (refl, (search kept_here, refl))
 
-pub note_inline-returns-in-Done : goal.note_inline-returns-in-Done
-note_inline-returns-in-Done t c = search note_done
+pub note_inline-returns : goal.note_inline-returns
+note_inline-returns t c = search note_done
 
 pub note_inline-returns-in-End : goal.note_inline-returns-in-End
 note_inline-returns-in-End t c = search note-ended
 
-pub note_inline-loop-step-smaller-in-Written : goal.note_inline-loop-step-smaller-in-Written
-note_inline-loop-step-smaller-in-Written t c = search left-turn
+pub note_inline-loop-step-smaller-then-lone : goal.note_inline-loop-step-smaller-then-lone
+note_inline-loop-step-smaller-then-lone t c = search left-turn
 
-pub note_inline-loop-step-preserved-in-Written : goal.note_inline-loop-step-preserved-in-Written
-note_inline-loop-step-preserved-in-Written t c =
-    let u : Tape = tape_in c.args.tape c.args.file.now in
+pub note_inline-loop-step-preserved-then-lone : goal.note_inline-loop-step-preserved-then-lone
+note_inline-loop-step-preserved-then-lone t c =
+    let u : Tape = contents c.args.book.now.tape in
     let m : ℕ → Bool → List Event = node_in_of (inside_of u c.args.depth) u in
     let l = c.loop-step in
-    let s : Desk = desk_of u.source l.s l.desk l.out in (
-      note_lone m u (c.args.parent.at + 1) c.args.parent c.args.outer l.known l.trim s l.invariant.0 c.in-At.c u.source l.s l.desk l.out c.lone.new.desk c.lone.new.out c.lone.result refl c.lone.ensures.put_as c.lone.ensures.keeps_behind
-          c.in-Written.is c.in-At.is c.note_sort.ensures c.in-Enter.is c.next_sibling-step.ensures,
+    let s : Desk = desk_of u.source l.desk l.out in (
+      note_lone m u (c.args.parent.at + 1) c.args.parent c.args.outer l.known l.trim s l.invariant.0 c.in-Some.c u.source l.desk l.out c.lone.new.desk c.lone.new.out c.lone.result refl c.lone.ensures.put_as c.lone.ensures.keeps_behind
+          c.if-lone.true c.in-Some.is c.note_sort.ensures c.in-Enter.is c.next_sibling-step.ensures,
       (search kept_here, omega (arith, l.invariant.1.1, c.lone.auto.out)),
     )
 
-pub note_inline-loop-step-smaller-in-Nothing : goal.note_inline-loop-step-smaller-in-Nothing
-note_inline-loop-step-smaller-in-Nothing t c = left-turn _ _ c.in-At.is c.next_sibling-step-in-Nothing.ensures
+pub note_inline-loop-step-smaller-else-lone : goal.note_inline-loop-step-smaller-else-lone
+note_inline-loop-step-smaller-else-lone t c = left-turn _ _ c.in-Some.is c.next_sibling-step-else-lone.ensures
 
-pub note_inline-loop-step-preserved-in-Nothing : goal.note_inline-loop-step-preserved-in-Nothing
-note_inline-loop-step-preserved-in-Nothing t c =
-    let u : Tape = tape_in c.args.tape c.args.file.now in
+pub note_inline-loop-step-preserved-else-lone : goal.note_inline-loop-step-preserved-else-lone
+note_inline-loop-step-preserved-else-lone t c =
+    let u : Tape = contents c.args.book.now.tape in
     let m : ℕ → Bool → List Event = node_in_of (inside_of u c.args.depth) u in
     let l = c.loop-step in
-    let s : Desk = desk_of u.source l.s c.lone.new.desk c.lone.new.out in
-    let same : s ≡ desk_of u.source l.s l.desk l.out =
-    put_nothing u.source l.s l.desk l.out (m c.in-At.c.at true) c.lone.new.desk c.lone.new.out {r = c.lone.result} (c.lone.ensures.put_as true) c.in-Nothing.is in (
-      note-entered m u (c.args.parent.at + 1) c.args.parent c.args.outer l.known l.trim s (from_same same _ l.invariant.0) c.in-At.is c.note_sort.ensures c.in-Enter.is c.ask-known.ensures c.follows.ensures c.node-s.ensures c.trims_after-trim.ensures
-          c.next_sibling-step-in-Nothing.ensures,
-      (search kept_here, omega (arith, l.invariant.1.1, c.lone.auto.out, c.node-s.auto.out)),
+    let s : Desk = desk_of u.source c.lone.new.desk c.lone.new.out in
+    let same : s ≡ desk_of u.source l.desk l.out =
+    put_nothing u.source l.desk l.out (m c.in-Some.c.at true) c.lone.new.desk c.lone.new.out {r = c.lone.result} (c.lone.ensures.put_as true) c.if-lone.false in (
+      note-entered m u (c.args.parent.at + 1) c.args.parent c.args.outer l.known l.trim s (from_same same _ l.invariant.0) c.in-Some.is c.note_sort.ensures c.in-Enter.is c.ask-known.ensures c.follows.ensures c.node.ensures c.trims_after-trim.ensures
+          c.next_sibling-step-else-lone.ensures,
+      (search kept_here, omega (arith, l.invariant.1.1, c.lone.auto.out, c.node.auto.out)),
     )
 
 pub note_inline-loop-step-smaller : goal.note_inline-loop-step-smaller

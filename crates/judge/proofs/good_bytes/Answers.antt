@@ -1,16 +1,31 @@
-use Rattle.judge.proofs.NumberRule.{bytes_turn, bytes_end}
-use mathlib.Core.Path.{refl}
-use Prim.Native.Nat.{◌-◌}
-use borrow.Author.Rules.{rules}
-use Rattle.admit.specs.Decide.{all_below}
+use Rattle.std.proofs.Common.{ℕ, length, ◌∙◌, refl, rules}
+use lib.ListN.{get_or}
+use borrow.Author.Tests.{tests}
+use Rattle.std.specs.Bool.{Decides}
+use Rattle.std.specs.Char.{is_ascii_graphic}
+use Rattle.std.specs.List.{list_all}
+use Rattle.std.proofs.lemmas.Bool.Decides.{Decides-by_and, Decides-below_and, same_from_decides}
+use Rattle.std.proofs.lemmas.Iterator.{YieldsList-from_slice}
+use Rattle.std.proofs.lemmas.Iterator.Search.{all_from_yields_List}
+use Rattle.std.proofs.lemmas.List.Elements.{All-get_or, All-from_get_or}
+use Rattle.admit.specs.Decide.{all_below, good_byte}
+use Rattle.admit.specs.Pieces.{GoodByte}
 use Rattle.judge.proofs.good_bytes.Goals as goal
 
-pub loop-i-init : goal.loop-i-init
-unfolding all_below
-loop-i-init c = (search rules, refl)
+graphic : (x : ℕ) → Decides (is_ascii_graphic x) (GoodByte x)
+graphic x = search (rules, tests)
 
-pub loop-i-preserved : goal.loop-i-preserved
-loop-i-preserved c = (search rules, bytes_turn c.args.s.now _ c.loop-i.invariant.1 c.good_byte-ok.ensures)
+good : (x : ℕ) → Decides (good_byte x) (GoodByte x)
+unfolding good_byte
+good x = search (rules, tests)
 
 pub returns : goal.returns
-returns c = search bytes_end
+unfolding all_below
+returns c =
+    let s = c.args.s.now in
+    let byte : ℕ → ℕ = λ i. get_or s i 0 in
+    let all = Decides-by_and is_ascii_graphic GoodByte (list_all is_ascii_graphic) graphic refl (λ _ _. refl) s in
+    let below =
+    Decides-below_and (λ i. good_byte (byte i)) (λ i. GoodByte (byte i)) (all_below (λ i. good_byte (byte i))) (λ i. good (byte i)) refl (λ _. refl) (length s) in
+    all_from_yields_List is_ascii_graphic _ _ _ c.all.ensures.ran (YieldsList-from_slice s cc) (λ x b q k. search (rules, tests))
+    ∙ same_from_decides _ _ (λ e k l. All-get_or GoodByte s k 0 l (all.0 e), λ g. all.1 (All-from_get_or GoodByte s 0 g)) below

@@ -1,14 +1,16 @@
-use Rattle.judge.proofs.NumberRule.{busy_limited, busy_fits, node_idle, node_made}
+use Rattle.std.proofs.Common.{arith}
+use Rattle.std.proofs.Common.{◌≡◌, true}
+use Rattle.judge.specs.Phase.{limited}
+use Rattle.judge.proofs.NumberRule.{busy_limited, busy_fits, limits_of}
 use Rattle.judge.proofs.node_number.Goals as goal
 
-pub returns-then-phase-ne-AT_WORK : goal.returns-then-phase-ne-AT_WORK
-returns-then-phase-ne-AT_WORK c = search node_idle
-
-pub size-requires : goal.size-requires
-size-requires c = search busy_limited
+pub overflow_add-w : goal.overflow_add-w
+overflow_add-w c =
+    let h : limited c.args.w ≡ true = search busy_limited in
+    omega (arith, limits_of c.args.w h)
 
 pub good_node-requires : goal.good_node-requires
 good_node-requires c = search busy_fits
 
-pub returns : goal.returns
-returns c = search node_made
+pub size-requires : goal.size-requires
+size-requires c = search busy_limited

@@ -6,4 +6,4 @@ pub returns-then-not-is_wide : goal.returns-then-not-is_wide
 returns-then-not-is_wide c = text-plain c.text-s.ensures.bytes c.is_wide.ensures (search rules)
 
 pub returns : goal.returns
-returns c = text-white _ _ _ _ c.text-s.ensures.bytes c.is_wide.ensures (search rules) c.white_of.ensures c.past_white.ensures c.requires
+returns c = text-white _ _ _ c.text-s.ensures.bytes c.is_wide.ensures (search rules) c.white_of.ensures c.past_white.ensures

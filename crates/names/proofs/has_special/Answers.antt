@@ -1,16 +1,13 @@
-use mathlib.Core.Path.{refl}
-use Prim.Native.Nat.{◌-◌}
-use Rattle.names.proofs.Specials.{special-turn, special_stop, special_end}
+use mathlib.Core.Path.{◌∙◌}
+use borrow.Author.Tests.{tests}
+use Rattle.std.proofs.Common.{true, rules}
+use Rattle.std.proofs.lemmas.Iterator.{YieldsList-from_slice}
+use Rattle.std.proofs.lemmas.Iterator.Search.{any_from_yields_List}
+use Rattle.chars.specs.Escape.{special}
+use Rattle.names.proofs.Specials.{special_any}
 use Rattle.names.proofs.has_special.Goals as goal
 
-pub loop-i-init : goal.loop-i-init
-loop-i-init c = refl
-
-pub returns-then-is_special : goal.returns-then-is_special
-returns-then-is_special c = search special_stop
-
-pub loop-i-preserved : goal.loop-i-preserved
-loop-i-preserved c = search special-turn
-
 pub returns : goal.returns
-returns c = search special_end
+returns c =
+    any_from_yields_List (special true) _ _ _ c.any.ensures.ran (YieldsList-from_slice c.args.s.now cc) (λ x b q k. search (rules, tests))
+    ∙ special_any c.args.s.now

@@ -1,11 +1,15 @@
-use Rattle.names.proofs.Nodes.{names_code, names_label, names_sign}
+use Rattle.accepts.specs.Proviso.{names_of}
+use Rattle.names.proofs.Rows.{hit_here, hit_on}
 use Rattle.names.proofs.name_hit.Goals as goal
 
-pub returns-then-is_hit : goal.returns-then-is_hit
-returns-then-is_hit c = search names_code
+pub returns-in-Some : goal.returns-in-Some
+unfolding names_of
+returns-in-Some c = search hit_here
 
-pub returns-then-is_hit-2 : goal.returns-then-is_hit-2
-returns-then-is_hit-2 c = search names_label
+pub returns-in-Some-label_hit : goal.returns-in-Some-label_hit
+unfolding names_of
+returns-in-Some-label_hit c = search (hit_here, hit_on)
 
 pub returns : goal.returns
-returns c = search names_sign
+unfolding names_of
+returns c = search hit_on

@@ -1,8 +1,8 @@
-use Rattle.names.proofs.Nodes.{sign_marker, sign_key}
+use Rattle.names.proofs.Rows.{hit_here, hit_on}
 use Rattle.names.proofs.sign_hit.Goals as goal
 
-pub returns-then-is_hit : goal.returns-then-is_hit
-returns-then-is_hit c = search sign_marker
+pub returns-in-Some : goal.returns-in-Some
+returns-in-Some c = search hit_here
 
 pub returns : goal.returns
-returns c = search sign_key
+returns c = search (hit_on, c.key_hit.ensures)

@@ -1,31 +1,19 @@
-use mathlib.Core.Path.{refl, sym}
-use native.Mathlib.Omega.{arith}
-use Rattle.parts.proofs.Laws.{begins_short, begins-turn, begins_stop, begins_end}
+use mathlib.Core.Path.{◌∙◌}
+use Prim.Native.Nat.{ℕ}
+use lib.Dec.{eqb}
+use Rattle.std.proofs.Common.{rules, tests}
+use Rattle.std.proofs.lemmas.Iterator.{YieldsList-from_slice, YieldsList-from_zip}
+use Rattle.std.proofs.lemmas.Iterator.Search.{all_from_yields_List}
+use Rattle.parts.proofs.Laws.{begins-zip, begins_short}
 use Rattle.parts.proofs.begins_with.Goals as goal
 
-pub returns-then-s-word : goal.returns-then-s-word
-returns-then-s-word c = sym (begins_short _ _ c.if-s-word.true)
+pub returns-then-word-s : goal.returns-then-word-s
+returns-then-word-s c =
+    let w = c.args.word.now in
+    let s = c.args.s.now in
+    all_from_yields_List (λ (p : ℕ × ℕ). eqb p.0 p.1) c.all.new.self _ c.all.result c.all.ensures.ran
+    (YieldsList-from_zip (YieldsList-from_slice w cc) (YieldsList-from_slice s cc)) (λ x b q k. search (rules, tests))
+    ∙ begins-zip w s c.if-word-s.true
 
-pub loop-i-init : goal.loop-i-init
-loop-i-init c = (omega arith, refl)
-
-pub bounds-word-i : goal.bounds-word-i
-bounds-word-i c = omega arith
-
-pub bounds-s-i : goal.bounds-s-i
-bounds-s-i c = omega arith
-
-pub returns-then-word-i : goal.returns-then-word-i
-returns-then-word-i c = search (begins_stop, arith)
-
-pub overflow_add-i : goal.overflow_add-i
-overflow_add-i c = omega arith
-
-pub loop-i-smaller : goal.loop-i-smaller
-loop-i-smaller c = omega arith
-
-pub loop-i-preserved : goal.loop-i-preserved
-loop-i-preserved c = (omega arith, search (begins-turn, arith))
-
-pub returns : goal.returns
-returns c = search (begins_end, arith)
+pub returns-else-word-s : goal.returns-else-word-s
+returns-else-word-s c = rw (begins_short c.args.word.now c.args.s.now c.if-word-s.false) (search (rules, tests))

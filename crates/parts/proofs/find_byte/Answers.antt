@@ -1,24 +1,13 @@
-use native.Mathlib.Omega.{arith}
-use Rattle.parts.proofs.Laws.{byte_turn, byte_stop, first_end}
+use Rattle.std.proofs.Common.{rules, tests}
+use mathlib.Core.Path.{◌≡◌, sym, ◌∙◌}
+use mathlib.Core.List.{[], ◌∷◌}
+use Rattle.std.proofs.lemmas.Iterator.{YieldsList-from_slice, IsFirst-from_position, index_from_first}
+use Rattle.parts.specs.Bytes.{find}
+use Rattle.parts.proofs.Laws.{find-none, find-hit, find-miss}
 use Rattle.parts.proofs.find_byte.Goals as goal
 
-pub loop-i-init : goal.loop-i-init
-loop-i-init c = omega arith
-
-pub bounds-s-i : goal.bounds-s-i
-bounds-s-i c = omega arith
-
-pub returns-then-s-i : goal.returns-then-s-i
-returns-then-s-i c = search byte_stop
-
-pub overflow_add-i : goal.overflow_add-i
-overflow_add-i c = omega arith
-
-pub loop-i-smaller : goal.loop-i-smaller
-loop-i-smaller c = omega arith
-
-pub loop-i-preserved : goal.loop-i-preserved
-loop-i-preserved c = (omega arith, search byte_turn)
-
 pub returns : goal.returns
-returns c = search first_end
+returns c =
+    let x = c.args.x in
+    let first = IsFirst-from_position _ _ _ (λ y. y ≡ x) (λ y. y ≡ x → ⊥) c.position.ensures.ran (YieldsList-from_slice c.args.s.now cc) (λ y q k. search (rules, tests)) (λ y q k. search (rules, tests)) in
+    c.unwrap_or.ensures ∙ sym (index_from_first (find (x ∷ [])) (λ y. y ≡ x) (λ y. y ≡ x → ⊥) (find-none (x ∷ [])) (find-hit x) (find-miss x) c.args.s.now _ first)

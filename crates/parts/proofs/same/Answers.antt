@@ -1,8 +1,6 @@
-use Rattle.parts.proofs.Laws.{same_short, same-begins}
+use mathlib.Core.Path.{◌∙◌}
+use Rattle.parts.proofs.Laws.{same-pointwise}
 use Rattle.parts.proofs.same.Goals as goal
 
-pub returns-then-a-z : goal.returns-then-a-z
-returns-then-a-z c = search same_short
-
 pub returns : goal.returns
-returns c = search same-begins
+returns c = c.eq.ensures ∙ same-pointwise c.args.a.now c.args.z.now

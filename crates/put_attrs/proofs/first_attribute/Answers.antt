@@ -6,8 +6,8 @@ use Rattle.put_attrs.proofs.first_attribute.Goals as goal
 pub loop-step-init : goal.loop-step-init
 loop-step-init c = record { on = λ m. refl }
 
-pub returns-in_default : goal.returns-in_default
-returns-in_default c = search first_is
+pub returns : goal.returns
+returns c = search first_is
 
 pub returns-then-kind-eq-ATTRIBUTE : goal.returns-then-kind-eq-ATTRIBUTE
 returns-then-kind-eq-ATTRIBUTE c = search first_is

@@ -1,8 +1,8 @@
 use Rattle.put_attrs.proofs.Listed.{category_missing, category-written}
 use Rattle.put_attrs.proofs.put_category.Goals as goal
 
-pub returns-in-Done : goal.returns-in-Done
-returns-in-Done c = search category_missing
+pub returns-in_default : goal.returns-in_default
+returns-in_default c = search category_missing
 
-pub returns-in-At : goal.returns-in-At
-returns-in-At c = search category-written
+pub returns-in-Some : goal.returns-in-Some
+returns-in-Some c = search category-written

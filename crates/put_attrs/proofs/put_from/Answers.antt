@@ -8,8 +8,8 @@ use Rattle.put_attrs.proofs.put_from.Goals as goal
 pub loop-step-init : goal.loop-step-init
 loop-step-init c = (ahead_all _, refl)
 
-pub returns-in_default : goal.returns-in_default
-returns-in_default c = search along_end
+pub returns : goal.returns
+returns c = search along_end
 
 pub returns-then-not-is_barred : goal.returns-then-not-is_barred
 returns-then-not-is_barred c = search along-hard

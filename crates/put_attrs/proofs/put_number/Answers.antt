@@ -5,14 +5,14 @@ use Rattle.put_attrs.proofs.Written.{ahead_all}
 use Rattle.put_attrs.proofs.Listed.{number_end, number-turn}
 use Rattle.put_attrs.proofs.put_number.Goals as goal
 
-pub loop-part-init : goal.loop-part-init
-loop-part-init c = (ahead_all _, refl)
+pub loop-p-init : goal.loop-p-init
+loop-p-init c = (ahead_all _, refl)
 
-pub returns-in-Done : goal.returns-in-Done
-returns-in-Done c = search number_end
+pub returns : goal.returns
+returns c = search number_end
 
-pub loop-part-smaller : goal.loop-part-smaller
-loop-part-smaller c = search number_less
+pub loop-p-smaller : goal.loop-p-smaller
+loop-p-smaller c = search number_less
 
-pub loop-part-preserved : goal.loop-part-preserved
-loop-part-preserved c = (search number-turn, omega arith)
+pub loop-p-preserved : goal.loop-p-preserved
+loop-p-preserved c = (search number-turn, omega arith)

@@ -5,14 +5,14 @@ use Rattle.put_attrs.proofs.Written.{ahead_all}
 use Rattle.put_attrs.proofs.Listed.{collected_end, collected-turn}
 use Rattle.put_attrs.proofs.put_pairs.Goals as goal
 
-pub loop-key-init : goal.loop-key-init
-loop-key-init c = (ahead_all _, refl)
+pub loop-a-init : goal.loop-a-init
+loop-a-init c = (ahead_all _, refl)
 
-pub returns-in-Done : goal.returns-in-Done
-returns-in-Done c = search collected_end
+pub returns : goal.returns
+returns c = search collected_end
 
-pub loop-key-smaller : goal.loop-key-smaller
-loop-key-smaller c = search next_less
+pub loop-a-smaller : goal.loop-a-smaller
+loop-a-smaller c = search next_less
 
-pub loop-key-preserved : goal.loop-key-preserved
-loop-key-preserved c = (search collected-turn, omega arith)
+pub loop-a-preserved : goal.loop-a-preserved
+loop-a-preserved c = (search collected-turn, omega arith)

@@ -1,8 +1,8 @@
 use Rattle.put_attrs.proofs.Listed.{sought_missing, sought_written}
 use Rattle.put_attrs.proofs.put_sought.Goals as goal
 
-pub returns-in-Nowhere : goal.returns-in-Nowhere
-returns-in-Nowhere c = search sought_missing
+pub returns-in_default : goal.returns-in_default
+returns-in_default c = search sought_missing
 
-pub returns-in-At : goal.returns-in-At
-returns-in-At c = search sought_written
+pub returns-in-Some : goal.returns-in-Some
+returns-in-Some c = search sought_written

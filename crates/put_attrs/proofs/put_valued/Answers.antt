@@ -1,8 +1,10 @@
+use borrow.Author.Rules.{rules}
+use native.Mathlib.Omega.{arith}
 use Rattle.put_attrs.proofs.Listed.{valued-none, valued-some}
 use Rattle.put_attrs.proofs.put_valued.Goals as goal
 
-pub returns-then-value-eq0 : goal.returns-then-value-eq0
-returns-then-value-eq0 c = search valued-none
+pub returns-then-not-is_empty : goal.returns-then-not-is_empty
+returns-then-not-is_empty c = search (valued-some, rules)
 
-pub returns : goal.returns
-returns c = search valued-some
+pub returns-else-not-is_empty : goal.returns-else-not-is_empty
+returns-else-not-is_empty c = search (valued-none, rules)

@@ -1,4 +1,3 @@
-use Prim.Native.Nat.{◌-◌}
 use native.Mathlib.Omega.{arith}
 use Rattle.put_body.proofs.Ends.{front_fits, front_less, core_turn, edge_turn, core_start, core_end}
 use Rattle.put_body.proofs.core_len.Goals as goal

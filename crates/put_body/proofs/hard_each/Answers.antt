@@ -1,23 +1,12 @@
-use Prim.Native.Nat.{◌-◌}
-use mathlib.Core.Path.{refl}
 use native.Mathlib.Omega.{arith}
 use Rattle.put_body.proofs.Easy.{each_turn, each_stop, each_end}
 use Rattle.put_body.proofs.hard_each.Goals as goal
 
-pub loop-i-init : goal.loop-i-init
-loop-i-init c = (omega arith, refl)
-
 pub returns-then-starts_hard : goal.returns-then-starts_hard
-returns-then-starts_hard c = search each_stop
-
-pub overflow_add-i : goal.overflow_add-i
-overflow_add-i c = omega arith
-
-pub loop-i-smaller : goal.loop-i-smaller
-loop-i-smaller c = omega arith
+returns-then-starts_hard c = each_stop c.args.s.now c.loop-i.i (omega arith) c.starts_hard.ensures c.if-starts_hard.true c.loop-i.invariant
 
 pub loop-i-preserved : goal.loop-i-preserved
-loop-i-preserved c = (omega arith, search each_turn)
+loop-i-preserved c = each_turn c.args.s.now c.loop-i.i (omega arith) c.starts_hard.ensures c.if-starts_hard.false c.loop-i.invariant
 
 pub returns : goal.returns
-returns c = search each_end
+returns c = each_end c.args.s.now c.loop-i.i (omega arith) c.loop-i.invariant

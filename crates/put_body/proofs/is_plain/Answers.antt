@@ -1,8 +1,8 @@
-use Rattle.put_body.proofs.Tests.{plain_above, plain-below}
+use Rattle.put_body.proofs.Tests.{plain_other, plain_tilde}
 use Rattle.put_body.proofs.is_plain.Goals as goal
 
-pub returns-then-x-gt32 : goal.returns-then-x-gt32
-returns-then-x-gt32 c = search plain_above
+pub returns-then-x-ne126 : goal.returns-then-x-ne126
+returns-then-x-ne126 c = search plain_other
 
-pub returns : goal.returns
-returns c = search plain-below
+pub returns-else-x-ne126 : goal.returns-else-x-ne126
+returns-else-x-ne126 c = search plain_tilde

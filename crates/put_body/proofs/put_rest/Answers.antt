@@ -1,26 +1,28 @@
-use Prim.Native.Nat.{◌-◌}
 use mathlib.Core.Path.{refl}
 use native.Mathlib.Omega.{arith}
-use Rattle.put_body.proofs.Turns.{run_ends, gap_ends, rest_less, rest-turn, rest_end}
+use Rattle.put_body.proofs.Rest.{shared-le}
+use Rattle.put_body.proofs.Tests.{none_left, some_left}
+use Rattle.put_body.proofs.Turns.{gap_within, rest_less, rest-turn, rest_end}
 use Rattle.put_body.proofs.put_rest.Goals as goal
 
-pub loop-at-init : goal.loop-at-init
-loop-at-init c = (refl, refl, omega arith)
+pub split_at-requires : goal.split_at-requires
+split_at-requires c = omega (arith, c.shared_len.ensures, shared-le c.loop-rest.rest.now)
 
-pub overflow_add-at : goal.overflow_add-at
-overflow_add-at c = omega (arith, run_ends _ _ c.loop-at-test.true c.from.ensures.bytes c.shared_len-n.ensures)
+pub slice_bounds-rest-count : goal.slice_bounds-rest-count
+slice_bounds-rest-count c = gap_within _ c.first_gap-gap.ensures
 
-pub overflow_add-at-in-loop-at : goal.overflow_add-at-in-loop-at
-overflow_add-at-in-loop-at c = omega (arith, c.loop-at.invariant.2, gap_ends _ _ c.loop-at-test.true c.from.ensures.bytes c.shared_len-n.ensures c.from-in-loop-at.ensures.bytes c.first_gap-g.ensures)
+pub slice_bounds-rest-start : goal.slice_bounds-rest-start
+slice_bounds-rest-start c = gap_within _ c.first_gap-gap.ensures
 
-pub overflow_add-at-in-loop-at-2 : goal.overflow_add-at-in-loop-at-2
-overflow_add-at-in-loop-at-2 c = omega (arith, c.loop-at.invariant.2, gap_ends _ _ c.loop-at-test.true c.from.ensures.bytes c.shared_len-n.ensures c.from-in-loop-at.ensures.bytes c.first_gap-g.ensures)
+pub loop-rest-smaller : goal.loop-rest-smaller
+loop-rest-smaller c =
+    let at = c.split_at.ensures in
+    rest_less _ c.shared_len.ensures at.front at.back c.first_gap-gap.ensures refl (some_left c.is_empty.ensures c.loop-rest-test.true)
 
-pub loop-at-smaller : goal.loop-at-smaller
-loop-at-smaller c = rest_less _ _ c.loop-at-test.true c.from.ensures.bytes c.shared_len-n.ensures c.from-in-loop-at.ensures.bytes c.first_gap-g.ensures
-
-pub loop-at-preserved : goal.loop-at-preserved
-loop-at-preserved c = (rest-turn _ _ c.loop-at-test.true c.from.ensures.bytes c.shared_len-n.ensures c.from-in-loop-at.ensures.bytes c.first_gap-g.ensures _ _ c.part.ensures.bytes c.escape_xml-v.ensures c.put_mark-v.ensures c.loop-at.invariant.0, omega arith, c.loop-at.invariant.2)
+pub loop-rest-preserved : goal.loop-rest-preserved
+loop-rest-preserved c =
+    let at = c.split_at.ensures in
+    rest-turn _ c.shared_len.ensures at.front at.back c.first_gap-gap.ensures refl _ _ c.escape_xml.ensures c.put_mark.ensures c.loop-rest.invariant
 
 pub returns : goal.returns
-returns c = search rest_end
+returns c = rest_end _ (none_left c.is_empty.ensures c.loop-rest-test.false) c.loop-rest.invariant

@@ -1,14 +1,13 @@
-use Prim.Native.Nat.{◌-◌, ◌<◌, ◌^◌}
 use mathlib.Core.Bool.{false}
 use mathlib.Core.Path.{◌≡◌}
-use lib.ListN.{length, drop}
+use lib.ListN.{length}
 use Rattle.window.specs.Page.{paint, page_of}
 use Rattle.chars.specs.Escape.{escape}
 use Rattle.put_body.specs.Body.{rest_of}
 use Rattle.put_body.proofs.put_rest.Given as goal
 
-abbrev pub invariant-loop-at : goal.invariant-loop-at
-invariant-loop-at l = (paint (page_of l.v l.out) (escape false (rest_of (drop l.at l.s))) ≡ paint (page_of l.initial.v l.initial.out) (escape false (rest_of l.s))) × (length l.out ≡ length l.initial.out) × (length l.s < 2 ^ 64)
+abbrev pub invariant-loop-rest : goal.invariant-loop-rest
+invariant-loop-rest l = paint (page_of l.w l.out) (escape false (rest_of l.rest)) ≡ paint (page_of l.initial.w l.initial.out) (escape false (rest_of l.s))
 
-abbrev pub decreases-loop-at : goal.decreases-loop-at
-decreases-loop-at l = length l.s - l.at
+abbrev pub decreases-loop-rest : goal.decreases-loop-rest
+decreases-loop-rest l = length l.rest

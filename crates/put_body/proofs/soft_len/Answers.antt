@@ -1,10 +1,6 @@
-use Prim.Native.Nat.{◌-◌}
 use native.Mathlib.Omega.{arith}
 use Rattle.put_body.proofs.Ends.{front_fits, front_less, soft-turn, soft_stop, soft_end}
 use Rattle.put_body.proofs.soft_len.Goals as goal
-
-pub loop-at-init : goal.loop-at-init
-loop-at-init c = omega arith
 
 pub returns-then-not-c : goal.returns-then-not-c
 returns-then-not-c c = search soft_stop

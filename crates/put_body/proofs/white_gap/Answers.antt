@@ -4,5 +4,5 @@ use Rattle.put_body.proofs.white_gap.Goals as goal
 pub returns-then-len-s : goal.returns-then-len-s
 returns-then-len-s c = search white-ends
 
-pub returns : goal.returns
-returns c = search white_goes
+pub returns-else-len-s : goal.returns-else-len-s
+returns-else-len-s c = search white_goes

@@ -12,7 +12,7 @@ pub loop-place-smaller : goal.loop-place-smaller
 loop-place-smaller c = omega arith
 
 pub loop-place-preserved : goal.loop-place-preserved
-loop-place-preserved c = (λ source. c.next_segment-p.ensures.place_after source ∙ c.loop-place.invariant.0 source, search rules)
+loop-place-preserved c = (λ source. c.next_segment-place.ensures.place_after source ∙ c.loop-place.invariant.0 source, search rules)
 
 pub returns : goal.returns
-returns c = λ source. segments_end _ _ _ c.find_pair-place.ensures c.part.ensures.bytes (c.put_segment-v.ensures source) _ (c.loop-place.invariant.0 source) c.loop-place-test.false
+returns c = λ source. segments_end _ _ _ c.find_pair-place.ensures c.part.ensures.bytes (c.put_segment.ensures source) _ (c.loop-place.invariant.0 source) c.loop-place-test.false

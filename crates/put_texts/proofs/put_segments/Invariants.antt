@@ -8,7 +8,7 @@ use Rattle.put_texts.specs.Broken.{breaks_from}
 use Rattle.put_texts.proofs.put_segments.Given as goal
 
 abbrev pub invariant-loop-place : goal.invariant-loop-place
-invariant-loop-place l = ((source : Bytes) → emit_all (desk_of source l.v l.desk l.out) (breaks_from l.s l.place) ≡ emit_all (desk_of source l.initial.v l.initial.desk l.initial.out) (breaks_from l.s l.initial.place)) × (length l.out ≡ length l.initial.out)
+invariant-loop-place l = ((source : Bytes) → emit_all (desk_of source l.desk l.out) (breaks_from l.s l.place) ≡ emit_all (desk_of source l.initial.desk l.initial.out) (breaks_from l.s l.initial.place)) × (length l.out ≡ length l.initial.out)
 
 abbrev pub decreases-loop-place : goal.decreases-loop-place
 decreases-loop-place l = length l.s - l.place

@@ -1,43 +1,23 @@
+use mathlib.Core.Path.{◌≡◌, refl, sym, ap, ◌∙◌}
+use denote.Enum.Bare.{sameb}
+use Rattle.roles.specs.contracts.Role.{the_type}
+use Rattle.roles.specs.declared.Role.{Role}
+use Rattle.roles.specs.declared.Role.TheVariants.{UnknownBlock, UnknownInline, Unwritten, Figure, Ref, Id, Note, Ms, Char, Para}
 use Rattle.roles.specs.Roles.{role_in, manner_of, manner_by}
-use borrow.Author.Rules.{rules}
 use Rattle.roles.proofs.is_note.Goals as goal
 
-pub returns-in-UnknownBlock : goal.returns-in-UnknownBlock
+note_manner : (r : Role) → manner_of (role_in r) ≡ manner_by (sameb the_type r Note)
 unfolding role_in manner_of manner_by
-returns-in-UnknownBlock c = search rules
+note_manner UnknownBlock = refl
+note_manner UnknownInline = refl
+note_manner Unwritten = refl
+note_manner Figure = refl
+note_manner Ref = refl
+note_manner Id = refl
+note_manner Note = refl
+note_manner Ms = refl
+note_manner Char = refl
+note_manner Para = refl
 
-pub returns-in-UnknownInline : goal.returns-in-UnknownInline
-unfolding role_in manner_of manner_by
-returns-in-UnknownInline c = search rules
-
-pub returns-in-Unwritten : goal.returns-in-Unwritten
-unfolding role_in manner_of manner_by
-returns-in-Unwritten c = search rules
-
-pub returns-in-Figure : goal.returns-in-Figure
-unfolding role_in manner_of manner_by
-returns-in-Figure c = search rules
-
-pub returns-in-Ref : goal.returns-in-Ref
-unfolding role_in manner_of manner_by
-returns-in-Ref c = search rules
-
-pub returns-in-Id : goal.returns-in-Id
-unfolding role_in manner_of manner_by
-returns-in-Id c = search rules
-
-pub returns-in-Note : goal.returns-in-Note
-unfolding role_in manner_of manner_by
-returns-in-Note c = search rules
-
-pub returns-in-Ms : goal.returns-in-Ms
-unfolding role_in manner_of manner_by
-returns-in-Ms c = search rules
-
-pub returns-in-Char : goal.returns-in-Char
-unfolding role_in manner_of manner_by
-returns-in-Char c = search rules
-
-pub returns-in-Para : goal.returns-in-Para
-unfolding role_in manner_of manner_by
-returns-in-Para c = search rules
+pub returns : goal.returns
+returns c = note_manner c.args.role ∙ ap manner_by (sym c.eq.ensures)

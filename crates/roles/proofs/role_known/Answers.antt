@@ -13,5 +13,5 @@ returns-then-is_ref_name c = search known_ref
 pub returns-then-e-eq-CHARACTER : goal.returns-then-e-eq-CHARACTER
 returns-then-e-eq-CHARACTER c = search known_char
 
-pub returns : goal.returns
-returns c = search known_other
+pub returns-else-e-eq-CHARACTER : goal.returns-else-e-eq-CHARACTER
+returns-else-e-eq-CHARACTER c = search known_other

@@ -7,8 +7,8 @@ use Rattle.tables.proofs.cells_along.Goals as goal
 pub loop-step-init : goal.loop-step-init
 loop-step-init c = (refl, refl)
 
-pub returns-in-Done : goal.returns-in-Done
-returns-in-Done c = search cells_end
+pub returns : goal.returns
+returns c = search cells_end
 
 pub loop-step-smaller-then-is_cell : goal.loop-step-smaller-then-is_cell
 loop-step-smaller-then-is_cell c = search left-turn

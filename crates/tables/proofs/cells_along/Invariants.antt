@@ -1,13 +1,13 @@
 use mathlib.Core.Path.{◌≡◌}
 use lib.ListN.{length}
-use Rattle.tape.specs.File.{tape_in}
+use Rattle.tape.specs.File.{contents}
 use Rattle.tape.specs.Tree.{left}
 use Rattle.desk.specs.Desk.{desk_of}
 use Rattle.tables.proofs.Parts.{cells_on}
 use Rattle.tables.proofs.cells_along.Given as goal
 
 abbrev pub invariant-loop-step : goal.invariant-loop-step
-invariant-loop-step l = (cells_on (tape_in l.tape l.file) l.depth l.level (desk_of (tape_in l.tape l.file).source l.s l.desk l.out) l.step ≡ cells_on (tape_in l.tape l.file) l.depth l.level (desk_of (tape_in l.tape l.file).source l.initial.s l.initial.desk l.initial.out) l.initial.step) × (length l.out ≡ length l.initial.out)
+invariant-loop-step l = (cells_on (contents l.book.tape) l.depth l.level (desk_of (contents l.book.tape).source l.desk l.out) l.step ≡ cells_on (contents l.book.tape) l.depth l.level (desk_of (contents l.book.tape).source l.initial.desk l.initial.out) l.initial.step) × (length l.out ≡ length l.initial.out)
 
 abbrev pub decreases-loop-step : goal.decreases-loop-step
-decreases-loop-step l = left (tape_in l.tape l.file) l.step
+decreases-loop-step l = left (contents l.book.tape) l.step

@@ -7,8 +7,8 @@ use Rattle.tables.proofs.rows.Goals as goal
 pub loop-step-init : goal.loop-step-init
 loop-step-init c = (refl, refl)
 
-pub returns-in-Done : goal.returns-in-Done
-returns-in-Done c = search rows_end
+pub returns : goal.returns
+returns c = search rows_end
 
 pub returns-in-End : goal.returns-in-End
 returns-in-End c = search rows_cut
@@ -25,5 +25,5 @@ loop-step-smaller c = search left-turn
 pub loop-step-preserved : goal.loop-step-preserved
 loop-step-preserved c = (search rows-turn, search rules)
 
-pub returns-else-is_row : goal.returns-else-is_row
-returns-else-is_row c = search rows_stop
+pub returns-then-not-is_row : goal.returns-then-not-is_row
+returns-then-not-is_row c = search rows_stop

@@ -1,6 +1,6 @@
 use mathlib.Core.Path.{◌≡◌}
 use lib.ListN.{length}
-use Rattle.tape.specs.File.{tape_in}
+use Rattle.tape.specs.File.{contents}
 use Rattle.tape.specs.Tree.{left}
 use Rattle.desk.specs.Desk.{desk_of}
 use Rattle.tables.specs.Rows.{depth_at}
@@ -8,7 +8,7 @@ use Rattle.tables.proofs.Parts.{rows_on}
 use Rattle.tables.proofs.rows.Given as goal
 
 abbrev pub invariant-loop-step : goal.invariant-loop-step
-invariant-loop-step l = (rows_on (tape_in l.tape l.file) l.span (depth_at l.level) l.level (desk_of (tape_in l.tape l.file).source l.s l.desk l.out) l.step ≡ rows_on (tape_in l.tape l.file) l.span (depth_at l.level) l.level (desk_of (tape_in l.tape l.file).source l.initial.s l.initial.desk l.initial.out) l.initial.step) × (length l.out ≡ length l.initial.out)
+invariant-loop-step l = (rows_on (contents l.book.tape) l.span (depth_at l.level) l.level (desk_of (contents l.book.tape).source l.desk l.out) l.step ≡ rows_on (contents l.book.tape) l.span (depth_at l.level) l.level (desk_of (contents l.book.tape).source l.initial.desk l.initial.out) l.initial.step) × (length l.out ≡ length l.initial.out)
 
 abbrev pub decreases-loop-step : goal.decreases-loop-step
-decreases-loop-step l = left (tape_in l.tape l.file) l.step
+decreases-loop-step l = left (contents l.book.tape) l.step

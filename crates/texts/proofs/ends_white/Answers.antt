@@ -1,8 +1,17 @@
+use native.Mathlib.Omega.{arith}
+use Prim.Native.Nat.{◌-◌}
+use mathlib.Core.Path.{sym, ap, ◌∙◌}
+use lib.ListN.{length}
+use borrow.Author.Tests.{ltb-false}
+use Rattle.std.proofs.lemmas.Option.{get_or_from_slice_get}
+use Rattle.chars.specs.Space.{is_ascii_white}
 use Rattle.texts.proofs.Texts.{ends-none, ends_some}
 use Rattle.texts.proofs.ends_white.Goals as goal
 
-pub returns-then-n-eq0 : goal.returns-then-n-eq0
-returns-then-n-eq0 c = search ends-none
+pub returns-in-Some : goal.returns-in-Some
+returns-in-Some c =
+    let s = c.args.s.now in
+    ends_some s (c.is_ascii_white.ensures ∙ ap is_ascii_white (sym (get_or_from_slice_get s (length s - 1) _ 0 (sym c.in-Some.ensures.value))))
 
-pub returns : goal.returns
-returns c = search ends_some
+pub returns-in-None : goal.returns-in-None
+returns-in-None c = ends-none c.args.s.now (omega (arith, ltb-false _ _ (sym c.in-None.ensures.item.0)))

@@ -1,23 +1,7 @@
-use Prim.Native.Nat.{◌-◌}
-use mathlib.Core.Path.{refl}
-use native.Mathlib.Omega.{arith}
-use Rattle.window.proofs.Escape.{any-turn, any_end}
+use Rattle.std.proofs.Common.{rules, tests, sym, ◌∙◌}
+use Rattle.chars.specs.Escape.{special}
+use Rattle.window.proofs.Escape.{any-special}
 use Rattle.window.proofs.any_special.Goals as goal
 
-pub loop-i-init : goal.loop-i-init
-loop-i-init c = (omega arith, refl)
-
-pub bounds-s-i : goal.bounds-s-i
-bounds-s-i c = omega arith
-
-pub overflow_add-i : goal.overflow_add-i
-overflow_add-i c = omega arith
-
-pub loop-i-smaller : goal.loop-i-smaller
-loop-i-smaller c = omega arith
-
-pub loop-i-preserved : goal.loop-i-preserved
-loop-i-preserved c = (omega arith, search any-turn)
-
 pub returns : goal.returns
-returns c = search any_end
+returns c = c.any_byte.ensures (special c.args.attr) (λ x r k. search (rules, tests)) ∙ sym (any-special c.args.attr c.args.s.now)

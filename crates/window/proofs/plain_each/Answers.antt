@@ -1,25 +1,14 @@
-use Prim.Native.Nat.{◌-◌}
-use native.Mathlib.Omega.{arith}
-use Rattle.window.proofs.Escape.{plain_start, plain_turn, plain_here, plain_end}
+use Rattle.std.proofs.Common.{rules, tests}
+use mathlib.Core.Path.{◌≡◌, sym, ◌∙◌}
+use mathlib.Core.Bool.{true, false}
+use Rattle.std.proofs.lemmas.Iterator.{YieldsList-from_slice, IsFirst-from_position, index_from_first}
+use Rattle.chars.specs.Escape.{special}
+use Rattle.window.specs.Plain.{plain_len}
+use Rattle.window.proofs.Escape.{plain-none, plain-hit, plain-miss}
 use Rattle.window.proofs.plain_each.Goals as goal
 
-pub loop-i-init : goal.loop-i-init
-loop-i-init c = search plain_start
-
-pub bounds-s-i : goal.bounds-s-i
-bounds-s-i c = omega arith
-
-pub returns-then-is_named : goal.returns-then-is_named
-returns-then-is_named c = search plain_here
-
-pub overflow_add-i : goal.overflow_add-i
-overflow_add-i c = omega arith
-
-pub loop-i-smaller : goal.loop-i-smaller
-loop-i-smaller c = omega arith
-
-pub loop-i-preserved : goal.loop-i-preserved
-loop-i-preserved c = search plain_turn
-
 pub returns : goal.returns
-returns c = search plain_end
+returns c =
+    let attr = c.args.attr in
+    let first = IsFirst-from_position _ _ _ (λ y. special attr y ≡ true) (λ y. special attr y ≡ false) c.position.ensures.ran (YieldsList-from_slice c.args.s.now cc) (λ y q k. search (rules, tests)) (λ y q k. search (rules, tests)) in
+    c.unwrap_or.ensures ∙ sym (index_from_first (plain_len attr) (λ y. special attr y ≡ true) (λ y. special attr y ≡ false) (plain-none attr) (plain-hit attr) (plain-miss attr) c.args.s.now _ first)

@@ -1,9 +1,6 @@
 use native.Mathlib.Omega.{arith}
-use Rattle.window.proofs.Escape.{plain_on, plain_fits}
+use Rattle.window.proofs.Escape.{plain_fits}
 use Rattle.window.proofs.plain_long.Goals as goal
 
 pub overflow_add-result : goal.overflow_add-result
 overflow_add-result c = omega (arith, plain_fits c.plain_blocks-i.ensures c.plain_each.ensures)
-
-pub returns : goal.returns
-returns c = plain_on c.plain_blocks-i.ensures c.plain_each.ensures

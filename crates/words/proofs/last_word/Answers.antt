@@ -1,4 +1,3 @@
-use Prim.Native.Nat.{◌-◌}
 use native.Mathlib.Omega.{arith}
 use Rattle.words.proofs.Answers.{last_starts, next-ends, last_turn, last_less, last_found}
 use Rattle.words.proofs.last_word.Goals as goal

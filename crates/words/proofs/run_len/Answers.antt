@@ -1,4 +1,3 @@
-use Prim.Native.Nat.{◌-◌}
 use mathlib.Core.Path.{refl}
 use native.Mathlib.Omega.{arith}
 use Rattle.words.proofs.Turns.{front_fits, front_less, run-turn, run_stop, run_end, seen-turn, seen_stop}

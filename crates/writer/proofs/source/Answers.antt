@@ -1,8 +1,8 @@
 use Rattle.writer.proofs.StepRule.{piece-limited, piece-more, piece-room, piece_kept, piece_done}
 use Rattle.writer.proofs.source.Goals as goal
 
-pub returns-then-number-ne0 : goal.returns-then-number-ne0
-returns-then-number-ne0 c = search piece_kept
+pub returns-then-number-ne-DONE : goal.returns-then-number-ne-DONE
+returns-then-number-ne-DONE c = search piece_kept
 
 pub size-requires : goal.size-requires
 size-requires c = search piece-limited
@@ -12,7 +12,7 @@ with_source-writer-requires c = search piece-more
 
 pub flow-requires : goal.flow-requires
 flow-requires c =
-    let all = piece-room c.args.w c.args.buf.now _ c.piece_number-number.ensures c.at_most-more.ensures c.if-number-ne0.false in
+    let all = piece-room c.args.w c.args.buf.now _ c.piece_number-number.ensures c.min-more.ensures c.if-number-ne-DONE.false in
     record { fits = all.0; piece_in_bounds = all.1 }
 
 pub returns : goal.returns

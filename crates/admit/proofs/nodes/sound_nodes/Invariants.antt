@@ -1,10 +1,7 @@
-use Prim.Native.Nat.{ℕ, ◌-◌, ◌<◌}
-use Rattle.tape.specs.File.{tape_in}
+use Prim.Native.Nat.{ℕ, ◌<◌}
+use Rattle.tape.specs.File.{contents}
 use Rattle.admit.specs.Pieces.{SoundNode}
 use Rattle.admit.proofs.nodes.sound_nodes.Given as goal
 
 abbrev pub invariant-loop-k : goal.invariant-loop-k
-invariant-loop-k l = (i : ℕ) → i < l.k → SoundNode (tape_in l.t l.file) i
-
-abbrev pub decreases-loop-k : goal.decreases-loop-k
-decreases-loop-k l = l.n - l.k
+invariant-loop-k l = (i : ℕ) → i < l.k → SoundNode (contents l.t) i

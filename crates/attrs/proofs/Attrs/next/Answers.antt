@@ -1,11 +1,8 @@
-use Rattle.attrs.proofs.Walks.{next-empty, next-along, next-found}
+use Rattle.attrs.proofs.Walks.{next-along, next-found}
 use Rattle.attrs.proofs.Attrs.next.Goals as goal
 
-pub returns-then-part-eq0 : goal.returns-then-part-eq0
-returns-then-part-eq0 c = search next-empty
+pub returns-in-Some : goal.returns-in-Some
+returns-in-Some c = search next-found
 
-pub returns-in-Nothing : goal.returns-in-Nothing
-returns-in-Nothing c = search next-along
-
-pub returns-in-Pair : goal.returns-in-Pair
-returns-in-Pair c = search next-found
+pub returns-in-None : goal.returns-in-None
+returns-in-None c = search next-along

@@ -1,29 +1,26 @@
-use Rattle.attrs.proofs.Scan.{no_pair, pair_found}
+use Prim.Native.Nat.{◌+◌}
+use native.Mathlib.Omega.{arith}
+use lib.ListN.{drop}
+use borrow.Author.Tests.{tests}
+use Rattle.std.proofs.Common.{rules}
+use Rattle.std.proofs.lemmas.Iterator.{YieldsList-from_slice}
+use Rattle.std.proofs.lemmas.Iterator.Consumers.{count_from_yields_List}
+use Rattle.std.proofs.lemmas.Iterator.Search.{YieldsList-from_take_while}
+use Rattle.attrs.specs.Barred.{in_key, in_value, RunTo}
+use Rattle.attrs.proofs.Scan.{rest_is, run_counted, pair_found}
 use Rattle.attrs.proofs.barred.is_barred.Goals as goal
 
-pub returns-then-n-lt5 : goal.returns-then-n-lt5
-returns-then-n-lt5 c = search no_pair
-
-pub returns-then-s-ne124 : goal.returns-then-s-ne124
-returns-then-s-ne124 c = search no_pair
-
-pub returns-then-i-eq1 : goal.returns-then-i-eq1
-returns-then-i-eq1 c = search no_pair
-
-pub returns-then-n-i-lt3 : goal.returns-then-n-i-lt3
-returns-then-n-i-lt3 c = search no_pair
-
-pub returns-then-s-i-ne61 : goal.returns-then-s-i-ne61
-returns-then-s-i-ne61 c = search no_pair
-
-pub returns-then-s-i-ne34 : goal.returns-then-s-i-ne34
-returns-then-s-i-ne34 c = search no_pair
-
-pub returns-then-n-j-ne1 : goal.returns-then-n-j-ne1
-returns-then-n-j-ne1 c = search no_pair
-
-pub returns : goal.returns
-returns c =
-    pair_found c.args.s.now c.if-s-ne124.false c.key_end-i.ensures
-    c.if-i-eq1.false c.if-n-i-lt3.false c.if-s-i-ne61.false c.if-s-i-ne34.false
-    c.value_end-j.ensures c.if-n-j-ne1.false
+pub returns-then-j-s : goal.returns-then-j-s
+returns-then-j-s c =
+    let s = c.args.s.now in
+    let key_rest = rest_is s 1 in
+    let value_rest = rest_is s (1 + c.count-i.result + 2) in
+    let key : RunTo in_key s 1 (1 + c.count-i.result) =
+    run_counted in_key s 1
+    (count_from_yields_List _ _ c.count-i.ensures.ran
+    (YieldsList-from_take_while _ in_key (YieldsList-from_slice (drop 1 s) cc) c.take_while.ensures.closure c.take_while.ensures.done (λ x b q k. search (rules, tests)))) in
+    let value : RunTo in_value s (1 + c.count-i.result + 2) (1 + c.count-i.result + 2 + c.count.result) =
+    run_counted in_value s (1 + c.count-i.result + 2)
+    (count_from_yields_List _ _ c.count.ensures.ran
+    (YieldsList-from_take_while _ in_value (YieldsList-from_slice (drop (1 + c.count-i.result + 2) s) cc) c.take_while-2.ensures.closure c.take_while-2.ensures.done (λ x b q k. search (rules, tests)))) in
+    pair_found s c.if-s-ne124.false key c.if-i-eq1.false c.if-s-i-lt3.false c.if-s-i-ne61.false c.if-s-i-ne34.false value (omega arith)

@@ -1,20 +1,8 @@
-use mathlib.Core.Path.{refl}
-use native.Mathlib.Omega.{arith}
-use borrow.Author.Rules.{rules}
-use Rattle.desk.proofs.Shown.{indent-turn, indent_end}
+use Rattle.desk.proofs.Shown.{indent-turn, indent_start}
 use Rattle.desk.proofs.plain.put_indent.Goals as goal
 
-pub loop-left-init : goal.loop-left-init
-loop-left-init c = (refl, refl)
+pub loop-init : goal.loop-init
+loop-init c = indent_start _
 
-pub overflow_sub-left : goal.overflow_sub-left
-overflow_sub-left c = omega arith
-
-pub loop-left-smaller : goal.loop-left-smaller
-loop-left-smaller c = omega arith
-
-pub loop-left-preserved : goal.loop-left-preserved
-loop-left-preserved c = (search indent-turn, search rules)
-
-pub returns : goal.returns
-returns c = search indent_end
+pub loop-preserved : goal.loop-preserved
+loop-preserved c = indent-turn _ _ c.loop.invariant c.put_run.ensures

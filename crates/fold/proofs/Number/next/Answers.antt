@@ -10,11 +10,11 @@ loop-part-init c = refl
 pub returns-in-Word : goal.returns-in-Word
 returns-in-Word c = record { self_value = search number-piece; piece_some = search piece-some }
 
-pub returns-in_default : goal.returns-in_default
-returns-in_default c = record { self_value = search number_done; piece_some = omega arith }
+pub returns-in_err-c-in-White : goal.returns-in_err-c-in-White
+returns-in_err-c-in-White c = record { self_value = rw c.from_residual.ensures (search (number_done, c.in_err-c-in-White.was)); piece_some = rw c.from_residual.ensures (omega arith) }
 
 pub loop-part-smaller : goal.loop-part-smaller
-loop-part-smaller c = search left-turn
+loop-part-smaller c = search (left-turn, c.in_ok-c-in-White.was)
 
 pub loop-part-preserved : goal.loop-part-preserved
-loop-part-preserved c = search number_on
+loop-part-preserved c = search (number_on, c.in_ok-c-in-White.was)

@@ -8,5 +8,5 @@ returns-then-kind-eq-TEXT c = search bare-text
 pub returns-else-kind-eq-TEXT : goal.returns-else-kind-eq-TEXT
 returns-else-kind-eq-TEXT c = search bare-not
 
-pub returns-in-Done : goal.returns-in-Done
-returns-in-Done c = λ _. search bare-empty
+pub returns-in-None : goal.returns-in-None
+returns-in-None c = λ _. search bare-empty

@@ -3,17 +3,17 @@ use Rattle.tape.proofs.Walk.{left-turn}
 use Rattle.render.proofs.Finds.{find_end, find_hit, find-turn}
 use Rattle.render.proofs.children.find.Goals as goal
 
-pub loop-s-init : goal.loop-s-init
-loop-s-init c = refl
+pub loop-step-init : goal.loop-step-init
+loop-step-init g c = refl
 
 pub returns-then-passes : goal.returns-then-passes
-returns-then-passes c = search find_hit
+returns-then-passes g c = search (find_hit, c.requires.1.1)
 
-pub loop-s-smaller : goal.loop-s-smaller
-loop-s-smaller c = search left-turn
+pub loop-step-smaller : goal.loop-step-smaller
+loop-step-smaller g c = search left-turn
 
-pub loop-s-preserved : goal.loop-s-preserved
-loop-s-preserved c = search find-turn
+pub loop-step-preserved : goal.loop-step-preserved
+loop-step-preserved g c = search (find-turn, c.requires.1.1)
 
-pub returns-in-Done : goal.returns-in-Done
-returns-in-Done c = search find_end
+pub returns : goal.returns
+returns g c = search find_end

@@ -1,11 +1,20 @@
-use Rattle.render.proofs.Follows.{solid_clear, solid_far, solid-none}
+use mathlib.Core.Path.{◌≡◌}
+use Rattle.tape.specs.File.{contents}
+use Rattle.tape.specs.Tree.{next_sibling}
+use Rattle.render.proofs.follow.next_solid.Goals.{in_default-via-in-Some+else-is_clear, in_default-via-in_default}
+use Rattle.std.proofs.Common.{rules, of_calls}
+use Rattle.render.proofs.Finds.{lives}
+use Rattle.render.proofs.Follows.{solid_clear, solid-found}
 use Rattle.render.proofs.follow.next_solid.Goals as goal
 
-pub returns-then-is_clear : goal.returns-then-is_clear
-returns-then-is_clear c = search solid_clear
+pub returns-in-Some : goal.returns-in-Some
+returns-in-Some c = search solid_clear
 
-pub returns-in-Done : goal.returns-in-Done
-returns-in-Done c = search solid-none
+pub returns-in_default : goal.returns-in_default
+returns-in_default c =
+    let next : c.in_default.next ≡ next_sibling (contents c.args.book.now.tape) c.args.c.at =
+    elim c.in_default.branch [ in_default-via-in-Some+else-is_clear w ↦ cc | in_default-via-in_default w ↦ cc ] in
+    solid-found _ _ next c.find.ensures
 
-pub returns-else-is_clear : goal.returns-else-is_clear
-returns-else-is_clear c = search solid_far
+pub find-requires : goal.find-requires
+find-requires c κs within = (lives _ _ _ within.0 within.1.0, (search (rules, of_calls), λ x r q. search rules))

@@ -1,8 +1,8 @@
 use Rattle.render.proofs.Notes.{category-none, category-some}
 use Rattle.render.proofs.note.category_text.Goals as goal
 
-pub returns-in-At : goal.returns-in-At
-returns-in-At c = search category-some
+pub returns-in_err-d : goal.returns-in_err-d
+returns-in_err-d c = rw c.from_residual.ensures (search (category-none, c.in_err-d.was))
 
-pub returns-in-Done : goal.returns-in-Done
-returns-in-Done c = search category-none
+pub returns : goal.returns
+returns c = search (category-some, c.in_ok-d.was)

@@ -1,11 +1,13 @@
 use Rattle.render.proofs.Notes.{lead-none, lead-other, lead-text}
+use Rattle.render.proofs.note.lead_text.Goals.{in_default-via-in-Some+else-kind-eq-TEXT, in_default-via-in_default}
 use Rattle.render.proofs.note.lead_text.Goals as goal
 
-pub returns-then-kind-ne-TEXT : goal.returns-then-kind-ne-TEXT
-returns-then-kind-ne-TEXT c = search lead-other
+pub returns-in-Some : goal.returns-in-Some
+returns-in-Some c = search lead-text
 
-pub returns-else-kind-ne-TEXT : goal.returns-else-kind-ne-TEXT
-returns-else-kind-ne-TEXT c = search lead-text
-
-pub returns-in-Done : goal.returns-in-Done
-returns-in-Done c = search lead-none
+pub returns-in_default : goal.returns-in_default
+returns-in_default c =
+    elim c.in_default.branch [
+      | in_default-via-in-Some+else-kind-eq-TEXT w ↦ search (lead-other, w)
+      | in_default-via-in_default w ↦ search (lead-none, w)
+    ]

@@ -1,8 +1,8 @@
 use Rattle.render.proofs.Notes.{text-none, text-some}
 use Rattle.render.proofs.note.text_of.Goals as goal
 
-pub returns-in-At : goal.returns-in-At
-returns-in-At c = search text-some
+pub returns-in-Some : goal.returns-in-Some
+returns-in-Some c = search text-some
 
-pub returns-in-Done : goal.returns-in-Done
-returns-in-Done c = search text-none
+pub returns-in-None : goal.returns-in-None
+returns-in-None c = search text-none

@@ -1,8 +1,8 @@
 use Rattle.tape.proofs.Laws.{element_known, element-unknown}
 use Rattle.tape.proofs.Cursor.element.Goals as goal
 
-pub returns-in-Known : goal.returns-in-Known
-returns-in-Known c = search element_known
+pub returns-in-Some : goal.returns-in-Some
+returns-in-Some c = search element_known
 
-pub returns-in-Unknown : goal.returns-in-Unknown
-returns-in-Unknown c = search element-unknown
+pub returns-in-None : goal.returns-in-None
+returns-in-None c = search element-unknown

@@ -1,7 +1,7 @@
 use Rattle.std.proofs.Common.{length}
-use Rattle.tape.specs.File.{tape_in}
+use Rattle.tape.specs.File.{contents}
 use Rattle.fold.specs.Number.{to_come}
 use Rattle.test_render_dump.proofs.anchors.pieces.Given as goal
 
-abbrev pub decreases-loop-part : goal.decreases-loop-part
-decreases-loop-part g l = length (to_come (tape_in l.t l.file) l.left)
+abbrev pub decreases-loop-piece : goal.decreases-loop-piece
+decreases-loop-piece g l = length (to_come (contents l.tape) l.left)

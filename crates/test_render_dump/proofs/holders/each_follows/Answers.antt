@@ -1,5 +1,5 @@
 use Rattle.tape.proofs.Walk.{left-turn}
 use Rattle.test_render_dump.proofs.holders.each_follows.Goals as goal
 
-pub loop-step-smaller : goal.loop-step-smaller
-loop-step-smaller g c = search left-turn
+pub loop-next-smaller : goal.loop-next-smaller
+loop-next-smaller g c = search left-turn

@@ -1,7 +1,7 @@
 use Rattle.std.proofs.Common.{length}
-use Rattle.tape.specs.File.{tape_in}
+use Rattle.tape.specs.File.{contents}
 use Rattle.attrs.specs.Walk.{remaining}
 use Rattle.test_render_dump.proofs.pairs.all.Given as goal
 
-abbrev pub decreases-loop-key : goal.decreases-loop-key
-decreases-loop-key g l = length (remaining (tape_in l.t l.file) l.marker l.left)
+abbrev pub decreases-loop-attribute : goal.decreases-loop-attribute
+decreases-loop-attribute g l = length (remaining (contents l.tape) l.marker l.left)

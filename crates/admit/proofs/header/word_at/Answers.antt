@@ -1,5 +1,0 @@
-use Rattle.admit.proofs.HeaderRule.{word_made}
-use Rattle.admit.proofs.header.word_at.Goals as goal
-
-pub returns : goal.returns
-returns c = search word_made

@@ -1,5 +1,0 @@
-use Rattle.bench_words.proofs.Laws.{length_of}
-use Rattle.bench_words.proofs.bench_last_word.Goals as goal
-
-pub returns : goal.returns
-returns c = search length_of

@@ -1,0 +1,9 @@
+use mathlib.Core.Path.{refl}
+use Rattle.tags.specs.Names.{name_of}
+use Rattle.desk.specs.Stroke.{ink, ink_all}
+use Rattle.desk.proofs.Strokes.{drew_run}
+use Rattle.desk.proofs.Desk.close_char.Goals as goal
+
+pub returns : goal.returns
+unfolding ink ink_all name_of
+returns c = drew_run _ _ _ refl c.put_run.ensures

@@ -1,0 +1,8 @@
+use mathlib.Core.Path.{refl}
+use Rattle.desk.specs.Stroke.{ink, ink_all}
+use Rattle.desk.proofs.Strokes.{drew_run}
+use Rattle.desk.proofs.Desk.end_tag.Goals as goal
+
+pub returns : goal.returns
+unfolding ink ink_all
+returns c = drew_run _ _ _ refl c.put_run.ensures

@@ -1,5 +1,0 @@
-use Rattle.lists.proofs.Nodes.{both_yes}
-use Rattle.lists.proofs.is_skipped.Goals as goal
-
-pub returns-then-span : goal.returns-then-span
-returns-then-span c = search both_yes

@@ -1,5 +1,0 @@
-use Rattle.tape.proofs.Laws.{entry_in}
-use Rattle.tape.proofs.entry_at.Goals as goal
-
-pub returns : goal.returns
-returns c = search entry_in

@@ -1,6 +1,0 @@
-use Rattle.tape.proofs.Laws.{entry_name_in}
-use Rattle.tape.proofs.Placed.{entry_at}
-use Rattle.tape.proofs.entry_name.Goals as goal
-
-pub returns : goal.returns
-returns c = record { bytes = search entry_name_in; place = search entry_at }

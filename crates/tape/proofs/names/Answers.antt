@@ -1,6 +1,0 @@
-use Rattle.tape.proofs.Laws.{names_in}
-use Rattle.parts.proofs.Places.{very_at}
-use Rattle.tape.proofs.names.Goals as goal
-
-pub returns : goal.returns
-returns c = record { bytes = search names_in; place = search very_at }
