@@ -9,7 +9,6 @@ use Rattle.tape.specs.File.{Tape, kind_at, info_at, number_at}
 use Rattle.tape.specs.Tree.{next_sibling, up_to, left, from_first}
 use Rattle.tape.specs.declared.Cursor.{Cursor}
 use Rattle.tape.specs.declared.kinds.Kind.{Kind}
-use Rattle.tape.specs.Found.{Info}
 use Rattle.tape.specs.Found.{Step}
 use Rattle.std.specs.Prelude.{Some}
 use Rattle.tape.proofs.Walk.{left-turn, up_to_go}
@@ -38,32 +37,6 @@ use Rattle.tables.proofs.Spans.{up-row}
 use Rattle.blocks.specs.Blocks.{holder_of, run_opens, run_in, uncut, step_behind}
 use Rattle.blocks.specs.declared.Holder.TheVariants.{Sidebar, Periph, Neither}
 use Rattle.desk.specs.declared.Desk.{Desk as Held}
-
--- ---- what a node holds blocks as
-
-module _ (t : Tape) (k : ℕ) {x : Bool} (ex : x ≡ is_row t k) where
-  pub holder-row : x ≡ true → Neither ≡ holder_of t k
-  unfolding holder_of
-  holder-row h = rw (sym ex ∙ h)
-
-  module _ (hx : x ≡ false) {z : Kind} (ek : z.code ≡ kind_at t k) where
-    pub holder-chapter : z.code ≡ 6 → Neither ≡ holder_of t k
-    unfolding holder_of
-    holder-chapter h = rw (sym ex ∙ hx, kind_is t k ek 6 h)
-
-    module _ (n₆ : z.code ≡ 6 → ⊥) {i : Info} (ei : i ≡ info_at t k) {y : Bool} (ey : y ≡ is_element_of 1 i) where
-      pub holder-sidebar : y ≡ true → Sidebar ≡ holder_of t k
-      unfolding holder_of
-      holder-sidebar h = rw (sym ex ∙ hx, kind_not t k ek 6 n₆, ← ei, sym ey ∙ h)
-
-      module _ (hy : y ≡ false) {v : Bool} (ev : v ≡ is_element_of 2 i) where
-        pub holder-periph : v ≡ true → Periph ≡ holder_of t k
-        unfolding holder_of
-        holder-periph h = rw (sym ex ∙ hx, kind_not t k ek 6 n₆, ← ei, sym ey ∙ hy, sym ev ∙ h)
-
-        pub holder_neither : v ≡ false → Neither ≡ holder_of t k
-        unfolding holder_of
-        holder_neither h = rw (sym ex ∙ hx, kind_not t k ek 6 n₆, ← ei, sym ey ∙ hy, sym ev ∙ h)
 
 -- ---- places
 

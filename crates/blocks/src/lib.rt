@@ -25,31 +25,28 @@ use tables::depth_at;
 use tape::{Cursor, Element, Kind, TapeFile};
 
 // What a node holds blocks as.
-#[derive(Clone, Copy)]
+#[derive(Clone, Copy, PartialEq, Eq)]
 pub enum Holder {
     Sidebar,
     Periph,
     Neither,
 }
 
+#[tactic(auto, unfolding(crate::specs::Blocks::holder_of, render::specs::Shape::is_chapter_of))]
 fn holder_of(tape: &TapeFile<'_>, c: Cursor) -> Holder
     ensures { result ≡ holder_of (contents tape.now) c.at }
 {
-    if render::is_row(tape, c) {
-        return Holder::Neither;
-    }
-    let kind = c.kind(tape);
-    if kind.code == Kind::CHAPTER {
+    if render::is_row(tape, c) || c.kind(tape).code == Kind::CHAPTER {
         return Holder::Neither;
     }
     let info = c.marker_info(tape);
     if render::is_element(info, Element::SIDEBAR) {
-        return Holder::Sidebar;
+        Holder::Sidebar
+    } else if render::is_element(info, Element::PERIPH) {
+        Holder::Periph
+    } else {
+        Holder::Neither
     }
-    if render::is_element(info, Element::PERIPH) {
-        return Holder::Periph;
-    }
-    Holder::Neither
 }
 
 // A chapter on its line, with the numbers behind it.
@@ -84,6 +81,7 @@ fn chapter(
 }
 
 // The line and the tag of a paragraph around a verse.
+#[tactic(auto, using(crate::proofs::Places::run_opened))]
 fn open_run(level: usize, desk: &mut Desk, out: &mut [u8])
     ensures { (source : Bytes) → desk_of source desk.new out.new ≡ emit_all (desk_of source desk.old out.old) (run_opens level) }
 {
@@ -93,6 +91,7 @@ fn open_run(level: usize, desk: &mut Desk, out: &mut [u8])
 }
 
 // A verse and what follows it up to the next block, in a paragraph of its own.
+#[tactic(auto, using(crate::proofs::Places::run_whole))]
 fn verse_para(book: &Book<'_>, sifted: bool, c: Cursor, level: u8, desk: &mut Desk, out: &mut [u8])
     ensures { member_of_of (contents book.now.tape) (uncut sifted) c.at ≡ Listed → is_top_level_block_of (contents book.now.tape) c.at ≡ false → desk_of (contents book.now.tape).source desk.new out.new ≡ emit_all (desk_of (contents book.now.tape).source desk.old out.old) (run_in (contents book.now.tape) (depth_at level) level c.at (nodes_in (contents book.now.tape) (uncut sifted) (next_sibling (contents book.now.tape) c.at))) }
 {

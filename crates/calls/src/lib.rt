@@ -9,6 +9,7 @@ use checker::Verdict;
 use usx::Answer;
 
 // Written with its length, and the checker's answer to the text; refused by document 01's number; no room for a text of this length.
+// The three outcomes of `usx::Answer`, one with a verdict: `answer_in` and `Checked` are over them.
 #[derive(Clone, Copy)]
 pub enum Called {
     Written { length: usize, verdict: Verdict },

@@ -1,13 +1,12 @@
 -- Tags of cells, rows and tables.
 use mathlib.Core.Path.{◌≡◌, refl, ap, ◌∙◌}
 use mathlib.Core.Bool.{Bool, true, false}
-use mathlib.Core.List.{List, [], ◌∷◌}
+use mathlib.Core.List.{[], ◌∷◌}
 use Prim.Native.Nat.{ℕ}
 use Rattle.parts.specs.Bytes.{Bytes, b}
 use Rattle.tape.specs.File.{Tape, kind_at, info_at}
 use Rattle.tape.specs.Name.{marker_name}
 use Rattle.tape.specs.declared.kinds.Kind.{Kind}
-use Rattle.tape.specs.declared.Entry.{Entry}
 use Rattle.tape.specs.Found.{Info}
 use Rattle.std.specs.Prelude.{None, Some, is_some}
 use Rattle.render.specs.Note.{cell_align_of, align_word}

@@ -13,7 +13,6 @@ use Rattle.words.proofs.Joins.{words_again}
 use Rattle.words.proofs.Blank.{blank_words}
 use Rattle.tape.specs.File.{Tape}
 use Rattle.tape.specs.Name.{marker_name}
-use Rattle.render.specs.Shape.{is_row, is_top_level_block_of}
 use Rattle.render.specs.Children.{first_text_of}
 use Rattle.render.specs.Note.{written_category, step_text, first_words, unless_empty, periph_alt}
 use Rattle.attrs.specs.Attr.{attributes_of}
@@ -24,19 +23,8 @@ use Rattle.events.specs.Emit.{Desk, emit, emit_all}
 use Rattle.desk.specs.Desk.{desk_of}
 use Rattle.desk.specs.Stroke.{opens, key, piece, end_value_of, ends, shuts, closes, strokes_of_attr, strokes_of_attrs, strokes_of, strokes, Drew}
 use Rattle.desk.proofs.Strokes.{drew_none, drew_two, drew_attr, drew_item, strokes_item, attrs_append}
-use Rattle.holders.specs.Holders.{is_block_or_row, sidebar_attrs, periph_attrs, attrs_of, element_no}
+use Rattle.holders.specs.Holders.{sidebar_attrs, periph_attrs, attrs_of, element_no}
 use Rattle.desk.specs.declared.Desk.{Desk as Held}
-
--- ---- what a list is searched for
-
-module _ (t : Tape) (k : ℕ) {x : Bool} (ex : x ≡ is_top_level_block_of t k) where
-  pub block-or : x ≡ true → true ≡ is_block_or_row t k
-  unfolding is_block_or_row
-  block-or h = rw (sym ex ∙ h)
-
-  pub or-row : x ≡ false → {r : Bool} → r ≡ is_row t k → r ≡ is_block_or_row t k
-  unfolding is_block_or_row
-  or-row h er = rw (sym ex ∙ h) er
 
 -- ---- a sidebar's attributes
 

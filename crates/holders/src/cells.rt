@@ -24,6 +24,7 @@ pub fn is_cell(tape: &TapeFile<'_>, c: Cursor) -> bool
 }
 
 // The alignment of a cell.
+#[tactic(auto, using(crate::proofs::TableTags::align_start, crate::proofs::TableTags::align_center, crate::proofs::TableTags::align_end))]
 fn put_align(desk: &mut Desk, out: &mut [u8], align: Align)
     ensures { Drew desk.old out.old (strokes_of_attr (escaped (b "align") (align_word align))) desk.new out.new }
 {
@@ -35,6 +36,7 @@ fn put_align(desk: &mut Desk, out: &mut [u8], align: Align)
 }
 
 // A cell's tag up to its end: style and alignment.
+#[tactic(auto, using(crate::proofs::TableTags::cell_front))]
 fn put_cell(desk: &mut Desk, out: &mut [u8], name: &[u8])
     ensures { Drew desk.old out.old (opens cell ∷ strokes_of_attrs (rawly (b "style") name.now ∷ escaped (b "align") (align_word (cell_align_of name.now)) ∷ [])) desk.new out.new }
 {
@@ -43,6 +45,7 @@ fn put_cell(desk: &mut Desk, out: &mut [u8], name: &[u8])
 }
 
 // A cell's tag, where something stands in it.
+#[tactic(auto, using(crate::proofs::TableTags::cell_opened))]
 pub fn open_cell(tape: &TapeFile<'_>, c: Cursor, desk: &mut Desk, out: &mut [u8])
     ensures { desk_of (contents tape.now).source desk.new out.new ≡ emit (desk_of (contents tape.now).source desk.old out.old) (item (start cell (cell_attrs (contents tape.now) c.at))) }
 {
@@ -51,6 +54,7 @@ pub fn open_cell(tape: &TapeFile<'_>, c: Cursor, desk: &mut Desk, out: &mut [u8]
 }
 
 // A cell with nothing in it.
+#[tactic(auto, using(crate::proofs::TableTags::cell_emptied))]
 pub fn empty_cell(tape: &TapeFile<'_>, c: Cursor, desk: &mut Desk, out: &mut [u8])
     ensures { desk_of (contents tape.now).source desk.new out.new ≡ emit (desk_of (contents tape.now).source desk.old out.old) (item (empty cell (cell_attrs (contents tape.now) c.at))) }
 {

@@ -26,6 +26,7 @@ pub use whole::{close_usx, open_usx};
 use words::Set;
 
 // Whether a node is a block or a row.
+#[tactic(auto, unfolding(crate::specs::Holders::is_block_or_row))]
 fn is_block(tape: &TapeFile<'_>, c: Cursor) -> bool
     ensures { result ≡ is_block_or_row (contents tape.now) c.at }
 {
@@ -55,6 +56,7 @@ pub fn has_block(tape: &TapeFile<'_>, span: Span, first: Option<Cursor>) -> bool
 }
 
 // A sidebar's tag up to its end: style, category, closed.
+#[tactic(auto, using(crate::proofs::Tags::sidebar_put))]
 fn put_sidebar(desk: &mut Desk, out: &mut [u8], tape: &TapeFile<'_>, c: Cursor)
     ensures { Drew desk.old out.old (opens (element_no true) ∷ strokes_of_attrs (sidebar_attrs (contents tape.now) c.at)) desk.new out.new }
 {
@@ -64,6 +66,7 @@ fn put_sidebar(desk: &mut Desk, out: &mut [u8], tape: &TapeFile<'_>, c: Cursor)
 }
 
 // A periph's alt: the words of its first text.
+#[tactic(auto, using(crate::proofs::Tags::alt_none, crate::proofs::Tags::alt_some))]
 fn put_alt(desk: &mut Desk, out: &mut [u8], tape: &TapeFile<'_>, c: Cursor)
     ensures { Drew desk.old out.old (strokes_of_attrs (perhaps (b "alt") (periph_alt (contents tape.now) c.at))) desk.new out.new }
 {
@@ -76,6 +79,7 @@ fn put_alt(desk: &mut Desk, out: &mut [u8], tape: &TapeFile<'_>, c: Cursor)
 }
 
 // A periph's tag up to its end: alt and its attributes.
+#[tactic(auto, using(crate::proofs::Tags::periph_put))]
 fn put_periph(desk: &mut Desk, out: &mut [u8], tape: &TapeFile<'_>, c: Cursor)
     ensures { Drew desk.old out.old (opens (element_no false) ∷ strokes_of_attrs (periph_attrs (contents tape.now) c.at)) desk.new out.new }
 {
@@ -85,6 +89,7 @@ fn put_periph(desk: &mut Desk, out: &mut [u8], tape: &TapeFile<'_>, c: Cursor)
 }
 
 // A holder's tag up to its end.
+#[tactic(auto, using(crate::proofs::Tags::put_side, crate::proofs::Tags::put_peri))]
 fn put_holder(desk: &mut Desk, out: &mut [u8], tape: &TapeFile<'_>, c: Cursor, sidebar: bool)
     ensures { Drew desk.old out.old (opens (element_no sidebar) ∷ strokes_of_attrs (attrs_of (contents tape.now) c.at sidebar)) desk.new out.new }
 {
@@ -96,6 +101,7 @@ fn put_holder(desk: &mut Desk, out: &mut [u8], tape: &TapeFile<'_>, c: Cursor, s
 }
 
 // A holder's tag with blocks behind it.
+#[tactic(auto, using(crate::proofs::Tags::tag_started))]
 pub fn open_holder(tape: &TapeFile<'_>, c: Cursor, sidebar: bool, desk: &mut Desk, out: &mut [u8])
     ensures { desk_of (contents tape.now).source desk.new out.new ≡ emit (desk_of (contents tape.now).source desk.old out.old) (item (start (element_no sidebar) (attrs_of (contents tape.now) c.at sidebar))) }
 {
@@ -104,6 +110,7 @@ pub fn open_holder(tape: &TapeFile<'_>, c: Cursor, sidebar: bool, desk: &mut Des
 }
 
 // A holder with nothing inside.
+#[tactic(auto, using(crate::proofs::Tags::tag_emptied))]
 pub fn empty_holder(tape: &TapeFile<'_>, c: Cursor, sidebar: bool, desk: &mut Desk, out: &mut [u8])
     ensures { desk_of (contents tape.now).source desk.new out.new ≡ emit (desk_of (contents tape.now).source desk.old out.old) (item (empty (element_no sidebar) (attrs_of (contents tape.now) c.at sidebar))) }
 {

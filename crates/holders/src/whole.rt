@@ -11,6 +11,7 @@ ghost use Rattle.desk.specs.Stroke.{strokes_of, Drew};
 use desk::{Desk, Element};
 
 // Its start.
+#[tactic(auto, using(crate::proofs::Frame::usx_opened))]
 pub fn open_usx(desk: &mut Desk, out: &mut [u8])
     ensures { Drew desk.old out.old (strokes_of (start usx (escaped (b "version") (b "3.0") ∷ []))) desk.new out.new }
 {

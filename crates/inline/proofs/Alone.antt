@@ -6,8 +6,8 @@ use mathlib.Core.Option.{none}
 use Prim.Native.Nat.{ℕ, zero, suc, ◌-◌, ◌≤◌, ◌<◌}
 use native.Mathlib.Omega.{arith}
 use lib.ListN.{length, take, drop, length-take}
-use lib.Dec.{ltb}
-use borrow.Author.Tests.{eq-eqb, ne_eqb, not-true, not-false}
+use lib.Dec.{eqb, ltb}
+use borrow.Author.Tests.{eq-eqb, ne_eqb, eqb-true, not-false}
 use Rattle.parts.specs.Bytes.{Bytes, b, same}
 use Rattle.chars.specs.Escape.{escape}
 use Rattle.texts.specs.Text.{written, space_if}
@@ -51,8 +51,8 @@ last-attribute t a {y} ey g {w} ew {x} ex h = record { kind = sym ey ∙ g; last
     done None e f = e
     done (Some k) e f = absurd (let n : ◌≡◌ {A = Bool} true false = f in let no_way : ◌≡◌ {A = ℕ} 0 1 = cc in omega arith)
 
-pub no_attribute : (t : Tape) (a : Cursor) → false ≡ true → LastAttribute t a
-no_attribute t a e = absurd (let n : ◌≡◌ {A = Bool} false true = e in let no_way : ◌≡◌ {A = ℕ} 0 1 = cc in omega arith)
+pub no_attribute : (t : Tape) (a : Cursor) {z : ℕ} → (z ≡ 2 → ⊥) → eqb z 2 ≡ true → LastAttribute t a
+no_attribute t a {z} n e = absurd (n (eqb-true z 2 e))
 
 module _ (t : Tape) (n : ℕ) {s : Step} (es : s ≡ first_child t n) {k : Cursor} (ek : s ≡ Some k) {z : Kind} (ez : z.code ≡ kind_at t k.at) (h : z.code ≡ 1) {x : Step}
     (ex : x ≡ next_sibling t k.at) where

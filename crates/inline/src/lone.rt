@@ -19,19 +19,15 @@ use texts::Normalized;
 fn is_last_attribute(tape: &TapeFile<'_>, a: Cursor) -> bool
     ensures { result ≡ true → LastAttribute (contents tape.now) a }
 {
-    if a.kind(tape).code != Kind::ATTRIBUTE {
-        return false;
-    }
-    a.next_sibling(tape).is_none()
+    a.kind(tape).code == Kind::ATTRIBUTE && a.next_sibling(tape).is_none()
 }
 
 // The text that a marker holds alone, but for an Attribute behind it.
+#[tactic(auto, using(crate::proofs::Alone::only_end, crate::proofs::Alone::only_attribute))]
 fn only_text(tape: &TapeFile<'_>, c: Cursor) -> Option<Cursor>
     ensures { OnlyAt (contents tape.now) c.at result }
 {
-    let Some(k) = c.first_child(tape) else {
-        return None;
-    };
+    let k = c.first_child(tape)?;
     if k.kind(tape).code != Kind::TEXT {
         return None;
     }
@@ -46,6 +42,7 @@ fn only_text(tape: &TapeFile<'_>, c: Cursor) -> Option<Cursor>
 }
 
 // The end of a char's opening tag, the first bytes of a text, which are written as they stand, and the char's end.
+#[tactic(auto, using(crate::proofs::Alone::held_drawn))]
 fn put_held(s: &[u8], len: usize, desk: &mut Desk, out: &mut [u8])
     ensures { (t : Bytes) → escape false t ≡ take len s.now → Drew desk.old out.old (ends ∷ words t ∷ closes 6 ∷ []) desk.new out.new }
 {
@@ -60,6 +57,7 @@ fn put_held(s: &[u8], len: usize, desk: &mut Desk, out: &mut [u8])
 }
 
 // A char of this name around them.
+#[tactic(auto, using(crate::proofs::Alone::bare_drawn))]
 fn put_bare(name: &[u8], s: &[u8], len: usize, desk: &mut Desk, out: &mut [u8])
     ensures { (t : Bytes) → escape false t ≡ take len s.now → Drew desk.old out.old (lone_char name.now [] t) desk.new out.new }
 {
@@ -128,13 +126,7 @@ pub fn lone(tape: &TapeFile<'_>, c: Cursor, depth: usize, desk: &mut Desk, out: 
     ensures put_as { (outer : Bool) → PutAs (contents tape.now).source desk.old out.old (node_in_of (inside_of (contents tape.now) depth) (contents tape.now) c.at outer) desk.new out.new result }
     ensures keeps_behind { KeepsBehind (contents tape.now) c.at result }
 {
-    if depth == 0 {
-        return false;
-    }
-    if c.kind(tape).code != Kind::MARKER_OPEN {
-        return false;
-    }
-    if !put_markers::is_flat(tape, c) {
+    if depth == 0 || c.kind(tape).code != Kind::MARKER_OPEN || !put_markers::is_flat(tape, c) {
         return false;
     }
     let Some(k) = only_text(tape, c) else {

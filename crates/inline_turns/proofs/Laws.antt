@@ -6,7 +6,7 @@ use Prim.Native.Nat.{ℕ, ◌+◌, ◌-◌, ◌≤◌, ◌<◌}
 use native.Mathlib.Omega.{arith}
 use lib.ListN.{length, take, drop, length-take}
 use lib.Dec.{eqb, ltb}
-use borrow.Author.Tests.{eq-eqb, ne_eqb, eqb-true, eqb-false}
+use borrow.Author.Tests.{eq-eqb, ne_eqb, eqb-true, eqb-false, le-ltb}
 use Rattle.parts.specs.Bytes.{Bytes}
 use Rattle.texts.specs.Text.{ends_white, normalize_text, written, segments}
 use Rattle.texts.specs.declared.Normalized.{Normalized}
@@ -24,7 +24,7 @@ use Rattle.tape.proofs.Walk.{left-turn}
 use Rattle.leading_white.specs.Lean.{lean}
 use Rattle.leading_white.proofs.Leans.{normalize_lean, body-lean, ends-lean}
 use Rattle.render.specs.Shape.{is_inline_of}
-use Rattle.render.specs.Follow.{is_solid, next_solid_of, inline_at_of, inline_follows_of, followed, Kept}
+use Rattle.render.specs.Follow.{is_solid, next_solid_of, inline_at_of, inline_follows_of, Kept}
 use Rattle.render.specs.Label.{label_of}
 use Rattle.render.specs.Note.{remainder}
 use Rattle.render.proofs.Follows.{solid_end, solid_here, kept_on, kept_first, behind_far, behind_done, follows_of}
@@ -39,7 +39,6 @@ use Rattle.events.proofs.Emits.{emit-append}
 use Rattle.desk.specs.Desk.{desk_of}
 use Rattle.inline_turns.specs.Turn.{plain_from, note_plain, next_by, trim_by, note_trim_by, KeptAt, kept_past, kept_behind_of, kept_by, note_kept_by, behind_of, learnt, follows_by, behind_text, behind_by, note_behind_by, Here}
 use Rattle.inline_turns.specs.declared.Behind.{Behind}
-use Rattle.inline_turns.specs.declared.Behind.TheVariants.{Unasked, Follows, Ends}
 use Rattle.inline_turns.specs.declared.Child.{Child}
 use Rattle.inline_turns.specs.declared.Going.{Going}
 use Rattle.inline_turns.specs.declared.Child.TheVariants.{Skipped, Anchor, Words, Passed}
@@ -62,30 +61,14 @@ module _ (t : Tape) (c : Cursor) where
   kept_solid next es h en = solid_on next (es h) en
 
 module _ (c : Cursor) {kept : Step} (next : Step) where
-  pub past_done : kept ≡ None → (t : Tape) → Kept t c kept → next ≡ next_sibling t c.at → KeptAt t next None
-  past_done ed t h en = solid_on t c next (behind_done t c ed h) en
+  pub past_done : kept ≡ None → (t : Tape) → Kept t c kept → next ≡ next_sibling t c.at → KeptAt t next kept
+  past_done ed t h en = solid_on t c next (ed ∙ behind_done t c ed h) en
 
   pub past_here : (t : Tape) → Kept t c kept → next ≡ next_sibling t c.at → KeptAt t next next
   past_here t h en = kept_here t next
 
   pub past_far : (d : Cursor) → kept ≡ Some d → (d.at ≡ c.at → ⊥) → (t : Tape) → Kept t c kept → next ≡ next_sibling t c.at → KeptAt t next (Some d)
   past_far d ed n t h en = solid_on t c next (behind_far t c d ed n h) en
-
--- what is kept behind a child, itself
-
-module _ (k : ℕ) (next : Step) {kept : Step} where
-  pub past-none : kept ≡ None → None ≡ kept_past kept k next
-  unfolding kept_past
-  past-none h = rw h
-
-  module _ (d : Cursor) (h : kept ≡ Some d) where
-    pub past_itself : d.at ≡ k → next ≡ kept_past kept k next
-    unfolding kept_past
-    past_itself e = rw (h, eq-eqb d.at k e)
-
-    pub past-other : (d.at ≡ k → ⊥) → Some d ≡ kept_past kept k next
-    unfolding kept_past
-    past-other n = rw (h, ne_eqb d.at k n)
 
 module _ (t : Tape) (c : Cursor) (kept next : Step) {x : Bool} where
   pub behind-solid : x ≡ true → {solid : Step} → (Kept t c kept → solid ≡ next_solid_of t c.at) → (s : Bytes) → x ≡ ends_white s → Kept t c kept → solid ≡ kept_behind_of t s kept c.at next
@@ -97,37 +80,6 @@ module _ (t : Tape) (c : Cursor) (kept next : Step) {x : Bool} where
   behind-past h er s ex k = rw (sym ex ∙ h) er
 
 -- ---- whether inline content follows the parent
-
-module _ (t : Tape) (parent : Cursor) (outer : Bool) {behind : Behind} where
-  pub ask_follows : behind ≡ Follows → Follows ≡ learnt (behind_of t parent outer behind)
-  unfolding learnt behind_of
-  ask_follows h = rw h
-
-  pub ask_ends : behind ≡ Ends → Ends ≡ learnt (behind_of t parent outer behind)
-  unfolding learnt behind_of
-  ask_ends h = rw h
-
-  module _ (h : behind ≡ Unasked) {x : Bool} (ex : x ≡ followed t parent.at outer) where
-    pub ask_yes : x ≡ true → Follows ≡ learnt (behind_of t parent outer behind)
-    unfolding learnt behind_of
-    ask_yes e = rw (h, sym ex ∙ e)
-
-    pub ask_no : x ≡ false → Ends ≡ learnt (behind_of t parent outer behind)
-    unfolding learnt behind_of
-    ask_no e = rw (h, sym ex ∙ e)
-
-module _ {behind : Behind} where
-  pub follows_yes : behind ≡ Follows → true ≡ follows_by behind
-  unfolding follows_by
-  follows_yes h = rw h
-
-  pub follows_no : behind ≡ Ends → false ≡ follows_by behind
-  unfolding follows_by
-  follows_no h = rw h
-
-  pub follows_unasked : behind ≡ Unasked → false ≡ follows_by behind
-  unfolding follows_by
-  follows_unasked h = rw h
 
 -- what was learnt, read back
 learnt_back : (b : Bool) → follows_by (learnt b) ≡ b
@@ -351,8 +303,8 @@ module _ (parent c : Cursor) where
       go true e = let b = eqb-true (c.at - 1) parent.at e in sym (eq-eqb c.at (parent.at + 1) (omega arith))
       go false e = let n = eqb-false (c.at - 1) parent.at e in sym (ne_eqb c.at (parent.at + 1) (λ z. n (omega arith)))
 
-  pub first-root : c.at ≤ 0 → false ≡ eqb c.at (parent.at + 1)
-  first-root h = sym (ne_eqb c.at (parent.at + 1) (λ z. omega arith))
+  pub first_root : c.at ≤ 0 → ltb 0 c.at ≡ eqb c.at (parent.at + 1)
+  first_root h = le-ltb 0 c.at h ∙ sym (ne_eqb c.at (parent.at + 1) (λ z. omega arith))
 
 module _ (t : Tape) (parent c : Cursor) {x : Bool} (ex : x ≡ eqb c.at (parent.at + 1)) {s : Bytes} where
   pub first-text : x ≡ true → s ≡ text_at_of t c.at → {r l : Bytes} → r ≡ remainder s → l ≡ lean r → l ≡ lean (note_text t (parent.at + 1) c.at)

@@ -5,7 +5,7 @@ use mathlib.Core.List.{List, ◌∷◌, ◌++◌}
 use Prim.Native.Nat.{ℕ}
 use native.Mathlib.Omega.{arith}
 use lib.Dec.{eqb}
-use borrow.Author.Tests.{eq-eqb, ne_eqb, not-true}
+use borrow.Author.Tests.{not-true}
 use Rattle.tape.specs.File.{Tape, kind_at}
 use Rattle.tape.specs.Tree.{next_sibling, walk_from}
 use Rattle.tape.specs.declared.kinds.Kind.{Kind}
@@ -26,32 +26,6 @@ use Rattle.inline_turns.specs.Turn.{sort_of, sort_by, sort_in_of, note_sort_of, 
 use Rattle.inline_turns.specs.declared.Child.TheVariants.{Skipped, Anchor, Words, Passed}
 use Rattle.inline_turns.specs.declared.Sort.{Sort}
 use Rattle.inline_turns.specs.declared.Sort.TheVariants.{End, Enter, Plain}
-
--- ---- by its kind
-
-module _ (kind : Kind) where
-  pub sort_anchor : kind.code ≡ 7 → Plain Anchor ≡ sort_of kind.code
-  unfolding sort_of
-  sort_anchor h = rw (eq-eqb kind.code 7 h)
-
-  module _ (n₇ : kind.code ≡ 7 → ⊥) where
-    pub sort_words : kind.code ≡ 1 → Plain Words ≡ sort_of kind.code
-    unfolding sort_of
-    sort_words h = rw (ne_eqb kind.code 7 n₇, eq-eqb kind.code 1 h)
-
-    module _ (n₁ : kind.code ≡ 1 → ⊥) where
-      pub sort_attribute : kind.code ≡ 2 → Plain Passed ≡ sort_of kind.code
-      unfolding sort_of
-      sort_attribute h = rw (ne_eqb kind.code 7 n₇, ne_eqb kind.code 1 n₁, eq-eqb kind.code 2 h)
-
-      module _ (n₂ : kind.code ≡ 2 → ⊥) where
-        pub sort_error : kind.code ≡ 8 → Plain Passed ≡ sort_of kind.code
-        unfolding sort_of
-        sort_error h = rw (ne_eqb kind.code 7 n₇, ne_eqb kind.code 1 n₁, ne_eqb kind.code 2 n₂, eq-eqb kind.code 8 h)
-
-        pub sort_enter : (kind.code ≡ 8 → ⊥) → Enter ≡ sort_of kind.code
-        unfolding sort_of
-        sort_enter n₈ = rw (ne_eqb kind.code 7 n₇, ne_eqb kind.code 1 n₁, ne_eqb kind.code 2 n₂, ne_eqb kind.code 8 n₈)
 
 -- ---- to a list that may be cut or filtered
 
@@ -84,32 +58,6 @@ module _ (t : Tape) (span : Span) (k : ℕ) {m : Member} (em : m ≡ member_of_o
   pub in_listed : m ≡ Listed → {kind : Kind} → kind.code ≡ kind_at t k → {r : Sort} → r ≡ sort_of kind.code → r ≡ sort_in_of t span k
   unfolding sort_in_of sort_by
   in_listed h ek er = rw (sym em ∙ h) (er ∙ ap sort_of ek)
-
--- ---- to a note
-
-module _ (t : Tape) (k : ℕ) {x : Bool} (ex : x ≡ is_category_marker_of t k) where
-  pub note_skipped : x ≡ true → Plain Skipped ≡ note_sort_of t k
-  unfolding note_sort_of
-  note_skipped h = rw (sym ex ∙ h)
-
-  module _ (hx : x ≡ false) {kind : Kind} (ek : kind.code ≡ kind_at t k) where
-    pub note_is_words : kind.code ≡ 1 → Plain Words ≡ note_sort_of t k
-    unfolding note_sort_of
-    note_is_words h = rw (sym ex ∙ hx, ← ek, eq-eqb kind.code 1 h)
-
-    module _ (n₁ : kind.code ≡ 1 → ⊥) where
-      pub note-attribute : kind.code ≡ 2 → Plain Passed ≡ note_sort_of t k
-      unfolding note_sort_of
-      note-attribute h = rw (sym ex ∙ hx, ← ek, ne_eqb kind.code 1 n₁, eq-eqb kind.code 2 h)
-
-      module _ (n₂ : kind.code ≡ 2 → ⊥) where
-        pub note-error : kind.code ≡ 8 → Plain Passed ≡ note_sort_of t k
-        unfolding note_sort_of
-        note-error h = rw (sym ex ∙ hx, ← ek, ne_eqb kind.code 1 n₁, ne_eqb kind.code 2 n₂, eq-eqb kind.code 8 h)
-
-        pub note-enter : (kind.code ≡ 8 → ⊥) → Enter ≡ note_sort_of t k
-        unfolding note_sort_of
-        note-enter n₈ = rw (sym ex ∙ hx, ← ek, ne_eqb kind.code 1 n₁, ne_eqb kind.code 2 n₂, ne_eqb kind.code 8 n₈)
 
 -- ---- the list from a child on
 

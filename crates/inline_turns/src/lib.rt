@@ -22,7 +22,7 @@ use tape::{Cursor, Kind, TapeFile};
 use texts::Normalized;
 
 // A child that no marker is entered for: left out, a verse, a text, or passed over.
-#[derive(Clone, Copy)]
+#[derive(Clone, Copy, PartialEq, Eq)]
 pub enum Child {
     Skipped,
     Anchor,
@@ -31,7 +31,7 @@ pub enum Child {
 }
 
 // What a child is to its list: the list ends, a marker is entered, or none is.
-#[derive(Clone, Copy)]
+#[derive(Clone, Copy, PartialEq, Eq)]
 pub enum Sort {
     End,
     Enter,
@@ -39,7 +39,7 @@ pub enum Sort {
 }
 
 // Whether inline content follows the parent of a list: asked where it is needed, and kept for the list.
-#[derive(Clone, Copy)]
+#[derive(Clone, Copy, PartialEq, Eq)]
 pub enum Behind {
     Unasked,
     Follows,
@@ -72,25 +72,20 @@ struct Looked {
 }
 
 // What a child is to its list by its kind.
+#[tactic(auto, unfolding(crate::specs::Turn::sort_of))]
 fn sort_of(kind: Kind) -> Sort
     ensures { result ≡ sort_of kind.code }
 {
-    if kind.code == Kind::VERSE {
-        return Sort::Plain(Child::Anchor);
+    match kind.code {
+        Kind::VERSE => Sort::Plain(Child::Anchor),
+        Kind::TEXT => Sort::Plain(Child::Words),
+        Kind::ATTRIBUTE | Kind::ERROR => Sort::Plain(Child::Passed),
+        _ => Sort::Enter,
     }
-    if kind.code == Kind::TEXT {
-        return Sort::Plain(Child::Words);
-    }
-    if kind.code == Kind::ATTRIBUTE {
-        return Sort::Plain(Child::Passed);
-    }
-    if kind.code == Kind::ERROR {
-        return Sort::Plain(Child::Passed);
-    }
-    Sort::Enter
 }
 
 // What a child is to a list that may be cut or filtered.
+#[tactic(auto, using(crate::proofs::Sorts::in_all, crate::proofs::Sorts::in_end, crate::proofs::Sorts::in_skipped, crate::proofs::Sorts::in_listed))]
 pub fn sort_in(tape: &TapeFile<'_>, span: Span, c: Cursor) -> Sort
     ensures { result ≡ sort_in_of (contents tape.now) span c.at }
 {
@@ -106,42 +101,34 @@ pub fn sort_in(tape: &TapeFile<'_>, span: Span, c: Cursor) -> Sort
 }
 
 // What a child is to a note.
+#[tactic(auto, unfolding(crate::specs::Turn::note_sort_of))]
 pub fn note_sort(tape: &TapeFile<'_>, c: Cursor) -> Sort
     ensures { result ≡ note_sort_of (contents tape.now) c.at }
 {
     if render::is_category_marker(tape, c) {
         return Sort::Plain(Child::Skipped);
     }
-    let kind = c.kind(tape);
-    if kind.code == Kind::TEXT {
-        return Sort::Plain(Child::Words);
+    match c.kind(tape).code {
+        Kind::TEXT => Sort::Plain(Child::Words),
+        Kind::ATTRIBUTE | Kind::ERROR => Sort::Plain(Child::Passed),
+        _ => Sort::Enter,
     }
-    if kind.code == Kind::ATTRIBUTE {
-        return Sort::Plain(Child::Passed);
-    }
-    if kind.code == Kind::ERROR {
-        return Sort::Plain(Child::Passed);
-    }
-    Sort::Enter
 }
 
 // What was kept at a child, for the sibling behind it.
+#[tactic(auto, using(crate::proofs::Laws::past_done, crate::proofs::Laws::past_far), unfolding(crate::specs::Turn::kept_past))]
 fn past(kept: Option<Cursor>, c: Cursor, next: Option<Cursor>) -> Option<Cursor>
     ensures kept_at { (t : Tape) → Kept t c kept → next ≡ next_sibling t c.at → KeptAt t next result }
     ensures value { result ≡ kept_past kept c.at next }
 {
     match kept {
-        None => None,
-        Some(d) => {
-            if d.at == c.at {
-                return next;
-            }
-            Some(d)
-        }
+        Some(d) if d.at == c.at => next,
+        _ => kept,
     }
 }
 
 // Whether inline content follows the parent, asked unless it is known.
+#[tactic(auto, unfolding(crate::specs::Turn::learnt, crate::specs::Turn::behind_of))]
 pub fn ask(book: &Book<'_>, parent: Cursor, outer: bool, behind: Behind) -> Behind
     ensures { result ≡ learnt (behind_of (contents book.now.tape) parent outer behind) }
 {
@@ -159,14 +146,11 @@ pub fn ask(book: &Book<'_>, parent: Cursor, outer: bool, behind: Behind) -> Behi
 }
 
 // What was learnt.
+#[tactic(auto, unfolding(crate::specs::Turn::follows_by))]
 pub fn follows(behind: Behind) -> bool
     ensures { result ≡ follows_by behind }
 {
-    match behind {
-        Behind::Follows => true,
-        Behind::Ends => false,
-        Behind::Unasked => false,
-    }
+    matches!(behind, Behind::Follows)
 }
 
 // Looks behind a text: what follows it, and then what follows the parent, is looked for only where the text ends with white space.
@@ -209,6 +193,7 @@ fn wait(
 }
 
 // Whether a look tells that a step leads to a node that runs inside text and is not passed over.
+#[tactic(auto, using(render::proofs::Follows::clear_none, crate::proofs::Laws::runs_done, crate::proofs::Laws::runs_solid, crate::proofs::Laws::runs_inline))]
 fn runs_at(tape: &TapeFile<'_>, next: Option<Cursor>) -> bool
     ensures k_value { result ≡ true → (k : ℕ) → next ≡ next_sibling (contents tape.now) k → next_solid_of (contents tape.now) k ≡ next }
     ensures next_value { result ≡ true → inline_at_of (contents tape.now) next ≡ true }
@@ -248,6 +233,7 @@ fn glance(
 }
 
 // A text as it is normalized, with what was looked for behind it.
+#[tactic(auto, using(crate::proofs::Laws::looked_text, crate::proofs::Laws::looked_kept, crate::proofs::Laws::looked_known))]
 fn look(
     book: &Book<'_>,
     parent: Cursor,
@@ -277,10 +263,7 @@ fn look(
 fn still(trim: bool, n: Normalized) -> bool
     ensures { result ≡ trim && not n.shows }
 {
-    if trim {
-        return !n.shows;
-    }
-    false
+    trim && !n.shows
 }
 
 // A text of a list, made lean and read from its front.
@@ -429,6 +412,7 @@ fn anchor_turn(
 }
 
 // A child that writes nothing.
+#[tactic(auto, using(crate::proofs::Laws::passed_kept))]
 fn passed_turn(
     tape: &TapeFile<'_>,
     c: Cursor,
@@ -473,6 +457,7 @@ pub fn plain_turn(
     ensures kept_value { Kept (contents book.now.tape) c kept → result.kept ≡ kept_by (contents book.now.tape) span kept c.at child }
     ensures behind_value { Kept (contents book.now.tape) c kept → result.behind ≡ behind_by (contents book.now.tape) parent outer behind c.at child }
 {
+    // A match that chooses what to call: the calls differ in what they are given, and closures would say no more.
     match child {
         Child::Anchor => anchor_turn(book, span, c, behind, desk, out),
         Child::Words => words_turn(book, parent, outer, c, trim, behind, kept, desk, out),
@@ -484,13 +469,11 @@ pub fn plain_turn(
 // ---- notes
 
 // Whether a node is the first child of another: it stands right behind it.
+#[tactic(auto, using(crate::proofs::Laws::first_beside, crate::proofs::Laws::first_root))]
 fn is_first(parent: Cursor, c: Cursor) -> bool
     ensures { result ≡ eqb c.at (parent.at + 1) }
 {
-    if 0 < c.at {
-        return c.at - 1 == parent.at;
-    }
-    false
+    0 < c.at && c.at - 1 == parent.at
 }
 
 // The text of a note's child, made lean: the caller's word goes from the first child.
@@ -556,6 +539,7 @@ pub fn note_turn(
     ensures kept_value { Kept (contents book.now.tape) c kept → result.kept ≡ note_kept_by (contents book.now.tape) (parent.at + 1) kept c.at child }
     ensures behind_value { Kept (contents book.now.tape) c kept → result.behind ≡ note_behind_by (contents book.now.tape) (parent.at + 1) parent outer behind c.at child }
 {
+    // A match that chooses what to call: the calls differ in what they are given, and closures would say no more.
     match child {
         Child::Words => note_words(book, parent, outer, c, trim, behind, kept, desk, out),
         Child::Passed => passed_turn(&book.tape, c, trim, behind, kept),

@@ -32,6 +32,7 @@ pub enum What {
 }
 
 // Refused by document 01's number; every name kept; or the first broken one: its node, what it is, and the part of the source that it is.
+// Three outcomes, not a `Result`: a broken name is an answer about an admitted tape, and `Finds`, `FindsIn` and `told::find_names`, whose number C reads, are over them.
 #[derive(Clone, Copy)]
 pub enum Found {
     Refused(u8),

@@ -5,7 +5,7 @@ use mathlib.Core.List.{List, [], ◌++◌, append-nil}
 use Prim.Native.Nat.{ℕ}
 use native.Mathlib.Omega.{arith}
 use lib.ListN.{drop}
-use borrow.Author.Tests.{eq-eqb, ne_eqb, not-true, not-false}
+use borrow.Author.Tests.{eq-eqb, ne_eqb, not-false}
 use Rattle.parts.specs.Bytes.{Bytes, b, same}
 use Rattle.tape.specs.File.{Tape, kind_at, text_at_of}
 use Rattle.tape.specs.Tree.{first_child, next_sibling, walk_from, found}

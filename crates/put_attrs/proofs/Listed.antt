@@ -1,6 +1,6 @@
 -- Laws of attributes one after another: a walk over them, one that may be missing, a folded number, a figure of old.
 use mathlib.Core.Path.{◌≡◌, refl, sym, ap, ◌∙◌}
-use mathlib.Core.Bool.{Bool, false}
+use mathlib.Core.Bool.{false}
 use mathlib.Core.List.{List, [], ◌∷◌, ◌++◌, append_assoc}
 use Prim.Native.Nat.{ℕ}
 use native.Mathlib.Omega.{arith}
@@ -8,7 +8,6 @@ use lib.ListN.{length}
 use Rattle.parts.specs.Bytes.{Bytes, b, part}
 use Rattle.words.specs.Words.{trim}
 use Rattle.words.specs.declared.Set.TheVariants.{Unicode}
-use Rattle.words.specs.declared.Part.{Part}
 use Rattle.tape.specs.File.{Tape, text_at_of}
 use Rattle.tape.specs.Tree.{walk_from}
 use Rattle.tape.specs.declared.Cursor.{Cursor}
@@ -18,7 +17,6 @@ use Rattle.render.specs.Note.{category_text_of, trimmed_at, written_category}
 use Rattle.attrs.specs.Attr.{Pair, pairs_along}
 use Rattle.attrs.specs.Walk.{fixed_keys, value_of, key_of, remaining, next_list, sought_of}
 use Rattle.attrs.specs.declared.Value.{Value}
-use Rattle.attrs.specs.declared.Key.{Key}
 use Rattle.attrs.specs.declared.Attrs.{Attrs}
 use Rattle.attrs.specs.declared.Attribute.{Attribute}
 use Rattle.attrs.specs.Found.{Next, Sought}

@@ -24,6 +24,7 @@ use words::Part;
 // ---- values
 
 // A piece of a quoted value, and the `"` that stood escaped behind it.
+#[tactic(auto, using(desk::proofs::Strokes::drew_pieces))]
 fn put_piece(desk: &mut Desk, out: &mut [u8], s: &[u8])
     ensures { Drew desk.old out.old (piece_stroke false (s.now ++ (34 ∷ [])) ∷ []) desk.new out.new }
 {
@@ -49,6 +50,7 @@ fn put_unquoted(desk: &mut Desk, out: &mut [u8], s: &[u8])
 }
 
 // What a raw value stands for.
+#[tactic(auto, using(crate::proofs::Written::value_quoted, crate::proofs::Written::value_bare))]
 pub fn put_value(desk: &mut Desk, out: &mut [u8], source: &[u8], v: Value)
     ensures { Drew desk.old out.old (piece_stroke false (value_of source.now v) ∷ []) desk.new out.new }
 {
@@ -62,6 +64,7 @@ pub fn put_value(desk: &mut Desk, out: &mut [u8], source: &[u8], v: Value)
 // ---- attributes
 
 // An attribute whose value is at hand.
+#[tactic(auto, using(crate::proofs::Written::attr_written))]
 pub fn put_attr(desk: &mut Desk, out: &mut [u8], key: &[u8], value: &[u8])
     ensures { Drew desk.old out.old (strokes_of_attr (escaped key.now value.now)) desk.new out.new }
 {
@@ -107,6 +110,7 @@ fn put_pairs(
 }
 
 // What stands behind the `|` of an attribute, as the strokes that look so.
+#[tactic(auto, using(crate::proofs::Along::barred_put))]
 fn put_barred(desk: &mut Desk, out: &mut [u8], s: &[u8])
     ensures { (qs : List Attr) → b " " ++ drop 1 s.now ≡ attrs_bytes qs → Drew desk.old out.old (strokes_of_attrs qs) desk.new out.new }
 {
@@ -163,6 +167,7 @@ pub fn put_collected(desk: &mut Desk, out: &mut [u8], tape: &TapeFile<'_>, c: Cu
 }
 
 // An attribute whose value was sought in the source and may be missing.
+#[tactic(auto, using(crate::proofs::Listed::sought_missing, crate::proofs::Listed::sought_written))]
 pub fn put_sought(
     desk: &mut Desk,
     out: &mut [u8],
@@ -248,6 +253,7 @@ fn put_valued(desk: &mut Desk, out: &mut [u8], key: &[u8], value: &[u8])
 }
 
 // A field of an Attribute, unless it is empty.
+#[tactic(auto, using(crate::proofs::Listed::field_written))]
 fn put_field(desk: &mut Desk, out: &mut [u8], tape: &TapeFile<'_>, a: Cursor, key: &[u8], n: usize)
     ensures { Drew desk.old out.old (strokes_of_attrs (collected (valued key.now (field_at (contents tape.now) a.at n)))) desk.new out.new }
 {
@@ -255,6 +261,7 @@ fn put_field(desk: &mut Desk, out: &mut [u8], tape: &TapeFile<'_>, a: Cursor, ke
 }
 
 // What a figure of old shows: its description, file and size.
+#[tactic(auto, using(crate::proofs::Listed::about_written))]
 fn put_about(desk: &mut Desk, out: &mut [u8], tape: &TapeFile<'_>, c: Cursor, a: Cursor)
     ensures { Drew desk.old out.old (strokes_of_attrs (collected (about_pairs (contents tape.now) c.at a.at))) desk.new out.new }
 {
@@ -264,6 +271,7 @@ fn put_about(desk: &mut Desk, out: &mut [u8], tape: &TapeFile<'_>, c: Cursor, a:
 }
 
 // Where it belongs: its location, copyright and reference.
+#[tactic(auto, using(crate::proofs::Listed::place_written))]
 fn put_place(desk: &mut Desk, out: &mut [u8], tape: &TapeFile<'_>, a: Cursor)
     ensures { Drew desk.old out.old (strokes_of_attrs (collected (place_pairs (contents tape.now) a.at))) desk.new out.new }
 {
@@ -273,6 +281,7 @@ fn put_place(desk: &mut Desk, out: &mut [u8], tape: &TapeFile<'_>, a: Cursor)
 }
 
 // The attributes of a figure of old, whose fields stand in its Attribute a.
+#[tactic(auto, using(crate::proofs::Listed::legacy_written))]
 pub fn put_legacy(desk: &mut Desk, out: &mut [u8], tape: &TapeFile<'_>, c: Cursor, a: Cursor)
     ensures { Drew desk.old out.old (strokes_of_attrs (collected (legacy_pairs (contents tape.now) c.at a.at))) desk.new out.new }
 {

@@ -24,6 +24,7 @@ use usx_state::Marks;
 use words::{Part, Set};
 
 // A number of a chapter as an attribute.
+#[tactic(auto, using(desk::proofs::Strokes::drew_attr))]
 fn put_number(desk: &mut Desk, out: &mut [u8], number: u32)
     ensures { Drew desk.old out.old (key_stroke (b "number") ∷ piece_stroke false (decimal number) ∷ end_value_of ∷ []) desk.new out.new }
 {
@@ -33,6 +34,7 @@ fn put_number(desk: &mut Desk, out: &mut [u8], number: u32)
 }
 
 // The front of a chapter's tag: its number and style.
+#[tactic(auto, using(crate::proofs::Marked::tag_head))]
 fn put_chapter_head(desk: &mut Desk, out: &mut [u8], number: u32)
     ensures { Drew desk.old out.old (opens 3 ∷ key_stroke (b "number") ∷ piece_stroke false (decimal number) ∷ end_value_of ∷ key_stroke (b "style") ∷ piece_stroke true (b "c") ∷ end_value_of ∷ []) desk.new out.new }
 {
@@ -42,6 +44,7 @@ fn put_chapter_head(desk: &mut Desk, out: &mut [u8], number: u32)
 }
 
 // A chapter's identifier and the tag's end.
+#[tactic(auto, using(crate::proofs::Marked::sid_shut))]
 fn put_chapter_sid(desk: &mut Desk, out: &mut [u8], code: &[u8], number: u32)
     ensures { Drew desk.old out.old (key_stroke (b "sid") ∷ piece_stroke false (chapter_id_of code.now number) ∷ end_value_of ∷ shuts ∷ []) desk.new out.new }
 {
@@ -51,6 +54,7 @@ fn put_chapter_sid(desk: &mut Desk, out: &mut [u8], code: &[u8], number: u32)
 }
 
 // The tag of a chapter: number, style, altnumber, pubnumber, sid.
+#[tactic(auto, using(crate::proofs::Marked::chapter_tag))]
 fn put_chapter(
     desk: &mut Desk,
     out: &mut [u8],
@@ -70,6 +74,7 @@ fn put_chapter(
 }
 
 // A verse's identifier.
+#[tactic(auto, using(desk::proofs::Strokes::drew_attr))]
 fn put_verse_sid(desk: &mut Desk, out: &mut [u8], code: &[u8], number: u32, label: &[u8])
     ensures { Drew desk.old out.old (key_stroke (b "sid") ∷ piece_stroke false (verse_id_of code.now number label.now) ∷ end_value_of ∷ []) desk.new out.new }
 {
@@ -79,6 +84,7 @@ fn put_verse_sid(desk: &mut Desk, out: &mut [u8], code: &[u8], number: u32, labe
 }
 
 // A verse's identifier and published number, and the tag's end.
+#[tactic(auto, using(crate::proofs::Marked::sid_rest))]
 fn put_verse_tail(
     desk: &mut Desk,
     out: &mut [u8],
@@ -96,6 +102,7 @@ fn put_verse_tail(
 }
 
 // The tag of a verse: number, style, altnumber, sid, pubnumber.
+#[tactic(auto, using(crate::proofs::Marked::verse_tag))]
 fn put_verse(
     desk: &mut Desk,
     out: &mut [u8],
@@ -117,6 +124,7 @@ fn put_verse(
 }
 
 // The ends of what is open, the verse's first.
+#[tactic(auto, using(crate::proofs::Marked::ends_put))]
 fn put_ends(desk: &mut Desk, out: &mut [u8], source: &[u8], m: Marks)
     ensures { Drew desk.old out.old (strokes_of_all (last_ends (state_in source.now m))) desk.new out.new }
 {
@@ -161,6 +169,7 @@ pub fn verse(
 }
 
 // The front of a book's tag: its code, which is raw, and its style.
+#[tactic(auto, using(crate::proofs::Marked::tag_head))]
 fn put_book_head(desk: &mut Desk, out: &mut [u8], code: &[u8])
     ensures { Drew desk.old out.old (opens 2 ∷ key_stroke (b "code") ∷ piece_stroke true code.now ∷ end_value_of ∷ key_stroke (b "style") ∷ piece_stroke true (b "id") ∷ end_value_of ∷ []) desk.new out.new }
 {
@@ -170,6 +179,7 @@ fn put_book_head(desk: &mut Desk, out: &mut [u8], code: &[u8])
 }
 
 // What a book holds and its end.
+#[tactic(auto, using(crate::proofs::Marked::book_held))]
 fn put_book_rest(desk: &mut Desk, out: &mut [u8], rest: &[u8])
     ensures { Drew desk.old out.old (ends ∷ words_stroke (joined (words Unicode rest.now)) ∷ closes 2 ∷ []) desk.new out.new }
 {

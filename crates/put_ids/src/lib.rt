@@ -28,6 +28,7 @@ pub fn verse_id(desk: &mut Desk, out: &mut [u8], code: &[u8], number: u32, label
 }
 
 // The front of a chapter's end, up to its `eid`.
+#[tactic(auto, using(crate::proofs::Idents::end_opened))]
 fn open_chapter_end(desk: &mut Desk, out: &mut [u8])
     ensures { Drew desk.old out.old (opens 3 ∷ key_stroke (b "eid") ∷ []) desk.new out.new }
 {

@@ -1,7 +1,7 @@
 -- What opens a marker.
 use mathlib.Core.Path.{◌≡◌, refl, sym, ap, ◌∙◌}
 use mathlib.Core.Bool.{Bool, true, false, not, cond}
-use mathlib.Core.List.{List, [], ◌∷◌, ◌++◌}
+use mathlib.Core.List.{[], ◌∷◌, ◌++◌}
 use mathlib.Core.Option.{Option, none}
 use Prim.Native.Nat.{ℕ}
 use borrow.Author.Tests.{not-true}
@@ -53,19 +53,15 @@ module _ (t : Tape) (k : ℕ) where
   unfolding unclosed
   flat_closed {x} ex hx = rw (← ex, not-true x hx)
 
-  pub flat_link : {y : Bool} → y ≡ is_nested t k → y ≡ false → link_of t k ≡ none
+  pub links_none : {y : Bool} → y ≡ is_nested t k → not y ≡ true → link_of t k ≡ none
   unfolding sought_of
-  flat_link ey hy = sym (link_flat t k ey (rw hy))
+  links_none ey hy = sym (link_flat t k ey hy)
+
+  pub flat_link : {y : Bool} → y ≡ is_nested t k → y ≡ false → link_of t k ≡ none
+  flat_link ey hy = links_none ey (rw hy)
 
   pub flat_not : false ≡ true → unclosed t k ≡ []
   flat_not e = ap (λ (x : Bool). cond x [] (unclosed t k)) e
-
-  pub link-not : false ≡ true → link_of t k ≡ none
-  link-not e = ap (λ (x : Bool). cond x none (link_of t k)) e
-
--- what is not told to be bare says nothing
-pub bare-not : (t : Tape) (k : ℕ) → false ≡ true → (m : Bytes) → attributes_of t k m ≡ []
-bare-not t k e m = ap (λ (x : Bool). cond x [] (attributes_of t k m)) e
 
 -- ---- tags
 

@@ -21,6 +21,7 @@ use roles::Role;
 use tape::{Cursor, TapeFile};
 
 // A milestone with its attributes.
+#[tactic(auto, using(crate::proofs::Leaves::ms_drawn))]
 fn put_ms(desk: &mut Desk, out: &mut [u8], tape: &TapeFile<'_>, c: Cursor)
     ensures { Drew desk.old out.old (strokes_of (empty 8 (style (contents tape.now) c.at ∷ collected (attributes_of (contents tape.now) c.at (marker_name (contents tape.now) c.at))))) desk.new out.new }
 {
@@ -30,6 +31,7 @@ fn put_ms(desk: &mut Desk, out: &mut [u8], tape: &TapeFile<'_>, c: Cursor)
 }
 
 // A paragraph with no child.
+#[tactic(auto, using(crate::proofs::Written::drew_empty))]
 fn put_empty(desk: &mut Desk, out: &mut [u8], tape: &TapeFile<'_>, c: Cursor)
     ensures { Drew desk.old out.old (strokes_of (empty 5 (style (contents tape.now) c.at ∷ []))) desk.new out.new }
 {
@@ -38,6 +40,7 @@ fn put_empty(desk: &mut Desk, out: &mut [u8], tape: &TapeFile<'_>, c: Cursor)
 }
 
 // A figure of old: its fields as attributes.
+#[tactic(auto, using(crate::proofs::Leaves::fields_drawn))]
 fn put_fields(desk: &mut Desk, out: &mut [u8], tape: &TapeFile<'_>, c: Cursor, a: Cursor)
     ensures { Drew desk.old out.old (strokes_of (start 9 (styled (b "fig") ++ collected (legacy_pairs (contents tape.now) c.at a.at)))) desk.new out.new }
 {
@@ -47,6 +50,7 @@ fn put_fields(desk: &mut Desk, out: &mut [u8], tape: &TapeFile<'_>, c: Cursor, a
 }
 
 // Its caption and its end.
+#[tactic(auto, using(crate::proofs::Leaves::caption_drawn))]
 fn put_caption(desk: &mut Desk, out: &mut [u8], tape: &TapeFile<'_>, a: Cursor)
     ensures { Drew desk.old out.old (strokes_of_all (text (caption_of (contents tape.now) a.at) ∷ close 9 ∷ [])) desk.new out.new }
 {
@@ -55,6 +59,7 @@ fn put_caption(desk: &mut Desk, out: &mut [u8], tape: &TapeFile<'_>, a: Cursor)
 }
 
 // A figure of old, whole.
+#[tactic(auto, using(crate::proofs::Leaves::items_drawn))]
 fn put_old(desk: &mut Desk, out: &mut [u8], tape: &TapeFile<'_>, c: Cursor, a: Cursor)
     ensures { Drew desk.old out.old (strokes_of_all (start 9 (styled (b "fig") ++ collected (legacy_pairs (contents tape.now) c.at a.at)) ∷ text (caption_of (contents tape.now) a.at) ∷ close 9 ∷ [])) desk.new out.new }
 {
@@ -63,6 +68,7 @@ fn put_old(desk: &mut Desk, out: &mut [u8], tape: &TapeFile<'_>, c: Cursor, a: C
 }
 
 // A figure, if it is one of old.
+#[tactic(auto, using(crate::proofs::Leaves::old_none, crate::proofs::Leaves::old_written))]
 fn old_figure(tape: &TapeFile<'_>, c: Cursor, desk: &mut Desk, out: &mut [u8])
     ensures { desk_of (contents tape.now).source desk.new out.new ≡ emit_all (desk_of (contents tape.now).source desk.old out.old) (leaf_of (contents tape.now) c.at figure) }
 {
@@ -75,6 +81,7 @@ fn old_figure(tape: &TapeFile<'_>, c: Cursor, desk: &mut Desk, out: &mut [u8])
 pub fn write_leaf(tape: &TapeFile<'_>, c: Cursor, role: Role, desk: &mut Desk, out: &mut [u8])
     ensures { desk_of (contents tape.now).source desk.new out.new ≡ emit_all (desk_of (contents tape.now).source desk.old out.old) (leaf_of (contents tape.now) c.at (role_in role)) }
 {
+    // A match on the roles: each writes its own strokes, and the compiler asks for a role left out.
     match role {
         Role::UnknownBlock => {}
         Role::UnknownInline => {}

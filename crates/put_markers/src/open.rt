@@ -25,6 +25,7 @@ use roles::{Role, link_of};
 use tape::{Cursor, Kind, TapeFile};
 
 // The front of a tag whose style is the marker's name.
+#[tactic(auto, using(crate::proofs::Opens::named_front))]
 pub fn open_named(desk: &mut Desk, out: &mut [u8], tape: &TapeFile<'_>, c: Cursor, e: Element)
     ensures { Drew desk.old out.old (opens (number_of e) ∷ strokes_of_attrs (style (contents tape.now) c.at ∷ [])) desk.new out.new }
 {
@@ -32,6 +33,7 @@ pub fn open_named(desk: &mut Desk, out: &mut [u8], tape: &TapeFile<'_>, c: Curso
 }
 
 // A paragraph's tag.
+#[tactic(auto, using(crate::proofs::Opens::para_drawn))]
 fn put_para(desk: &mut Desk, out: &mut [u8], tape: &TapeFile<'_>, c: Cursor)
     ensures { Drew desk.old out.old (strokes_of (start 5 (style (contents tape.now) c.at ∷ []))) desk.new out.new }
 {
@@ -40,6 +42,7 @@ fn put_para(desk: &mut Desk, out: &mut [u8], tape: &TapeFile<'_>, c: Cursor)
 }
 
 // The tag of a marker without an entry.
+#[tactic(auto, using(crate::proofs::Opens::unknown_drawn))]
 fn put_unknown(desk: &mut Desk, out: &mut [u8], tape: &TapeFile<'_>, c: Cursor, e: Element)
     ensures { Drew desk.old out.old (strokes_of (start (number_of e) (style (contents tape.now) c.at ∷ escaped (b "status") (b "unknown") ∷ []))) desk.new out.new }
 {
@@ -56,14 +59,12 @@ fn ends_synthetic(tape: &TapeFile<'_>, c: Cursor) -> bool
 }
 
 // Whether a look tells that a marker is closed in the source and links nothing.
+#[tactic(auto, using(crate::proofs::Opens::flat_closed, crate::proofs::Opens::links_none))]
 pub fn is_flat(tape: &TapeFile<'_>, c: Cursor) -> bool
     ensures at_value { result ≡ true → unclosed (contents tape.now) c.at ≡ [] }
     ensures at_value_2 { result ≡ true → link_of (contents tape.now) c.at ≡ none }
 {
-    if c.is_nested(tape) {
-        return false;
-    }
-    !ends_synthetic(tape, c)
+    !c.is_nested(tape) && !ends_synthetic(tape, c)
 }
 
 // `closed="false"` where a marker is not closed in the source.
@@ -80,12 +81,7 @@ fn is_bare(tape: &TapeFile<'_>, c: Cursor) -> bool
     ensures { result ≡ true → (marker : Bytes) → attributes_of (contents tape.now) c.at marker ≡ [] }
 {
     match c.first_child(tape) {
-        Some(k) => {
-            if k.kind(tape).code == Kind::TEXT {
-                return k.next_sibling(tape).is_none();
-            }
-            false
-        }
+        Some(k) => k.kind(tape).code == Kind::TEXT && k.next_sibling(tape).is_none(),
         None => true,
     }
 }
@@ -104,6 +100,7 @@ fn put_char(desk: &mut Desk, out: &mut [u8], tape: &TapeFile<'_>, c: Cursor)
 }
 
 // A ref's tag with what it links.
+#[tactic(auto, using(crate::proofs::Opens::ref_drawn))]
 fn put_ref(desk: &mut Desk, out: &mut [u8], tape: &TapeFile<'_>, loc: Option<Value>)
     ensures { Drew desk.old out.old (strokes_of (start 16 (perhaps (b "loc") (sought_of (contents tape.now).source loc)))) desk.new out.new }
 {
@@ -113,12 +110,12 @@ fn put_ref(desk: &mut Desk, out: &mut [u8], tape: &TapeFile<'_>, loc: Option<Val
 }
 
 // The `ref` around what a marker links.
+#[tactic(auto, using(crate::proofs::Opens::link_shut, crate::proofs::Opens::link_opened))]
 fn open_link(tape: &TapeFile<'_>, link: Option<Value>, desk: &mut Desk, out: &mut [u8])
     ensures { desk_of (contents tape.now).source desk.new out.new ≡ emit_all (desk_of (contents tape.now).source desk.old out.old) (link_opens (sought_of (contents tape.now).source link)) }
 {
-    match link {
-        None => {}
-        Some(_) => put_ref(desk, out, tape, link),
+    if link.is_some() {
+        put_ref(desk, out, tape, link)
     }
 }
 
@@ -133,6 +130,7 @@ pub fn open_char(book: &Book<'_>, c: Cursor, desk: &mut Desk, out: &mut [u8])
 }
 
 // A figure's tag with its attributes.
+#[tactic(auto, using(crate::proofs::Opens::figure_drawn))]
 fn put_figure(desk: &mut Desk, out: &mut [u8], tape: &TapeFile<'_>, c: Cursor)
     ensures { Drew desk.old out.old (strokes_of (start 9 (styled (b "fig") ++ collected (attributes_of (contents tape.now) c.at (b "fig"))))) desk.new out.new }
 {
@@ -142,6 +140,7 @@ fn put_figure(desk: &mut Desk, out: &mut [u8], tape: &TapeFile<'_>, c: Cursor)
 }
 
 // A note's tag up to its style.
+#[tactic(auto, using(crate::proofs::Opens::note_front))]
 fn put_note_head(desk: &mut Desk, out: &mut [u8], caller: &[u8], name: &[u8])
     ensures { Drew desk.old out.old (opens 7 ∷ strokes_of_attrs (escaped (b "caller") caller.now ∷ rawly (b "style") name.now ∷ [])) desk.new out.new }
 {
@@ -151,6 +150,7 @@ fn put_note_head(desk: &mut Desk, out: &mut [u8], caller: &[u8], name: &[u8])
 }
 
 // A note's tag: caller, style, category.
+#[tactic(auto, using(crate::proofs::Opens::note_drawn))]
 fn put_note<'a>(desk: &mut Desk, out: &mut [u8], tape: &TapeFile<'a>, c: Cursor)
     ensures { Drew desk.old out.old (strokes_of (start 7 (escaped (b "caller") (note_caller_of (contents tape.now) c.at) ∷ style (contents tape.now) c.at ∷ perhaps (b "category") (written_category (contents tape.now) c.at)))) desk.new out.new }
 {
@@ -165,6 +165,7 @@ fn put_note<'a>(desk: &mut Desk, out: &mut [u8], tape: &TapeFile<'a>, c: Cursor)
 pub fn open_marker(book: &Book<'_>, c: Cursor, role: Role, desk: &mut Desk, out: &mut [u8])
     ensures { desk_of (contents book.now.tape).source desk.new out.new ≡ emit_all (desk_of (contents book.now.tape).source desk.old out.old) (marker_opens (contents book.now.tape) c.at (role_in role)) }
 {
+    // A match on the roles: each writes its own strokes, and the compiler asks for a role left out.
     match role {
         Role::UnknownBlock => put_unknown(desk, out, &book.tape, c, Element::Para),
         Role::UnknownInline => put_unknown(desk, out, &book.tape, c, Element::Char),

@@ -25,6 +25,7 @@ fn put_easy(body: &[u8], n: Normalized, desk: &mut Desk, out: &mut [u8])
 }
 
 // A text where it shows, word by word.
+#[tactic(auto, using(crate::proofs::Written::unbroken_shows, crate::proofs::Written::unbroken_hidden))]
 fn put_worded(s: &[u8], n: Normalized, desk: &mut Desk, out: &mut [u8])
     ensures { (source : Bytes) → desk_of source desk.new out.new ≡ emit_all (desk_of source desk.old out.old) (unbroken s.now n) }
 {
@@ -62,6 +63,7 @@ pub fn put_unbroken(s: &[u8], n: Normalized, desk: &mut Desk, out: &mut [u8])
 }
 
 // One segment of a text.
+#[tactic(auto, using(crate::proofs::Written::segment_put))]
 fn put_segment(s: &[u8], desk: &mut Desk, out: &mut [u8])
     ensures { (source : Bytes) → desk_of source desk.new out.new ≡ emit (desk_of source desk.old out.old) (item (text (segment s.now))) }
 {
@@ -69,6 +71,7 @@ fn put_segment(s: &[u8], desk: &mut Desk, out: &mut [u8])
 }
 
 // A break between two segments.
+#[tactic(auto, using(crate::proofs::Written::break_put))]
 fn put_break(desk: &mut Desk, out: &mut [u8])
     ensures { (source : Bytes) → desk_of source desk.new out.new ≡ emit (desk_of source desk.old out.old) (item (empty 15 [])) }
 {
@@ -114,6 +117,7 @@ fn put_hard(s: &[u8], n: Normalized, desk: &mut Desk, out: &mut [u8])
 }
 
 // A text broken at each `//`, or whole.
+// As `put_unbroken` up to the last branch: a closure for that one call is longer than the two bodies.
 pub fn put_broken(s: &[u8], n: Normalized, desk: &mut Desk, out: &mut [u8])
     ensures { (source : Bytes) → desk_of source desk.new out.new ≡ emit_all (desk_of source desk.old out.old) (broken s.now n) }
 {

@@ -22,7 +22,7 @@ pub fn tell(numbers: &mut [u64], at: usize, n: usize)
 
 // ---- a finished text
 
-// Document 01's number.
+// Document 01's number, which C reads: `answer_of` gives the same.
 #[tactic(auto, unfolding(checker::specs::Answer::answer_of))]
 fn number_of(v: Verdict) -> u32
     ensures { result ≡ (answer_of v).number }
@@ -90,7 +90,7 @@ pub fn check(text: &[u8], numbers: &mut [u64]) -> u32
 
 // ---- the names of a tape
 
-// What a name is, as a number.
+// What a name is, as the number that C reads: `what_number` of the specs gives the same.
 #[tactic(auto, unfolding(crate::specs::Told::what_number))]
 fn what_number(what: What) -> usize
     ensures { result ≡ what_number what }

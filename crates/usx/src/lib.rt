@@ -8,6 +8,7 @@ ghost use Rattle.usx.specs.Shown.{view, view_of};
 use walk::{Asked, write_tape};
 
 // Written with its length; refused by document 01's number; no room for a text of this length.
+// Three outcomes, and the number that C reads: `outcome_of` and the calls of `told_texts` are over them.
 #[derive(Clone, Copy)]
 pub enum Answer {
     Written(usize),
@@ -16,6 +17,7 @@ pub enum Answer {
 }
 
 // A window: so many bytes are given of a text of this whole length; or refused by document 01's number.
+// Two numbers or a refusal, which C reads: `view_of`, `cuts::specs::Follow` and the calls of `told_texts` are over them.
 #[derive(Clone, Copy)]
 pub enum Shown {
     Given { bytes: usize, whole: usize },

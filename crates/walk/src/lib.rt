@@ -14,7 +14,8 @@ use tape::{Cursor, Kind, TapeFile, long};
 use window::Window;
 
 // What a walk is asked to leave in the buffer: the whole text, if there is room for it; the bytes of the text from one on, as many as there is room for.
-#[derive(Clone, Copy)]
+// Two ways to ask, no Option: `Whole` is refused room, `From` is not.
+#[derive(Clone, Copy, PartialEq, Eq)]
 pub enum Asked {
     Whole,
     From(usize),
@@ -67,6 +68,7 @@ fn write_aside(book: &Book<'_>, number: u32, aside: &mut [u8], out: &mut [u8]) -
 fn write_whole(book: &Book<'_>, number: u32, out: &mut [u8]) -> usize
     ensures { number ≡ (first_state_of (contents book.now.tape)).number → Walked (contents book.now.tape) Whole out.old result out.new }
 {
+    // No heap: the buffer is on the stack.
     let mut aside = [0u8; 2048];
     write_aside(book, number, &mut aside, out)
 }
@@ -76,6 +78,7 @@ fn write_by(book: &Book<'_>, asked: Asked, out: &mut [u8]) -> usize
     ensures { Walked (contents book.now.tape) asked out.old result out.new }
 {
     let number = first_number(&book.tape);
+    // A match that chooses what to call: the two walks differ in what they are given.
     match asked {
         Asked::Whole => write_whole(book, number, out),
         Asked::From(from) => write_text(book, number, from, out),
@@ -114,6 +117,7 @@ fn write_blocks(tape: &TapeFile<'_>, table: &mut [u32], asked: Asked, out: &mut 
 fn write_long(tape: &TapeFile<'_>, asked: Asked, out: &mut [u8]) -> usize
     ensures { Walked (contents tape.now) asked out.old result out.new }
 {
+    // No heap: the table is on the stack.
     let mut table = [0u32; 65536];
     write_blocks(tape, &mut table, asked, out)
 }
@@ -128,6 +132,7 @@ fn write_in(tape: &TapeFile<'_>, table: &mut [u32], asked: Asked, out: &mut [u8]
         return write_blocks(tape, table, asked, out);
     }
     if blocks < 1024 {
+        // No heap: the table is on the stack.
         let mut more = [0u32; 1024];
         return write_in(tape, &mut more, asked, out);
     }
@@ -138,6 +143,7 @@ fn write_in(tape: &TapeFile<'_>, table: &mut [u32], asked: Asked, out: &mut [u8]
 pub fn write_tape(tape: &TapeFile<'_>, asked: Asked, out: &mut [u8]) -> usize
     ensures { Walked (contents tape.now) asked out.old result out.new }
 {
+    // No heap: the table is on the stack.
     let mut table = [0u32; 64];
     write_in(tape, &mut table, asked, out)
 }

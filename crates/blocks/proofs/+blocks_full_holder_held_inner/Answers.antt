@@ -1,6 +1,5 @@
 use borrow.Author.Rules.{rules}
 use mathlib.Core.Path.{refl}
-use Prim.Native.Nat.{◌-◌}
 use Rattle.tape.proofs.Walk.{left-turn, left_behind}
 use Rattle.blocks.proofs.Steps.{inner-zero, inner_deep, held_whole, held_full, held_bare, blocks_done, blocks_ended, blocks_skipped, blocks_side, blocks_peri, blocks_turned}
 use Rattle.blocks.proofs.+blocks_full_holder_held_inner.Goals as goal

@@ -7,6 +7,3 @@ pub returns-then-is_framed : goal.returns-then-is_framed
 returns-then-is_framed c =
     let e = c.framed_turn.ensures in
     record { ks_after = e.ks_after (search rules) (search here_of); kept_at = λ k. e.kept_at (search here_of) k (search rules); next_value = e.next_value ∙ search rules; trim_value = e.trim_value (search rules) (search here_of); kept_value = e.kept_value (search rules) (search here_of); behind_value = e.behind_value (search rules) (search here_of) }
-
-pub returns : goal.returns
-returns c = record { ks_after = search rules; kept_at = search rules; next_value = search rules; trim_value = search rules; kept_value = search rules; behind_value = search rules }

@@ -1,6 +1,4 @@
-use Prim.Native.Nat.{◌-◌}
 use mathlib.Core.Path.{refl}
-use mathlib.Core.Bool.{false}
 use native.Mathlib.Omega.{arith}
 use Rattle.put_attrs.proofs.Written.{ahead_all, unquoted-last, piece-fits, piece_less, unquoted-turn}
 use Rattle.put_attrs.proofs.put_unquoted.Goals as goal

@@ -1,5 +1,4 @@
 use borrow.Author.Rules.{rules}
-use native.Mathlib.Omega.{arith}
 use Rattle.put_attrs.proofs.Listed.{valued-none, valued-some}
 use Rattle.put_attrs.proofs.put_valued.Goals as goal
 

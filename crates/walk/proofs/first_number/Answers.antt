@@ -1,5 +1,3 @@
-use Prim.Native.Nat.{◌-◌}
-use native.Mathlib.Omega.{arith}
 use Rattle.walk.proofs.Whole.{ahead_start, ahead_turn, number-zero, number_one}
 use Rattle.walk.proofs.first_number.Goals as goal
 

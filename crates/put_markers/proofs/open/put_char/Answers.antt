@@ -1,4 +1,3 @@
-use Prim.Native.Nat.{ℕ}
 use Rattle.tape.specs.File.{Tape, contents}
 use Rattle.attrs.specs.Attr.{attributes_of}
 use Rattle.events.specs.Event.{collected}
