@@ -24,7 +24,7 @@ use Rattle.tape.specs.declared.TapeFile.{TapeFile}
 use Rattle.tape.specs.declared.Sections.{Sections}
 use Rattle.admit.specs.declared.reason.Reason.{Reason}
 use Rattle.admit.specs.declared.reason.Reason.TheVariants.{Layout, Limits, Source, Names, Nodes, Depth, Nesting}
-use Rattle.admit.specs.Refusal.{Kept₁, Kept₂, Kept₃, Kept₄, Kept₅, Kept₆, Kept₇, Refusal, none, first, second, third, fourth, fifth, sixth, seventh, reason_number, refusal_number}
+use Rattle.admit.specs.Refusal.{Kept₁, Kept₂, Kept₃, Kept₄, Kept₅, Kept₆, Kept₇, Refusal, none, first, second, third, fourth, fifth, sixth, seventh, reason_number, refusal_number, said_of}
 use Rattle.admit.specs.Decide.{all_below, laid_out, small, good_byte, good_entry, good_names, label_cut, good_node, good_nodes, refusal_in, refusal}
 use Rattle.admit.proofs.All.{eq_is, le_is, same_is}
 
@@ -266,6 +266,10 @@ pub record Right (file : Bor Bytes) (r : Result TapeFile Reason) : Type 0 where
   pub same_file : IfOk r (λ t. t.file ≡ file)
   pub sections : IfOk r (λ t. t.sections ≡ sections_of file.now)
 
+-- the number of an answer is the one computed
+pub number-computed : {file : Bor Bytes} {r : Result TapeFile Reason} → Right file r → refusal_number r ≡ refusal file.now
+number-computed {file} p = refusal_unique p.number (refusal_right file.now)
+
 -- the reason with a number
 reason_with : ℕ → Reason
 reason_with n =
@@ -301,3 +305,11 @@ one_answer (Ok a) (Ok z) p q =
 one_answer (Ok a) (Err e) p q = absurd (omega (arith, refusal_unique p.number q.number, reason_some e))
 one_answer (Err d) (Ok z) p q = absurd (omega (arith, refusal_unique p.number q.number, reason_some d))
 one_answer (Err d) (Err e) p q = ap Err (sym (reason_back d) ∙ ap reason_with (refusal_unique p.number q.number) ∙ reason_back e)
+
+-- two answers that meet the contract say the same of the same bytes, whichever slices lend them
+pub one_said : {f g : Bor Bytes} (r s : Result TapeFile Reason) → f.now ≡ g.now → Right f r → Right g s → said_of r ≡ said_of s
+unfolding refusal_number said_of
+one_said (Ok a) (Ok z) h p q = ap Ok (p.sections ∙ ap sections_of h ∙ sym q.sections)
+one_said (Ok a) (Err e) h p q = absurd (omega (arith, refusal_unique (rw h at p.number) q.number, reason_some e))
+one_said (Err d) (Ok z) h p q = absurd (omega (arith, refusal_unique (rw h at p.number) q.number, reason_some d))
+one_said (Err d) (Err e) h p q = ap Err (sym (reason_back d) ∙ ap reason_with (refusal_unique (rw h at p.number) q.number) ∙ reason_back e)

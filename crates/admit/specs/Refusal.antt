@@ -2,6 +2,7 @@
 use Rattle.std.specs.Prelude.{ℕ, Result, Ok, Err}
 use Rattle.parts.specs.Bytes.{Bytes}
 use Rattle.tape.specs.File.{tape_of}
+use Rattle.tape.specs.declared.Sections.{Sections}
 use Rattle.tape.specs.declared.TapeFile.{TapeFile}
 use Rattle.nest.specs.Nest.{TooDeep, Nested}
 use Rattle.admit.specs.Rules.{LaidOut, Small, Utf8, GoodNames, GoodNodes}
@@ -67,3 +68,8 @@ reason_number Nesting = 7
 unfoldable pub refusal_number : Result TapeFile Reason → ℕ
 refusal_number (Ok t) = 0
 refusal_number (Err e) = reason_number e
+
+-- what an answer says of the bytes: the sections, or why they are refused
+unfoldable pub said_of : Result TapeFile Reason → Result Sections Reason
+said_of (Ok t) = Ok t.sections
+said_of (Err e) = Err e

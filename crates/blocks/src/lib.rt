@@ -51,7 +51,7 @@ fn holder_of(tape: &TapeFile<'_>, c: Cursor) -> Holder
 
 // A chapter on its line, with the numbers behind it.
 fn chapter(
-    book: &Book<'_>,
+    book: &Book<'_, '_>,
     span: Span,
     c: Cursor,
     level: u8,
@@ -92,7 +92,14 @@ fn open_run(level: usize, desk: &mut Desk, out: &mut [u8])
 
 // A verse and what follows it up to the next block, in a paragraph of its own.
 #[tactic(auto, using(crate::proofs::Places::run_whole))]
-fn verse_para(book: &Book<'_>, sifted: bool, c: Cursor, level: u8, desk: &mut Desk, out: &mut [u8])
+fn verse_para(
+    book: &Book<'_, '_>,
+    sifted: bool,
+    c: Cursor,
+    level: u8,
+    desk: &mut Desk,
+    out: &mut [u8],
+)
     ensures { member_of_of (contents book.now.tape) (uncut sifted) c.at ≡ Listed → is_top_level_block_of (contents book.now.tape) c.at ≡ false → desk_of (contents book.now.tape).source desk.new out.new ≡ emit_all (desk_of (contents book.now.tape).source desk.old out.old) (run_in (contents book.now.tape) (depth_at level) level c.at (nodes_in (contents book.now.tape) (uncut sifted) (next_sibling (contents book.now.tape) c.at))) }
 {
     let run = Span { cut: true, sifted };
@@ -104,7 +111,7 @@ fn verse_para(book: &Book<'_>, sifted: bool, c: Cursor, level: u8, desk: &mut De
 
 // Such a paragraph, and the list behind it.
 fn verse_run(
-    book: &Book<'_>,
+    book: &Book<'_, '_>,
     sifted: bool,
     c: Cursor,
     level: u8,
@@ -122,7 +129,7 @@ fn verse_run(
 
 // A block on its line.
 fn block(
-    book: &Book<'_>,
+    book: &Book<'_, '_>,
     span: Span,
     c: Cursor,
     level: u8,
@@ -140,7 +147,7 @@ fn block(
 
 // A turn along blocks that enters no sidebar and no periph.
 fn block_turn(
-    book: &Book<'_>,
+    book: &Book<'_, '_>,
     sifted: bool,
     c: Cursor,
     level: u8,
@@ -172,7 +179,7 @@ fn block_turn(
 // A holder with blocks inside.
 #[cycle(blocks_full_holder_held_inner)]
 fn full_holder(
-    book: &Book<'_>,
+    book: &Book<'_, '_>,
     c: Cursor,
     sidebar: bool,
     level: u8,
@@ -188,7 +195,7 @@ fn full_holder(
 
 // A sidebar or periph: blocks inside, or nothing.
 #[cycle(blocks_full_holder_held_inner)]
-fn held(book: &Book<'_>, c: Cursor, sidebar: bool, level: u8, desk: &mut Desk, out: &mut [u8])
+fn held(book: &Book<'_, '_>, c: Cursor, sidebar: bool, level: u8, desk: &mut Desk, out: &mut [u8])
     ensures { desk_of (contents book.now.tape).source desk.new out.new ≡ emit_all (desk_of (contents book.now.tape).source desk.old out.old) (item (line_item level) ∷ holder_in (contents book.now.tape) (depth_at level) level sidebar c.at) }
 {
     let span = Span {
@@ -206,7 +213,7 @@ fn held(book: &Book<'_>, c: Cursor, sidebar: bool, level: u8, desk: &mut Desk, o
 // The blocks inside a sidebar or periph.
 #[cycle(blocks_full_holder_held_inner)]
 fn inner(
-    book: &Book<'_>,
+    book: &Book<'_, '_>,
     sifted: bool,
     first: Option<Cursor>,
     level: u8,
@@ -224,7 +231,7 @@ fn inner(
 // A list of blocks.
 #[cycle(blocks_full_holder_held_inner)]
 pub fn blocks(
-    book: &Book<'_>,
+    book: &Book<'_, '_>,
     sifted: bool,
     first: Option<Cursor>,
     level: u8,

@@ -29,6 +29,17 @@ module _ (l h x : ℕ) where
   unfolding within
   inside m n = rw (le-leb l x m, le-leb x h n)
 
+-- a range of one number
+pub one_point : (n x : ℕ) → eqb x n ≡ within (n to n) x
+one_point n x = go (eqb x n) refl (leb x n) refl
+  where
+    go : (t : Bool) → eqb x n ≡ t → (u : Bool) → leb x n ≡ u → t ≡ within (n to n) x
+    go true e u f = let q = eqb-true x n e in sym (inside n n x (omega arith) (omega arith))
+    go false e true f =
+        let q = eqb-false x n e in
+        let k = leb-true x n f in sym (below n n x (omega arith))
+    go false e false f = let k = leb-false x n f in sym (beyond n n x (omega arith))
+
 -- ---- the rows of table 3-7
 
 -- a byte that is missing may be taken for 0

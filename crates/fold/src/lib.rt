@@ -56,7 +56,7 @@ fn free(claim: Claim, alt: bool, published: bool) -> Claim
 }
 
 // What a node behind an anchor is to its fold.
-pub fn claims(book: &Book<'_>, c: Cursor, anchor: Kind, alt: bool, published: bool) -> Claim
+pub fn claims(book: &Book<'_, '_>, c: Cursor, anchor: Kind, alt: bool, published: bool) -> Claim
     ensures { result ≡ claim_of (contents book.now.tape) anchor.code alt published c.at }
 {
     if render::is_blank(book, c) {

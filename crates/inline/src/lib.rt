@@ -22,7 +22,14 @@ use tape::{Cursor, Kind};
 
 // A marker: its opening tags, what stands inside, its closing tags; or a leaf.
 #[cycle(inline_inside_marker_node_note_inline)]
-fn marker(book: &Book<'_>, c: Cursor, depth: usize, outer: bool, desk: &mut Desk, out: &mut [u8])
+fn marker(
+    book: &Book<'_, '_>,
+    c: Cursor,
+    depth: usize,
+    outer: bool,
+    desk: &mut Desk,
+    out: &mut [u8],
+)
     ensures { desk_of (contents book.now.tape).source desk.new out.new ≡ emit_all (desk_of (contents book.now.tape).source desk.old out.old) (marker_as (inside_of (contents book.now.tape) depth) (contents book.now.tape) c.at outer (role_of (contents book.now.tape) c.at)) }
 {
     let role = roles::role_of(&book.tape, c);
@@ -37,7 +44,14 @@ fn marker(book: &Book<'_>, c: Cursor, depth: usize, outer: bool, desk: &mut Desk
 
 // One node that is no text; `outer` says whether inline content follows its parent.
 #[cycle(inline_inside_marker_node_note_inline)]
-pub fn node(book: &Book<'_>, c: Cursor, depth: usize, outer: bool, desk: &mut Desk, out: &mut [u8])
+pub fn node(
+    book: &Book<'_, '_>,
+    c: Cursor,
+    depth: usize,
+    outer: bool,
+    desk: &mut Desk,
+    out: &mut [u8],
+)
     ensures { desk_of (contents book.now.tape).source desk.new out.new ≡ emit_all (desk_of (contents book.now.tape).source desk.old out.old) (node_in_of (inside_of (contents book.now.tape) depth) (contents book.now.tape) c.at outer) }
 {
     let kind = c.kind(&book.tape);
@@ -53,7 +67,7 @@ pub fn node(book: &Book<'_>, c: Cursor, depth: usize, outer: bool, desk: &mut De
 // What stands inside a container.
 #[cycle(inline_inside_marker_node_note_inline)]
 pub fn inside(
-    book: &Book<'_>,
+    book: &Book<'_, '_>,
     c: Cursor,
     depth: usize,
     outer: bool,
@@ -91,7 +105,7 @@ pub fn inside(
 // A list of inline children; `behind` is what is known of whether inline content follows their parent, `outer` whether it follows the parent's own.
 #[cycle(inline_inside_marker_node_note_inline)]
 pub fn inline(
-    book: &Book<'_>,
+    book: &Book<'_, '_>,
     span: Span,
     parent: Cursor,
     first: Option<Cursor>,
@@ -139,7 +153,7 @@ pub fn inline(
 // The children of a note.
 #[cycle(inline_inside_marker_node_note_inline)]
 fn note_inline(
-    book: &Book<'_>,
+    book: &Book<'_, '_>,
     parent: Cursor,
     first: Option<Cursor>,
     depth: usize,

@@ -129,7 +129,7 @@ fn past(kept: Option<Cursor>, c: Cursor, next: Option<Cursor>) -> Option<Cursor>
 
 // Whether inline content follows the parent, asked unless it is known.
 #[tactic(auto, unfolding(crate::specs::Turn::learnt, crate::specs::Turn::behind_of))]
-pub fn ask(book: &Book<'_>, parent: Cursor, outer: bool, behind: Behind) -> Behind
+pub fn ask(book: &Book<'_, '_>, parent: Cursor, outer: bool, behind: Behind) -> Behind
     ensures { result ≡ learnt (behind_of (contents book.now.tape) parent outer behind) }
 {
     match behind {
@@ -155,7 +155,7 @@ pub fn follows(behind: Behind) -> bool
 
 // Looks behind a text: what follows it, and then what follows the parent, is looked for only where the text ends with white space.
 fn wait(
-    book: &Book<'_>,
+    book: &Book<'_, '_>,
     parent: Cursor,
     outer: bool,
     c: Cursor,
@@ -206,7 +206,7 @@ fn runs_at(tape: &TapeFile<'_>, next: Option<Cursor>) -> bool
 
 // Looks behind a text; most that end with white space are followed at once by a char.
 fn glance(
-    book: &Book<'_>,
+    book: &Book<'_, '_>,
     parent: Cursor,
     outer: bool,
     c: Cursor,
@@ -235,7 +235,7 @@ fn glance(
 // A text as it is normalized, with what was looked for behind it.
 #[tactic(auto, using(crate::proofs::Laws::looked_text, crate::proofs::Laws::looked_kept, crate::proofs::Laws::looked_known))]
 fn look(
-    book: &Book<'_>,
+    book: &Book<'_, '_>,
     parent: Cursor,
     outer: bool,
     c: Cursor,
@@ -268,7 +268,7 @@ fn still(trim: bool, n: Normalized) -> bool
 
 // A text of a list, made lean and read from its front.
 fn worded_turn(
-    book: &Book<'_>,
+    book: &Book<'_, '_>,
     parent: Cursor,
     outer: bool,
     c: Cursor,
@@ -300,7 +300,7 @@ fn worded_turn(
 
 // A text of a list that is told by its frame.
 fn framed_turn(
-    book: &Book<'_>,
+    book: &Book<'_, '_>,
     parent: Cursor,
     outer: bool,
     c: Cursor,
@@ -335,7 +335,7 @@ fn framed_turn(
 
 // A text of a list.
 fn words_turn(
-    book: &Book<'_>,
+    book: &Book<'_, '_>,
     parent: Cursor,
     outer: bool,
     c: Cursor,
@@ -381,7 +381,7 @@ fn words_turn(
 
 // A verse of a list, with the numbers behind it.
 fn anchor_turn(
-    book: &Book<'_>,
+    book: &Book<'_, '_>,
     span: Span,
     c: Cursor,
     behind: Behind,
@@ -437,7 +437,7 @@ fn passed_turn(
 
 // A turn along a list that enters no marker.
 pub fn plain_turn(
-    book: &Book<'_>,
+    book: &Book<'_, '_>,
     span: Span,
     parent: Cursor,
     outer: bool,
@@ -477,7 +477,7 @@ fn is_first(parent: Cursor, c: Cursor) -> bool
 }
 
 // The text of a note's child, made lean: the caller's word goes from the first child.
-fn note_text<'a>(book: &Book<'a>, parent: Cursor, c: Cursor) -> &'a [u8]
+fn note_text<'a>(book: &Book<'a, '_>, parent: Cursor, c: Cursor) -> &'a [u8]
     ensures { result.now ≡ lean (note_text (contents book.now.tape) (parent.at + 1) c.at) }
 {
     if is_first(parent, c) {
@@ -488,7 +488,7 @@ fn note_text<'a>(book: &Book<'a>, parent: Cursor, c: Cursor) -> &'a [u8]
 
 // A text of a note.
 fn note_words(
-    book: &Book<'_>,
+    book: &Book<'_, '_>,
     parent: Cursor,
     outer: bool,
     c: Cursor,
@@ -520,7 +520,7 @@ fn note_words(
 
 // A turn along a note's children that enters no marker.
 pub fn note_turn(
-    book: &Book<'_>,
+    book: &Book<'_, '_>,
     parent: Cursor,
     outer: bool,
     c: Cursor,

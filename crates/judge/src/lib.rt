@@ -147,7 +147,8 @@ pub fn piece_number(w: Writer, n: usize, piece: &[u8]) -> u8
 fn good_bytes(s: &[u8]) -> bool
     ensures { result ≡ all_below (λ i. is_good (get_or s.now i 0)) (length s.now) }
 {
-    s.iter().all(u8::is_ascii_graphic)
+    // With no early exit, so that the bytes of a block are tested at once.
+    !parts::any_byte(s, |x| !x.is_ascii_graphic())
 }
 
 // Whether name bytes are good, and an entry behind so many names.

@@ -1,12 +1,12 @@
 -- Bytes moved down and zeros stored, one at a time; a close in its two stores; the file's parts gathered.
 use mathlib.Core.Path.{◌≡◌, refl, sym, ap, ◌∙◌}
-use mathlib.Core.List.{[], ◌++◌, append_assoc, append-nil}
-use Prim.Native.Nat.{ℕ, ◌+◌, ◌-◌, ◌≤◌, ◌<◌, min}
+use mathlib.Core.List.{[], ◌∷◌, ◌++◌, append_assoc, append-nil}
+use Prim.Native.Nat.{ℕ, suc, ◌+◌, ◌-◌, ◌≤◌, ◌<◌, min}
 use mathlib.Core.Bool.{Bool, true, false}
 use native.Mathlib.Nat.{min-eq_left, min-eq_right, min-le_left}
 use native.Mathlib.Omega.{arith}
-use lib.ListN.{length, get_or, take, drop, replicate, length-append, length-drop, length-replicate, take-append-drop, drop_of_length-le}
-use lib.Seq.{paste, drop-drop, take_at, drop-append-le, get_or-drop, get_or-append-add, length-take-le}
+use lib.ListN.{length, get_or, set, take, drop, replicate, length-append, length-drop, length-replicate, take-append-drop, drop_of_length-le}
+use lib.Seq.{paste, drop-cons, set_at, drop-drop, take_at, drop-append-le, get_or-drop, get_or-append-add, length-take-le}
 use lib.Dec.{leb}
 use borrow.Author.Tests.{leb-true, leb-false}
 use Rattle.parts.specs.Bytes.{Bytes, part}
@@ -22,6 +22,21 @@ use Rattle.layout.proofs.Laid.{part_length, over-mid, part-past, part_front, Cou
 use Rattle.layout.proofs.Turn.{length_rev}
 
 -- ---- one byte more of a run
+
+pub over-more : (b p : Bytes) (at x : ℕ) {k : ℕ} → k ≡ length p → at + k < length b → set (over b at p) (at + k) x ≡ over b at (p ++ (x ∷ []))
+unfolding over
+over-more b p at x {k} e h =
+    let l : length (take at b ++ p) ≡ at + k = length-append (take at b) p ∙ omega (arith, length-take-le at b (omega arith)) in
+    let n : at + length (p ++ (x ∷ [])) ≡ suc (at + k) = ap (λ (m : ℕ). at + m) (length-append p (x ∷ [])) ∙ omega arith in
+    let d : drop (at + length p) b ≡ get_or b (at + k) 0 ∷ drop (suc (at + k)) b = ap (λ (m : ℕ). drop (at + m) b) (sym e) ∙ drop-cons b (at + k) 0 h in
+    ap (λ (s : Bytes). set (take at b ++ (p ++ s)) (at + k) x) d
+    ∙ ap (λ (s : Bytes). set s (at + k) x) (sym (append_assoc (take at b) p (get_or b (at + k) 0 ∷ drop (suc (at + k)) b)))
+    ∙ set_at (take at b ++ p) (get_or b (at + k) 0) (drop (suc (at + k)) b) x (at + k) l
+    ∙ regroup (take at b) p x (drop (suc (at + k)) b)
+    ∙ ap (λ (m : ℕ). take at b ++ ((p ++ (x ∷ [])) ++ drop m b)) (sym n)
+  where
+    regroup : (a p : Bytes) (x : ℕ) (z : Bytes) → (a ++ p) ++ (x ∷ z) ≡ a ++ ((p ++ (x ∷ [])) ++ z)
+    regroup a p x z = simp append_assoc
 
 -- so many zeros
 abbrev zeros : ℕ → Bytes

@@ -37,6 +37,25 @@ reversed_parts p q z {k} {l} e₁ e₂ =
     let d : drop l (p ++ (q ++ z)) ≡ z = ap (drop l) w ∙ drop_at (p ++ q) z l n in
     λ i. take_at p (q ++ z) k e₁ i ++ (reverse (s i) ++ d i)
 
+reverse_both : (x y : Bytes) → reverse (reverse x ++ reverse y) ≡ y ++ x
+reverse_both x y = reverse-append (reverse x) (reverse y) ∙ rw (reverse-reverse x, reverse-reverse y)
+
+-- three reversals exchange two parts
+pub exchanged_parts : (p x y z : Bytes) {lo mid hi : ℕ} → length p ≡ lo → lo + length x ≡ mid → mid + length y ≡ hi
+    → reversed (reversed (reversed (p ++ (x ++ (y ++ z))) lo mid) mid hi) lo hi ≡ p ++ (y ++ (x ++ z))
+exchanged_parts p x y z {lo} {mid} {hi} e₁ e₂ e₃ =
+    let lx : length (reverse x) ≡ length x = length_rev x in
+    let ly : length (reverse y) ≡ length y = length_rev y in
+    let px : length (p ++ reverse x) ≡ mid = length-append p (reverse x) ∙ omega arith in
+    let xy : lo + length (reverse x ++ reverse y) ≡ hi = ap (λ (n : ℕ). lo + n) (length-append (reverse x) (reverse y)) ∙ omega arith in
+    ap (λ (w : Bytes). reversed (reversed w mid hi) lo hi) (reversed_parts p x (y ++ z) e₁ e₂)
+    ∙ ap (λ (w : Bytes). reversed (reversed w mid hi) lo hi) (sym (append_assoc p (reverse x) (y ++ z)))
+    ∙ ap (λ (w : Bytes). reversed w lo hi) (reversed_parts (p ++ reverse x) y z px e₃)
+    ∙ ap (λ (w : Bytes). reversed w lo hi) (simp append_assoc)
+    ∙ reversed_parts p (reverse x ++ reverse y) z e₁ xy
+    ∙ ap (λ (w : Bytes). p ++ (w ++ z)) (reverse_both x y)
+    ∙ ap (λ (w : Bytes). p ++ w) (append_assoc y x z)
+
 pub exchange_parts : (p x y z : Bytes) {lo mid hi : ℕ} → length p ≡ lo → lo + length x ≡ mid → mid + length y ≡ hi
     → exchange (p ++ (x ++ (y ++ z))) lo mid hi ≡ p ++ (y ++ (x ++ z))
 unfolding exchange
@@ -48,6 +67,25 @@ exchange_parts p x y z {lo} {mid} {hi} e₁ e₂ e₃ =
     let n : length (p ++ (x ++ y)) ≡ hi = simp length-append (omega arith) in
     let c : drop hi (p ++ (x ++ (y ++ z))) ≡ z = ap (drop hi) w ∙ drop_at (p ++ (x ++ y)) z hi n in
     λ i. take_at p (x ++ (y ++ z)) lo e₁ i ++ (b i ++ (a i ++ c i))
+
+-- any list as four parts
+pub quarters : (s : Bytes) (lo mid hi : ℕ) → lo ≤ mid → mid ≤ hi → s ≡ take lo s ++ (part s lo (mid - lo) ++ (part s mid (hi - mid) ++ drop hi s))
+quarters s lo mid hi h₁ h₂ =
+    sym (take-append-drop lo s) ∙ ap (λ (z : Bytes). take lo s ++ z)
+    (cut s lo (mid - lo) {j = mid} (omega arith) ∙ ap (λ (z : Bytes). part s lo (mid - lo) ++ z) (cut s mid (hi - mid) {j = hi} (omega arith)))
+
+-- what three calls of `reverse` leave
+pub exchanged : (s : Bytes) (lo mid hi : ℕ) {b c e : Bytes} → lo ≤ mid → mid ≤ hi → hi ≤ length s → b ≡ reversed s lo mid → c ≡ reversed b mid hi → e ≡ reversed c lo hi
+    → e ≡ exchange s lo mid hi
+unfolding exchange
+exchanged s lo mid hi h₁ h₂ h₃ eb ec ee =
+    let p : Bytes = take lo s in
+    let x : Bytes = part s lo (mid - lo) in
+    let y : Bytes = part s mid (hi - mid) in
+    let lx : length x ≡ mid - lo = part_length s lo (mid - lo) (omega arith) in
+    let ly : length y ≡ hi - mid = part_length s mid (hi - mid) (omega arith) in
+    ee ∙ ap (λ (w : Bytes). reversed w lo hi) (ec ∙ ap (λ (w : Bytes). reversed w mid hi) (eb ∙ ap (λ (w : Bytes). reversed w lo mid) (quarters s lo mid hi h₁ h₂)))
+    ∙ exchanged_parts p x y (drop hi s) {lo = lo} {mid = mid} {hi = hi} (length-take-le lo s (omega arith)) (omega arith) (omega arith)
 
 -- what `rotate_left` leaves
 pub rotated : (s : Bytes) (lo mid hi : ℕ) {x : Bytes} → lo ≤ mid → mid ≤ hi → hi ≤ length s

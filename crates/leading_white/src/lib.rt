@@ -43,7 +43,7 @@ fn white_ahead(solids: &[u32], s: &[u8], start: usize, len: usize) -> usize
 }
 
 // The bytes of white space that the text of a node begins with, where it has so many bytes.
-fn white_of(book: &Book<'_>, c: Cursor, len: usize) -> usize
+fn white_of(book: &Book<'_, '_>, c: Cursor, len: usize) -> usize
     ensures { 0 < len → len ≡ length (text_at_of (contents book.now.tape) c.at) → result ≡ white_len Set.Ascii (text_at_of (contents book.now.tape) c.at) }
 {
     let start = long(c.start(&book.tape));
@@ -81,7 +81,7 @@ pub fn lean_of(s: &[u8]) -> &[u8]
 }
 
 // The text of a node, made lean.
-pub fn lean_text<'a>(book: &Book<'a>, c: Cursor) -> &'a [u8]
+pub fn lean_text<'a>(book: &Book<'a, '_>, c: Cursor) -> &'a [u8]
     ensures { result.now ≡ lean (text_at_of (contents book.now.tape) c.at) }
 {
     let s = c.text(&book.tape);

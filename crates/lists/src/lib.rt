@@ -93,7 +93,7 @@ pub fn past_run(
 }
 
 // Both numbers of an anchor, from the list behind it, and where that list goes on.
-pub fn fold_in(book: &Book<'_>, span: Span, kind: Kind, first: Option<Cursor>) -> Folds
+pub fn fold_in(book: &Book<'_, '_>, span: Span, kind: Kind, first: Option<Cursor>) -> Folds
     ensures result_value { folded_in (contents book.now.tape) span result ≡ fold_at (contents book.now.tape) kind.code (nodes_in (contents book.now.tape) span first) }
     ensures rest_bound { left (contents book.now.tape) result.rest ≤ left (contents book.now.tape) first }
     ensures value { result ≡ folds_at (contents book.now.tape) span kind.code first }

@@ -8,7 +8,7 @@ use native.Mathlib.Numerals.{add-one}
 use lib.ListN.{length, get_or, take, drop, drop_of_length-le, length-drop, length-take}
 use lib.Seq.{drop-cons, take_all, drop-drop, take-nil, take-take}
 use lib.Dec.{eqb}
-use borrow.Author.Tests.{eq-eqb, ne_eqb, eqb-true}
+use borrow.Author.Tests.{eq-eqb, ne_eqb, eqb-true, eqb-false}
 use Rattle.std.specs.List.{list_all, zip}
 use Rattle.std.specs.Cmp.Lexicographic.{pointwise}
 use Rattle.parts.specs.Bytes.{Bytes, same, begins, first_at, find, part}
@@ -94,6 +94,24 @@ same-pointwise [] [] = refl
 same-pointwise [] (y ∷ z) = refl
 same-pointwise (x ∷ a) [] = refl
 same-pointwise (x ∷ a) (y ∷ z) = ap (λ (t : Bool). eqb x y && t) (same-pointwise a z)
+
+eqb_swap : (x y : ℕ) → eqb y x ≡ eqb x y
+eqb_swap x y = go (eqb x y) refl
+  where
+    go : (t : Bool) → eqb x y ≡ t → eqb y x ≡ t
+    go true e = eq-eqb y x (sym (eqb-true x y e))
+    go false e = ne_eqb y x (λ h. eqb-false x y e (sym h))
+
+-- of texts of one length, that the one begins with the other is that they are the same
+pub same-begins : (a z : Bytes) {t : Bool} → length a ≡ length z → t ≡ begins z a → t ≡ same a z
+unfolding begins same
+same-begins a z h e = e ∙ go a z h
+  where
+    go : (a z : Bytes) → length a ≡ length z → begins z a ≡ same a z
+    go [] [] h = refl
+    go [] (y ∷ z) h = absurd (omega arith)
+    go (x ∷ a) [] h = absurd (omega arith)
+    go (x ∷ a) (y ∷ z) h = rw (go a z (omega arith), eqb_swap x y)
 
 pub same_short : (a z : Bytes) → (length a ≡ length z → ⊥) → false ≡ same a z
 unfolding same

@@ -71,3 +71,11 @@ very_self w ea en = very_at ea en (very (sym (take_all (length w.now) w.now (ome
 -- behind the end nothing is left
 pub rest-none : (s : Bytes) {a : ℕ} → length s ≤ a → take (length s - length s) (drop (length s) s) ≡ part s a (length s - a)
 rest-none s {a} h = drop_past s a h ∙ sym (drop-part s a)
+
+-- a front of what is left, and all of it where that is no longer
+pub very_front : {w r q : Bor Bytes} {a l n : ℕ} → VeryPart w r a l → r.now ≡ drop a w.now → q.now ≡ take n r.now → q.ref_ptr.0 ≡ r.ref_ptr.0
+    → q.ref_ptr.1 ≡ r.ref_ptr.1 → VeryPart w q a n
+very_front {n = n} (very e k o) er eq k' o' = very (eq ∙ ap (take n) er) (k' ∙ k) (o' ∙ o)
+
+pub very_whole : {w r : Bor Bytes} {a l n : ℕ} → VeryPart w r a l → r.now ≡ drop a w.now → length r.now ≤ n → VeryPart w r a n
+very_whole {r = r} {n = n} (very e k o) er h = very (sym (take_all n r.now h) ∙ ap (take n) er) k o

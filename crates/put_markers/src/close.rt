@@ -14,7 +14,7 @@ use tape::Cursor;
 
 // The end of a char, and of the `ref` around what it links.
 #[tactic(auto, using(crate::proofs::Closes::flat_closed, crate::proofs::Closes::char_closed, crate::proofs::Closes::link_closed))]
-pub fn close_char(book: &Book<'_>, c: Cursor, desk: &mut Desk, out: &mut [u8])
+pub fn close_char(book: &Book<'_, '_>, c: Cursor, desk: &mut Desk, out: &mut [u8])
     ensures { desk_of (contents book.now.tape).source desk.new out.new ≡ emit_all (desk_of (contents book.now.tape).source desk.old out.old) (marker_closes (contents book.now.tape) c.at char) }
 {
     if c.is_nested(&book.tape) && link_of(book, c).is_some() {
@@ -24,7 +24,7 @@ pub fn close_char(book: &Book<'_>, c: Cursor, desk: &mut Desk, out: &mut [u8])
 }
 
 // What closes a marker.
-pub fn close_marker(book: &Book<'_>, c: Cursor, role: Role, desk: &mut Desk, out: &mut [u8])
+pub fn close_marker(book: &Book<'_, '_>, c: Cursor, role: Role, desk: &mut Desk, out: &mut [u8])
     ensures { desk_of (contents book.now.tape).source desk.new out.new ≡ emit_all (desk_of (contents book.now.tape).source desk.old out.old) (marker_closes (contents book.now.tape) c.at (role_in role)) }
 {
     // A match on the roles: each writes its own strokes, and the compiler asks for a role left out.

@@ -120,7 +120,7 @@ fn open_link(tape: &TapeFile<'_>, link: Option<Value>, desk: &mut Desk, out: &mu
 }
 
 // A char, and the `ref` around what it links.
-pub fn open_char(book: &Book<'_>, c: Cursor, desk: &mut Desk, out: &mut [u8])
+pub fn open_char(book: &Book<'_, '_>, c: Cursor, desk: &mut Desk, out: &mut [u8])
     ensures { desk_of (contents book.now.tape).source desk.new out.new ≡ emit_all (desk_of (contents book.now.tape).source desk.old out.old) (marker_opens (contents book.now.tape) c.at char) }
 {
     put_char(desk, out, &book.tape, c);
@@ -162,7 +162,7 @@ fn put_note<'a>(desk: &mut Desk, out: &mut [u8], tape: &TapeFile<'a>, c: Cursor)
 }
 
 // What opens a marker.
-pub fn open_marker(book: &Book<'_>, c: Cursor, role: Role, desk: &mut Desk, out: &mut [u8])
+pub fn open_marker(book: &Book<'_, '_>, c: Cursor, role: Role, desk: &mut Desk, out: &mut [u8])
     ensures { desk_of (contents book.now.tape).source desk.new out.new ≡ emit_all (desk_of (contents book.now.tape).source desk.old out.old) (marker_opens (contents book.now.tape) c.at (role_in role)) }
 {
     // A match on the roles: each writes its own strokes, and the compiler asks for a role left out.

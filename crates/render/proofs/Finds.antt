@@ -1,8 +1,7 @@
 -- The first node of a walk that passes a test.
 use mathlib.Core.Path.{◌≡◌, refl, sym, ap, ◌∙◌}
 use mathlib.Core.Bool.{Bool, true, false, not}
-use mathlib.Core.List.{List, [], ◌∷◌, ◌++◌}
-use contract.BorrowLft.{◌⊑◌, ⊑_meet, ⊑_static}
+use mathlib.Core.List.{List, [], ◌∷◌}
 use Prim.Native.Nat.{ℕ}
 use Rattle.tape.specs.File.{Tape}
 use Rattle.tape.specs.Tree.{first_child, next_sibling, walk_from, found}
@@ -63,17 +62,3 @@ module _ (t : Tape) (k : ℕ) {s r : Step} (es : s ≡ first_child t k) where
   pub text-found : r ≡ first_with (is_text t) (walk_from t s) → r ≡ first_text_of t k
   unfolding first_text_of
   text-found er = er ∙ ap (first_with (is_text t)) (children_walk t k es)
-
--- ---- a closure that borrows a book lives as long as what it borrows
-
-pub lives : (k a b : List ℕ) → k ⊑ a → k ⊑ b
-    → k ⊑ (a ++ (((b ++ []) ++ []) ++ ((b ++ []) ++ [])) ++ []) ++ (a ++ (((b ++ []) ++ []) ++ ((b ++ []) ++ [])) ++ [])
-lives k a b ha hb = ⊑_meet k _ _ (part a b ha hb) (part a b ha hb)
-  where
-    static : k ⊑ []
-    static = ⊑_static k
-
-    part : (a b : List ℕ) → k ⊑ a → k ⊑ b → k ⊑ a ++ (((b ++ []) ++ []) ++ ((b ++ []) ++ [])) ++ []
-    part a b ha hb =
-        let inner : k ⊑ (b ++ []) ++ [] = ⊑_meet k (b ++ []) [] (⊑_meet k b [] hb static) static in
-        ⊑_meet k (a ++ (((b ++ []) ++ []) ++ ((b ++ []) ++ []))) [] (⊑_meet k a _ ha (⊑_meet k _ _ inner inner)) static

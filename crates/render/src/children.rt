@@ -2,7 +2,7 @@
 ghost use Rattle.std.specs.Prelude.{◌≡◌, ℕ, Bool};
 ghost use Rattle.tape.specs.File.{contents};
 ghost use Rattle.tape.specs.Tree.{walk_from};
-ghost use Rattle.render.specs.First.{first_with};
+ghost use Rattle.render.specs.First.{first_with, IsNodeTest};
 ghost use Rattle.render.specs.Children.{has_content_of, is_plain_text_of, first_text_of};
 
 use crate::shape::is_content;
@@ -15,10 +15,8 @@ pub fn find<F: Fn(Cursor) -> bool>(
     from: Option<Cursor>,
     passes: F,
 ) -> Option<Cursor>
-    ghost test: { ℕ → Bool }
-    requires callable { F.IsAlwaysCallable passes }
-    requires tested { (c : _) (r : Bool) → F.post passes c r → r ≡ test c.at }
-    ensures { result ≡ first_with test (walk_from (contents tape.now) from) }
+    requires { F.IsAlwaysCallable passes }
+    ensures { (test : ℕ → Bool) → IsNodeTest (F.post passes) test → result ≡ first_with test (walk_from (contents tape.now) from) }
 {
     let mut step = from;
     while let Some(c) = step {
@@ -31,7 +29,7 @@ pub fn find<F: Fn(Cursor) -> bool>(
 }
 
 // Whether a node has content besides its attributes and close.
-pub fn has_content(book: &Book<'_>, c: Cursor) -> bool
+pub fn has_content(book: &Book<'_, '_>, c: Cursor) -> bool
     ensures { result ≡ has_content_of (contents book.now.tape) c.at }
 {
     find(

@@ -12,7 +12,7 @@ use words::Set;
 
 // Whether a sibling is not passed over.
 #[tactic(auto, using(leading_white::proofs::Leans::blank_lean), unfolding(crate::specs::Follow::is_solid))]
-pub fn is_solid(book: &Book<'_>, c: Cursor) -> bool
+pub fn is_solid(book: &Book<'_, '_>, c: Cursor) -> bool
     ensures { result ≡ is_solid (contents book.now.tape) c.at }
 {
     match c.kind(&book.tape).code {
@@ -47,7 +47,7 @@ pub fn runs_on(tape: &TapeFile<'_>, c: Cursor) -> bool
 }
 
 // The first later sibling that is not passed over.
-pub fn next_solid(book: &Book<'_>, c: Cursor) -> Option<Cursor>
+pub fn next_solid(book: &Book<'_, '_>, c: Cursor) -> Option<Cursor>
     ensures { result ≡ next_solid_of (contents book.now.tape) c.at }
 {
     let next = c.next_sibling(&book.tape);
@@ -58,7 +58,7 @@ pub fn next_solid(book: &Book<'_>, c: Cursor) -> Option<Cursor>
 }
 
 // The next solid sibling of a child, from the one that was kept at the child before it: a run of blanks is passed once.
-pub fn solid_behind(book: &Book<'_>, c: Cursor, kept: Option<Cursor>) -> Option<Cursor>
+pub fn solid_behind(book: &Book<'_, '_>, c: Cursor, kept: Option<Cursor>) -> Option<Cursor>
     ensures { Kept (contents book.now.tape) c kept → result ≡ next_solid_of (contents book.now.tape) c.at }
 {
     match kept {
@@ -76,7 +76,7 @@ pub fn inline_at(tape: &TapeFile<'_>, s: Option<Cursor>) -> bool
 }
 
 // Whether the first later sibling that is not passed over is inline.
-pub fn inline_follows(book: &Book<'_>, c: Cursor) -> bool
+pub fn inline_follows(book: &Book<'_, '_>, c: Cursor) -> bool
     ensures { result ≡ inline_follows_of (contents book.now.tape) c.at }
 {
     inline_at(&book.tape, next_solid(book, c))
@@ -84,7 +84,7 @@ pub fn inline_follows(book: &Book<'_>, c: Cursor) -> bool
 
 // Whether inline content follows a parent, or, where it is inline, its own parent.
 #[tactic(auto, unfolding(crate::specs::Follow::followed))]
-pub fn followed(book: &Book<'_>, c: Cursor, outer: bool) -> bool
+pub fn followed(book: &Book<'_, '_>, c: Cursor, outer: bool) -> bool
     ensures { result ≡ is_followed (contents book.now.tape) c.at outer }
 {
     is_inline(&book.tape, c) && (outer || inline_follows(book, c))

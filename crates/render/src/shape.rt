@@ -118,7 +118,7 @@ pub fn is_category_marker(tape: &TapeFile<'_>, c: Cursor) -> bool
 
 // Whether a node is a Text of white space alone.
 #[tactic(auto, using(leading_white::proofs::Leans::blank_lean), unfolding(crate::specs::Shape::is_blank_text))]
-pub fn is_blank(book: &Book<'_>, c: Cursor) -> bool
+pub fn is_blank(book: &Book<'_, '_>, c: Cursor) -> bool
     ensures { result ≡ is_blank_text (contents book.now.tape) c.at }
 {
     c.kind(&book.tape).code == Kind::TEXT && words::is_blank(lean_text(book, c), Set::Unicode)
@@ -126,7 +126,7 @@ pub fn is_blank(book: &Book<'_>, c: Cursor) -> bool
 
 // Whether a child counts as content.
 #[tactic(auto, unfolding(crate::specs::Shape::is_content_of))]
-pub fn is_content(book: &Book<'_>, c: Cursor) -> bool
+pub fn is_content(book: &Book<'_, '_>, c: Cursor) -> bool
     ensures { result ≡ is_content_of (contents book.now.tape) c.at }
 {
     let kind = c.kind(&book.tape);

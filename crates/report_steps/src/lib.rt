@@ -69,16 +69,22 @@ fn end(rt: &impl Print, w: &mut Window, out: &mut [u8]) -> io::Result<()> {
 
 // ---- changed bytes
 
-// The first place at which two buffers of one length differ, or their length.
+// Whether two buffers differ at a place, the second going on with zeros.
+fn differ(a: &[u8], z: &[u8], i: usize) -> bool {
+    parts::byte_at(a, i) != parts::byte_at(z, i)
+}
+
+// The first place at which two buffers differ, or the length of the first.
 fn first_change(a: &[u8], z: &[u8]) -> usize {
-    a.iter().zip(z).position(|(x, y)| x != y).unwrap_or(a.len())
+    (0..a.len())
+        .position(|i| differ(a, z, i))
+        .unwrap_or(a.len())
 }
 
 // The place behind the last at which they differ, or 0.
 fn last_change(a: &[u8], z: &[u8]) -> usize {
-    a.iter()
-        .zip(z)
-        .rposition(|(x, y)| x != y)
+    (0..a.len())
+        .rposition(|i| differ(a, z, i))
         .map_or(0, |i| i + 1)
 }
 

@@ -165,7 +165,7 @@ fn has_ref(tape: &TapeFile<'_>, c: Cursor) -> bool
 
 // Whether what stands in a marker could be linked: `xt`, nested, with content and no `ref` inside; what is soonest told comes first.
 #[tactic(auto, unfolding(events::specs::Walk::can_link))]
-fn can_link(book: &Book<'_>, c: Cursor) -> bool
+fn can_link(book: &Book<'_, '_>, c: Cursor) -> bool
     ensures { result ≡ can_link (contents book.now.tape) c.at }
 {
     c.is_nested(&book.tape)
@@ -175,7 +175,7 @@ fn can_link(book: &Book<'_>, c: Cursor) -> bool
 }
 
 // The first `href` of what is linked.
-fn link_nested(book: &Book<'_>, c: Cursor) -> Option<Value>
+fn link_nested(book: &Book<'_, '_>, c: Cursor) -> Option<Value>
     ensures { sought_of (contents book.now.tape).source result ≡ link_of (contents book.now.tape) c.at }
 {
     if can_link(book, c) {
@@ -186,7 +186,7 @@ fn link_nested(book: &Book<'_>, c: Cursor) -> Option<Value>
 }
 
 // The same; most markers are not nested, and are told at once.
-pub fn link_of(book: &Book<'_>, c: Cursor) -> Option<Value>
+pub fn link_of(book: &Book<'_, '_>, c: Cursor) -> Option<Value>
     ensures { sought_of (contents book.now.tape).source result ≡ link_of (contents book.now.tape) c.at }
 {
     if !c.is_nested(&book.tape) {

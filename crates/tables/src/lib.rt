@@ -33,7 +33,7 @@ pub fn depth_at(level: u8) -> usize
 }
 
 // A cell with what stands in it.
-fn full_cell(book: &Book<'_>, c: Cursor, depth: usize, desk: &mut Desk, out: &mut [u8])
+fn full_cell(book: &Book<'_, '_>, c: Cursor, depth: usize, desk: &mut Desk, out: &mut [u8])
     ensures { desk_of (contents book.now.tape).source desk.new out.new ≡ emit_all (desk_of (contents book.now.tape).source desk.old out.old) (element cell (cell_attrs (contents book.now.tape) c.at) (inside_of (contents book.now.tape) depth as_inline c.at false)) }
 {
     open_cell(&book.tape, c, desk, out);
@@ -42,7 +42,7 @@ fn full_cell(book: &Book<'_>, c: Cursor, depth: usize, desk: &mut Desk, out: &mu
 }
 
 // A cell on its line.
-fn cell(book: &Book<'_>, c: Cursor, level: usize, depth: usize, desk: &mut Desk, out: &mut [u8])
+fn cell(book: &Book<'_, '_>, c: Cursor, level: usize, depth: usize, desk: &mut Desk, out: &mut [u8])
     ensures { desk_of (contents book.now.tape).source desk.new out.new ≡ emit_all (desk_of (contents book.now.tape).source desk.old out.old) (cell_in (inside_of (contents book.now.tape) depth) (contents book.now.tape) level c.at) }
 {
     desk.line(out, level);
@@ -55,7 +55,7 @@ fn cell(book: &Book<'_>, c: Cursor, level: usize, depth: usize, desk: &mut Desk,
 
 // The cells among a row's children.
 fn cells_along(
-    book: &Book<'_>,
+    book: &Book<'_, '_>,
     first: Option<Cursor>,
     level: usize,
     depth: usize,
@@ -73,7 +73,14 @@ fn cells_along(
     }
 }
 
-fn cells(book: &Book<'_>, row: Cursor, level: usize, depth: usize, desk: &mut Desk, out: &mut [u8])
+fn cells(
+    book: &Book<'_, '_>,
+    row: Cursor,
+    level: usize,
+    depth: usize,
+    desk: &mut Desk,
+    out: &mut [u8],
+)
     ensures { desk_of (contents book.now.tape).source desk.new out.new ≡ emit_all (desk_of (contents book.now.tape).source desk.old out.old) (cells_of (contents book.now.tape) depth level row.at) }
 {
     if depth == 0 {
@@ -89,7 +96,7 @@ fn cells(book: &Book<'_>, row: Cursor, level: usize, depth: usize, desk: &mut De
     )
 }
 
-fn row(book: &Book<'_>, c: Cursor, level: u8, desk: &mut Desk, out: &mut [u8])
+fn row(book: &Book<'_, '_>, c: Cursor, level: u8, desk: &mut Desk, out: &mut [u8])
     ensures { desk_of (contents book.now.tape).source desk.new out.new ≡ emit_all (desk_of (contents book.now.tape).source desk.old out.old) (row_e (contents book.now.tape) (depth_at level) level c.at) }
 {
     let wide = level as usize;
@@ -100,7 +107,7 @@ fn row(book: &Book<'_>, c: Cursor, level: u8, desk: &mut Desk, out: &mut [u8])
 
 // The rows that stand together from a step on.
 fn rows(
-    book: &Book<'_>,
+    book: &Book<'_, '_>,
     span: Span,
     first: Option<Cursor>,
     level: u8,
@@ -129,7 +136,7 @@ fn rows(
 
 // A table of the rows that stand together from a step on.
 pub fn table(
-    book: &Book<'_>,
+    book: &Book<'_, '_>,
     span: Span,
     first: Option<Cursor>,
     level: u8,

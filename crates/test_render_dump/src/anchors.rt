@@ -36,7 +36,7 @@ fn number(rt: &impl Print, tape: &TapeFile<'_>, folded: Option<Cursor>) -> io::R
     }
 }
 
-pub fn fold(rt: &impl Print, book: &Book<'_>, c: Cursor) -> io::Result<()> {
+pub fn fold(rt: &impl Print, book: &Book<'_, '_>, c: Cursor) -> io::Result<()> {
     let tape = &book.tape;
     let all = Span {
         cut: false,
@@ -49,7 +49,7 @@ pub fn fold(rt: &impl Print, book: &Book<'_>, c: Cursor) -> io::Result<()> {
     say::place(rt, folds.rest)
 }
 
-pub fn lines(rt: &impl Print, book: &Book<'_>, c: Cursor) -> io::Result<()> {
+pub fn lines(rt: &impl Print, book: &Book<'_, '_>, c: Cursor) -> io::Result<()> {
     label(rt, &book.tape, c)?;
     fold(rt, book, c)
 }

@@ -7,7 +7,7 @@ use tape::{Cursor, TapeFile};
 use words::Set;
 
 // Of each child whether inline content follows it; the solid sibling is kept along the way.
-fn each_follows(rt: &impl Print, book: &Book<'_>, c: Cursor) -> io::Result<()> {
+fn each_follows(rt: &impl Print, book: &Book<'_, '_>, c: Cursor) -> io::Result<()> {
     let tape = &book.tape;
     let mut next = c.first_child(tape);
     let mut kept = next;
@@ -135,7 +135,7 @@ fn alt(rt: &impl Print, text: &[u8]) -> io::Result<()> {
     }
 }
 
-fn own_lines(rt: &impl Print, book: &Book<'_>, c: Cursor) -> io::Result<()> {
+fn own_lines(rt: &impl Print, book: &Book<'_, '_>, c: Cursor) -> io::Result<()> {
     print!(rt; "{} follows ", c.at)?;
     each_follows(rt, book, c)?;
     println!(rt; "")?;
@@ -144,7 +144,7 @@ fn own_lines(rt: &impl Print, book: &Book<'_>, c: Cursor) -> io::Result<()> {
     println!(rt; " {}", align_name(align))
 }
 
-pub fn lines(rt: &impl Print, b: &Book<'_>, c: Cursor) -> io::Result<()> {
+pub fn lines(rt: &impl Print, b: &Book<'_, '_>, c: Cursor) -> io::Result<()> {
     let tape = &b.tape;
     own_lines(rt, b, c)?;
     attributes(rt, tape, c)?;

@@ -15,7 +15,7 @@ use std::io;
 use tape::{Cursor, Kind, Sections, TapeFile};
 
 // The lines that a node has by its kind.
-fn by_kind(rt: &impl Print, book: &Book<'_>, c: Cursor) -> io::Result<()> {
+fn by_kind(rt: &impl Print, book: &Book<'_, '_>, c: Cursor) -> io::Result<()> {
     match c.kind(&book.tape).code {
         Kind::ROOT | Kind::MARKER_OPEN => holders::lines(rt, book, c),
         Kind::TEXT => texts_of::lines(rt, book, c),
@@ -25,7 +25,7 @@ fn by_kind(rt: &impl Print, book: &Book<'_>, c: Cursor) -> io::Result<()> {
     }
 }
 
-fn nodes(rt: &impl Print, book: &Book<'_>) -> io::Result<()> {
+fn nodes(rt: &impl Print, book: &Book<'_, '_>) -> io::Result<()> {
     for at in 0..book.tape.sections.nodes {
         let c = Cursor::new(at);
         shapes::line(rt, book, c)?;

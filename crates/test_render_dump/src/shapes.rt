@@ -14,7 +14,7 @@ fn kinds(rt: &impl Print, tape: &TapeFile<'_>, c: Cursor) -> io::Result<()> {
 }
 
 // Blank, content, plain text, whether a text behind it is trimmed.
-fn contents(rt: &impl Print, book: &Book<'_>, c: Cursor) -> io::Result<()> {
+fn contents(rt: &impl Print, book: &Book<'_, '_>, c: Cursor) -> io::Result<()> {
     digit(rt, render::is_blank(book, c))?;
     digit(rt, render::has_content(book, c))?;
     digit(rt, render::is_plain_text(&book.tape, c))?;
@@ -22,7 +22,7 @@ fn contents(rt: &impl Print, book: &Book<'_>, c: Cursor) -> io::Result<()> {
 }
 
 // Whether inline content follows it, and follows it as a parent, by what follows its own.
-fn behind(rt: &impl Print, book: &Book<'_>, c: Cursor) -> io::Result<()> {
+fn behind(rt: &impl Print, book: &Book<'_, '_>, c: Cursor) -> io::Result<()> {
     digit(rt, render::inline_follows(book, c))?;
     digit(rt, render::followed(book, c, false))?;
     digit(rt, render::followed(book, c, true))
@@ -37,7 +37,7 @@ fn letter(shape: Shape) -> char {
     }
 }
 
-pub fn line(rt: &impl Print, book: &Book<'_>, c: Cursor) -> io::Result<()> {
+pub fn line(rt: &impl Print, book: &Book<'_, '_>, c: Cursor) -> io::Result<()> {
     print!(rt; "{} is ", c.at)?;
     kinds(rt, &book.tape, c)?;
     contents(rt, book, c)?;

@@ -95,7 +95,7 @@ fn normalized(rt: &impl Print, at: u32, text: &[u8], behind: bool) -> io::Result
     with_body(rt, at, text, parts::part(&body, 0, n), behind)
 }
 
-pub fn lines(rt: &impl Print, book: &Book<'_>, c: Cursor) -> io::Result<()> {
+pub fn lines(rt: &impl Print, book: &Book<'_, '_>, c: Cursor) -> io::Result<()> {
     let text = c.text(&book.tape);
     normalized(rt, c.at, text, render::inline_follows(book, c))?;
     print!(rt; "{} rest ", c.at)?;

@@ -202,11 +202,13 @@ fn replay(
     old: &mut [u8],
     out: &mut [u8],
 ) -> io::Result<()> {
-    let mut list = List { left: item };
-    let room = list.count().unwrap_or(0);
-    let first = list.byte().unwrap_or(0);
+    // A byte of the head that is missing counts 0.
+    let room = tape::length_of(item);
+    let list = List {
+        left: parts::from(item, 5),
+    };
     if room <= space.len() {
-        fill(&mut space[..room], first);
+        fill(&mut space[..room], parts::byte_at(item, 4));
         steps(rt, list, &mut space[..room], old, out)?;
     } else {
         println!(rt; "too much room")?;

@@ -34,7 +34,7 @@ fn first_number(tape: &TapeFile<'_>) -> u32
 }
 
 // The whole text through a window from one byte on; its length.
-fn write_text(book: &Book<'_>, number: u32, from: usize, out: &mut [u8]) -> usize
+fn write_text(book: &Book<'_, '_>, number: u32, from: usize, out: &mut [u8]) -> usize
     ensures value { number ≡ (first_state_of (contents book.now.tape)).number → result ≡ (whole_in (contents book.now.tape) from out.old).at }
     ensures out_after { number ≡ (first_state_of (contents book.now.tape)).number → out.new ≡ (whole_in (contents book.now.tape) from out.old).buf }
 {
@@ -48,7 +48,7 @@ fn write_text(book: &Book<'_>, number: u32, from: usize, out: &mut [u8]) -> usiz
 }
 
 // The whole text, if there is room for it; its length. A text that is no longer than a lent buffer is written there and copied: it takes one walk where a longer one takes two.
-fn write_aside(book: &Book<'_>, number: u32, aside: &mut [u8], out: &mut [u8]) -> usize
+fn write_aside(book: &Book<'_, '_>, number: u32, aside: &mut [u8], out: &mut [u8]) -> usize
     ensures { number ≡ (first_state_of (contents book.now.tape)).number → Walked (contents book.now.tape) Whole out.old result out.new }
 {
     let n = write_text(book, number, 0, aside);
@@ -65,7 +65,7 @@ fn write_aside(book: &Book<'_>, number: u32, aside: &mut [u8], out: &mut [u8]) -
 }
 
 // The same with a buffer for short texts.
-fn write_whole(book: &Book<'_>, number: u32, out: &mut [u8]) -> usize
+fn write_whole(book: &Book<'_, '_>, number: u32, out: &mut [u8]) -> usize
     ensures { number ≡ (first_state_of (contents book.now.tape)).number → Walked (contents book.now.tape) Whole out.old result out.new }
 {
     // No heap: the buffer is on the stack.
@@ -74,7 +74,7 @@ fn write_whole(book: &Book<'_>, number: u32, out: &mut [u8]) -> usize
 }
 
 // What is asked of an admitted tape; the length of its whole text.
-fn write_by(book: &Book<'_>, asked: Asked, out: &mut [u8]) -> usize
+fn write_by(book: &Book<'_, '_>, asked: Asked, out: &mut [u8]) -> usize
     ensures { Walked (contents book.now.tape) asked out.old result out.new }
 {
     let number = first_number(&book.tape);

@@ -54,6 +54,14 @@ paint_at p (x ∷ s) h = paint_at (dab p x) s (omega arith) ∙ more p.at (lengt
     more : (a n : ℕ) → a ≤ 2 ^ 64 - 1 → min (min (a + 1) (2 ^ 64 - 1) + n) (2 ^ 64 - 1) ≡ min (a + suc n) (2 ^ 64 - 1)
     more a n l = omega arith
 
+-- in an empty buffer nothing is stored
+pub paint-empty : (p : Page) (s : Bytes) → p.buf ≡ [] → (paint p s).buf ≡ []
+paint-empty p s e = go (paint p s).buf (paint-length p s ∙ ap length e)
+  where
+    go : (l : Bytes) → length l ≡ 0 → l ≡ []
+    go [] h = refl
+    go (x ∷ l) h = absurd (omega arith)
+
 -- ---- the closed form
 
 lay-dab : (buf : Bytes) (from at x : ℕ) (s : Bytes) → lay (stamp buf from at x) from (suc at) s ≡ lay buf from at (x ∷ s)

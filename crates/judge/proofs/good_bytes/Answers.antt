@@ -1,12 +1,13 @@
 use Rattle.std.proofs.Common.{ℕ, length, ◌∙◌, refl, rules}
+use mathlib.Core.Path.{◌≡◌, ap}
+use mathlib.Core.Bool.{Bool, true, false, not, ◌&&◌, ◌||◌}
+use mathlib.Core.List.{List, [], ◌∷◌}
 use lib.ListN.{get_or}
 use borrow.Author.Tests.{tests}
 use Rattle.std.specs.Bool.{Decides}
 use Rattle.std.specs.Char.{is_ascii_graphic}
-use Rattle.std.specs.List.{list_all}
+use Rattle.std.specs.List.{list_all, list_any}
 use Rattle.std.proofs.lemmas.Bool.Decides.{Decides-by_and, Decides-below_and, same_from_decides}
-use Rattle.std.proofs.lemmas.Iterator.{YieldsList-from_slice}
-use Rattle.std.proofs.lemmas.Iterator.Search.{all_from_yields_List}
 use Rattle.std.proofs.lemmas.List.Elements.{All-get_or, All-from_get_or}
 use Rattle.admit.specs.Decide.{all_below, good_byte}
 use Rattle.admit.specs.Pieces.{GoodByte}
@@ -19,6 +20,15 @@ good : (x : ℕ) → Decides (good_byte x) (GoodByte x)
 unfolding good_byte
 good x = search (rules, tests)
 
+-- no byte fails a test where all pass it
+none_fails : (p : ℕ → Bool) (s : List ℕ) → not (list_any (λ x. not (p x)) s) ≡ list_all p s
+none_fails p [] = refl
+none_fails p (x ∷ s) = go (p x) (list_any (λ y. not (p y)) s) (none_fails p s)
+  where
+    go : (t a : Bool) {b : Bool} → not a ≡ b → not (not t || a) ≡ t && b
+    go true a e = e
+    go false a e = refl
+
 pub returns : goal.returns
 unfolding all_below
 returns c =
@@ -27,5 +37,6 @@ returns c =
     let all = Decides-by_and is_ascii_graphic GoodByte (list_all is_ascii_graphic) graphic refl (λ _ _. refl) s in
     let below =
     Decides-below_and (λ i. good_byte (byte i)) (λ i. GoodByte (byte i)) (all_below (λ i. good_byte (byte i))) (λ i. good (byte i)) refl (λ _. refl) (length s) in
-    all_from_yields_List is_ascii_graphic _ _ _ c.all.ensures.ran (YieldsList-from_slice s cc) (λ x b q k. search (rules, tests))
+    ap not (c.any_byte.ensures (λ x. not (is_ascii_graphic x)) (λ x r k. search (rules, tests)))
+    ∙ none_fails is_ascii_graphic s
     ∙ same_from_decides _ _ (λ e k l. All-get_or GoodByte s k 0 l (all.0 e), λ g. all.1 (All-from_get_or GoodByte s 0 g)) below

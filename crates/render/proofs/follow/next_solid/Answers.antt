@@ -1,9 +1,9 @@
+use Rattle.render.specs.Follow.{is_solid}
 use mathlib.Core.Path.{◌≡◌}
 use Rattle.tape.specs.File.{contents}
 use Rattle.tape.specs.Tree.{next_sibling}
 use Rattle.render.proofs.follow.next_solid.Goals.{in_default-via-in-Some+else-is_clear, in_default-via-in_default}
-use Rattle.std.proofs.Common.{rules, of_calls}
-use Rattle.render.proofs.Finds.{lives}
+use Rattle.std.proofs.Common.{rules}
 use Rattle.render.proofs.Follows.{solid_clear, solid-found}
 use Rattle.render.proofs.follow.next_solid.Goals as goal
 
@@ -14,7 +14,4 @@ pub returns-in_default : goal.returns-in_default
 returns-in_default c =
     let next : c.in_default.next ≡ next_sibling (contents c.args.book.now.tape) c.args.c.at =
     elim c.in_default.branch [ in_default-via-in-Some+else-is_clear w ↦ cc | in_default-via-in_default w ↦ cc ] in
-    solid-found _ _ next c.find.ensures
-
-pub find-requires : goal.find-requires
-find-requires c κs within = (lives _ _ _ within.0 within.1.0, (search (rules, of_calls), λ x r q. search rules))
+    solid-found _ _ next (c.find.ensures (is_solid (contents c.args.book.now.tape)) (λ x r q. search rules))
